@@ -1,0 +1,142 @@
+-- What a run of a policy asks of its packet. Each question is determined by the answers so far.
+use Rattle.std.specs.Prelude.{ℕ, zero, suc, Bool, true, false, ◌&&◌, ◌==◌, if◌then◌else◌, List, [], ◌∷◌, ◌++◌, Option, Some, None}
+use Rattle.maple_base.specs.declared.key.Field.{Field}
+use Rattle.maple_base.specs.declared.key.Field.TheVariants.{InPort, DlSrc, DlDst, DlVlan, DlType, NwTos, NwProto, NwSrc, NwDst, TpSrc, TpDst}
+use Rattle.maple_base.specs.declared.key.Key.{Key}
+use Rattle.maple_base.specs.declared.items.Item.{Item}
+use Rattle.maple_base.specs.declared.items.Item.TheVariants.{Read, Test as Tested}
+use Rattle.maple_base.specs.declared.decision.Decision.TheVariants.{Drop as Dropped}
+use Rattle.maple_base.specs.declared.decision.Outcome.{Outcome}
+use Rattle.maple_base.specs.declared.decision.Outcome.TheVariants.{Decided, Spent}
+use Rattle.maple_base.specs.Keys.{field_of, in_domain, has_ports}
+use Rattle.maple_base.specs.Questions.{known, excluded}
+use Rattle.policy_lang.specs.declared.Expr.{Expr}
+use Rattle.policy_lang.specs.declared.Expr.TheVariants.{Number, Is'}
+use Rattle.policy_lang.specs.declared.Head.{Head}
+use Rattle.policy_lang.specs.declared.Head.TheVariants.{Test}
+use Rattle.policy_lang.specs.declared.Statement.TheOpen.{Statement-F, Block-F, Drop as drop, Out as out, If as if_}
+use Rattle.policy_lang.specs.declared.Block.{Block, fold-Block}
+use Rattle.policy_lang.specs.declared.Policy.{Policy}
+use Rattle.policy_lang.specs.Values.{Datum, Numeral, Truth, number_in, truth_in, ports_among, sent_out}
+
+-- the course of a run: it stops with an outcome, or it asks for a field or whether a field has a value, and goes on by the answer
+pub data Course : Type 0 where
+  Stops : Outcome → Course
+  Asks : Field → (ℕ → Course) → Course
+  Tests : Field → ℕ → (Bool → Course) → Course
+
+-- what is asked of a key on the course, with the key's answers
+abbrev pub items_of : Course → Key → List Item
+items_of (Stops o) k = []
+items_of (Asks f next) k = Read f (field_of k f) ∷ items_of (next (field_of k f)) k
+items_of (Tests f v next) k = Tested f v (field_of k f == v) ∷ items_of (next (field_of k f == v)) k
+
+-- the outcome at which a key's course stops
+abbrev pub outcome_at : Course → Key → Outcome
+outcome_at (Stops o) k = o
+outcome_at (Asks f next) k = outcome_at (next (field_of k f)) k
+outcome_at (Tests f v next) k = outcome_at (next (field_of k f == v)) k
+
+-- how a course goes on behind a truth, with the items so far
+abbrev pub Onward : Type 0
+Onward = Bool → List Item → Course
+
+abbrev pub settled_net : Option ℕ → Bool → List Item → Onward → Course
+settled_net (Some v) ruled seen next = next (v == 0x0800) seen
+settled_net None true seen next = next false seen
+settled_net None false seen next = Asks DlType (λ v. next (v == 0x0800) (seen ++ Read DlType v ∷ []))
+
+-- whether the packet has an IP header: settled by what is known of dl_type, which else is read
+abbrev pub ask_net : List Item → Onward → Course
+ask_net seen next = settled_net (known DlType seen) (excluded DlType 0x0800 seen) seen next
+
+abbrev pub settled_ports : Option ℕ → Bool → List Item → Onward → Course
+settled_ports (Some v) ruled seen next = next (has_ports v) seen
+settled_ports None true seen next = next false seen
+settled_ports None false seen next = Asks NwProto (λ v. next (has_ports v) (seen ++ Read NwProto v ∷ []))
+
+abbrev pub no_ports : List Item → Bool
+no_ports seen = excluded NwProto 1 seen && excluded NwProto 6 seen && excluded NwProto 17 seen
+
+abbrev pub ask_proto : Onward → Onward
+ask_proto next true seen = settled_ports (known NwProto seen) (no_ports seen) seen next
+ask_proto next false seen = next false seen
+
+-- whether the packet has ports: where it has an IP header, settled by what is known of nw_proto, which else is read
+abbrev pub ask_ports : List Item → Onward → Course
+ask_ports seen next = ask_net seen (ask_proto next)
+
+-- whether the packet has the header of a field
+abbrev pub ask_header : Field → List Item → Onward → Course
+ask_header NwTos seen next = ask_net seen next
+ask_header NwProto seen next = ask_net seen next
+ask_header NwSrc seen next = ask_net seen next
+ask_header NwDst seen next = ask_net seen next
+ask_header TpSrc seen next = ask_ports seen next
+ask_header TpDst seen next = ask_ports seen next
+ask_header f seen next = next true seen
+
+abbrev pub settled_test : Option ℕ → Bool → Field → ℕ → List Item → Onward → Course
+settled_test (Some w) ruled f v seen next = next (w == v) seen
+settled_test None true f v seen next = next false seen
+settled_test None false f v seen next = Tests f v (λ answer. next answer (seen ++ Tested f v answer ∷ []))
+
+-- behind the header's question: a field of a header that the packet lacks is 0
+abbrev pub ask_value : Field → ℕ → Onward → Onward
+ask_value f v next true seen = settled_test (known f seen) (excluded f v seen) f v seen next
+ask_value f v next false seen = next (0 == v) seen
+
+-- whether a field has a value; one outside the field's domain it never has
+abbrev pub ask_test : Field → ℕ → List Item → Onward → Course
+ask_test f v seen next = if in_domain f v then ask_header f seen (ask_value f v next) else next false seen
+
+-- how a course goes on, with the items so far and the steps that are left
+abbrev pub Going : Type 0
+Going = List Item → ℕ → Course
+
+abbrev pub value_course : Expr → List Item → ℕ → (Datum → Going) → Course
+value_course e seen zero next = Stops Spent
+value_course (Number n) seen (suc left) next = next (Numeral n) seen left
+value_course (Is' f p e) seen (suc left) next =
+    value_course e seen left (λ d seen left. ask_test f (number_in d) seen (λ answer seen. next (Truth answer) seen left))
+
+abbrev pub numbers_course : List Expr → List Item → ℕ → (List ℕ → Going) → Course
+numbers_course [] seen left next = next [] seen left
+numbers_course (e ∷ es) seen left next =
+    value_course e seen left (λ d seen left. numbers_course es seen left (λ ns. next (number_in d ∷ ns)))
+
+-- a part of a policy, ahead of what follows where it decides nothing
+abbrev pub Coursing : Type 0
+Coursing = List Item → ℕ → Going → Course
+
+abbrev pub otherwise_course : Option Coursing → Coursing
+otherwise_course None seen left next = next seen left
+otherwise_course (Some run) seen left next = run seen left next
+
+abbrev pub chosen_course : Bool → Coursing → Option Coursing → Coursing
+chosen_course true first second seen left next = first seen left next
+chosen_course false first second seen left next = otherwise_course second seen left next
+
+abbrev pub head_course : Head → List Item → ℕ → (Datum → Going) → Course
+head_course (Test e) seen left next = value_course e seen left next
+
+abbrev pub course_statement : Statement-F Coursing Coursing → Coursing
+course_statement s seen zero next = Stops Spent
+course_statement drop seen (suc left) next = Stops (Decided Dropped)
+course_statement (out es) seen (suc left) next = numbers_course es seen left (λ ns seen left. Stops (Decided (sent_out (ports_among ns))))
+course_statement (if_ h first second) seen (suc left) next =
+    head_course h seen left (λ d seen left. chosen_course (truth_in d) first second seen left next)
+
+abbrev pub courses : List Coursing → Coursing
+courses [] seen left next = next seen left
+courses (s ∷ ss) seen left next = s seen left (λ seen left. courses ss seen left next)
+
+abbrev pub course_block : Block-F Coursing Coursing → Coursing
+course_block b = courses b.list.items
+
+abbrev pub block_course : Block → Coursing
+block_course = fold-Block Coursing Coursing course_statement course_block
+
+-- the course of a policy's runs, each of at most so many steps
+abbrev pub course_of : Policy → ℕ → Course
+course_of policy budget = block_course policy.body [] budget (λ seen left. Stops (Decided Dropped))

@@ -1,0 +1,4 @@
+pub mod Blocks
+pub mod Courses
+pub mod Evaluation
+pub mod Values
