@@ -1,0 +1,15 @@
+use Rattle.std.proofs.Common.{◌≡◌, ◌++◌, ◌-◌, ◌≤◌, length}
+use Rattle.std.specs.Prelude.{vec_len}
+use Rattle.std.specs.Io.KnownBytes.{Consumes}
+use Rattle.maple.proofs.input.read_all.Given as goal
+
+-- the bytes so far came off the front
+abbrev pub invariant-reading : goal.invariant-reading
+invariant-reading g l = record {
+  consumed : Consumes (g.I.Source.left l.fn.input) (g.I.Source.left l.input) l.all.items;
+  count : g.I.Source.failed l.fn.input ≤ g.I.Source.failed l.input;
+  piece : length l.piece ≡ 4096;
+}
+
+abbrev pub decreases-reading : goal.decreases-reading
+decreases-reading g l = 67108865 - vec_len l.all

@@ -1,0 +1,79 @@
+-- Which status a run of the program is due, and what it writes.
+use Rattle.std.specs.Prelude.{◌≡◌, ◌⊎◌, ℕ, ◌<◌, ◌≤◌, true, false, List, [], ◌∷◌, ◌++◌, length, IsTrue, codes}
+use Rattle.policy_lang.specs.declared.Policy.{Policy}
+use Rattle.maple.specs.declared.status.Status.{Status}
+use Rattle.maple.specs.declared.status.Status.TheVariants.{Done, Usage, Policy as PolicyRefused, Script, ReadFault, WriteFault, NoMemory, TooLong}
+use Rattle.maple.specs.Fronts.{IsFront}
+use Rattle.maple.specs.Lines.{policy_part, script_lines}
+use Rattle.maple.specs.PolicyText.{IsTextOf}
+use Rattle.maple.specs.PacketLine.{packets_in, all_packets}
+use Rattle.maple.specs.Report.{report, text_of}
+
+-- the words are the one word `sim`
+abbrev pub AreSim : List (List ℕ) → Type 0
+AreSim words = words ≡ codes "sim" ∷ []
+
+-- the input has at most 67,108,864 bytes
+abbrev pub IsFit : List ℕ → Type 0
+IsFit input = length input ≤ 67108864
+
+-- the input begins with the text of this policy
+abbrev pub HasPolicy : Policy → List ℕ → Type 0
+HasPolicy policy input = IsTextOf policy (policy_part input)
+
+-- the line that each status writes last
+abbrev pub last_line : Status → List ℕ
+last_line Done = codes "end\n"
+last_line Usage = codes "refused usage\n"
+last_line PolicyRefused = codes "refused policy\n"
+last_line Script = codes "refused script\n"
+last_line ReadFault = codes "refused read\n"
+last_line WriteFault = []
+last_line NoMemory = []
+last_line TooLong = codes "refused input\n"
+
+-- each line of the script is a packet line
+abbrev pub IsScript : List ℕ → Type 0
+IsScript input = IsTrue (all_packets (script_lines input))
+
+-- some line of the script is no packet line
+abbrev pub IsNoScript : List ℕ → Type 0
+IsNoScript input = all_packets (script_lines input) ≡ false
+
+-- the report of the packet lines ahead of the first line that is none
+abbrev pub report_text : Policy → List ℕ → List ℕ
+report_text policy input = text_of (report policy [] (packets_in (script_lines input)))
+
+-- the status that these words and this input are due where no device fails and memory is left: words first, then length, policy and script
+abbrev pub IsDue : Status → List (List ℕ) → List ℕ → Type 0
+IsDue Usage words input = ¬ (AreSim words)
+IsDue TooLong words input = AreSim words × (67108864 < length input)
+IsDue PolicyRefused words input = AreSim words × IsFit input × ((policy : Policy) → ¬ (HasPolicy policy input))
+IsDue Script words input = AreSim words × IsFit input × ((policy : Policy) × HasPolicy policy input) × IsNoScript input
+IsDue Done words input = AreSim words × IsFit input × ((policy : Policy) × HasPolicy policy input) × IsScript input
+IsDue ReadFault words input = ⊥
+IsDue WriteFault words input = ⊥
+IsDue NoMemory words input = ⊥
+
+-- the status, or a fault of a device or want of memory that came before it
+abbrev pub IsOrFails : Status → Status → Type 0
+IsOrFails status result = (result ≡ status) ⊎ ((result ≡ ReadFault) ⊎ ((result ≡ WriteFault) ⊎ (result ≡ NoMemory)))
+
+-- the same, where nothing is read
+abbrev pub IsOrUnwritten : Status → Status → Type 0
+IsOrUnwritten status result = (result ≡ status) ⊎ ((result ≡ WriteFault) ⊎ (result ≡ NoMemory))
+
+-- what is written by a run that ends with this status, where `risen` says that a read failed
+abbrev pub IsText : Type 0 → Status → List (List ℕ) → List ℕ → List ℕ → Type 0
+IsText risen Usage words input text = IsDue Usage words input × (text ≡ last_line Usage)
+IsText risen TooLong words input text = IsDue TooLong words input × (text ≡ last_line TooLong)
+IsText risen PolicyRefused words input text = IsDue PolicyRefused words input × (text ≡ last_line PolicyRefused)
+IsText risen Script words input text = IsDue Script words input × ((policy : Policy) × HasPolicy policy input × (text ≡ report_text policy input ++ last_line Script))
+IsText risen Done words input text = IsDue Done words input × ((policy : Policy) × HasPolicy policy input × (text ≡ report_text policy input ++ last_line Done))
+IsText risen ReadFault words input text = AreSim words × risen × (text ≡ last_line ReadFault)
+IsText risen WriteFault words input text = text ≡ []
+IsText risen NoMemory words input text = text ≡ []
+
+-- a front of what some run on this input writes
+abbrev pub IsFrontOfText : Type 0 → List (List ℕ) → List ℕ → List ℕ → Type 0
+IsFrontOfText risen words input front = (status : Status) × (text : List ℕ) × IsText risen status words input text × IsFront front text

@@ -1,0 +1,9 @@
+pub mod Due
+pub mod Fronts
+pub mod Lines
+pub mod PacketLine
+pub mod Parsing
+pub mod PolicyText
+pub mod Report
+pub mod Rules
+pub mod Tokens

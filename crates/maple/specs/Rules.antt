@@ -1,0 +1,111 @@
+-- The rules of a tree of runs.
+use Rattle.std.specs.Prelude.{◌≡◌, ℕ, zero, suc, ◌+◌, ◌⊎◌, max, List, [], ◌∷◌, ◌++◌, Contains, length}
+use Rattle.maple_base.specs.declared.key.Field.{Field}
+use Rattle.maple_base.specs.declared.key.Match.{Match}
+use Rattle.maple_base.specs.declared.decision.Rule.{Rule}
+use Rattle.maple_base.specs.declared.decision.Decision.{Decision}
+use Rattle.maple_base.specs.declared.decision.Decision.TheVariants.{Drop, Out, Flood, Path}
+use Rattle.maple_base.specs.declared.cells.Place.{Place}
+use Rattle.maple_base.specs.Decisions.{actions_at}
+use Rattle.maple_base.specs.Keys.{fix, anything}
+use Rattle.trace_tree.specs.declared.node.Leaf.{Leaf}
+use Rattle.trace_tree.specs.Shape.{Shape, Branches, Empty, Ends, Reads, Tests, NoBranch, Branch}
+
+-- the levels of a false side and the barrier behind them, which stands only behind a rule
+abbrev pub with_barrier : ℕ → ℕ
+with_barrier zero = 0
+with_barrier (suc n) = suc n + 1
+
+abbrev mutual
+  -- how many levels a tree has: none where it is empty, one for a run, the greatest of the branches, and those of a test's false side, its barrier and its true side
+  pub levels_of : Shape → ℕ
+  levels_of Empty = 0
+  levels_of (Ends l) = 1
+  levels_of (Reads f bs) = most_levels bs
+  levels_of (Tests f v n y) = with_barrier (levels_of n) + levels_of y
+
+  pub most_levels : Branches → ℕ
+  most_levels NoBranch = 0
+  most_levels (Branch v t bs) = max (levels_of t) (most_levels bs)
+
+abbrev pub first_switch : List Place → ℕ
+first_switch [] = 0
+first_switch (p ∷ ps) = p.switch
+
+-- the actions of a decision's rule, for a path those at the switch of its first hop
+abbrev pub fact_actions : Decision → List ℕ
+fact_actions Drop = actions_at Drop 0
+fact_actions (Out ps) = actions_at (Out ps) 0
+fact_actions Flood = actions_at Flood 0
+fact_actions (Path hops) = actions_at (Path hops) (first_switch hops)
+
+-- the rule of a run, at the first level above the base
+abbrev pub fact : Leaf → Match → ℕ → Rule
+fact l m base = record { of = m; priority = base + 1; actions = fact_actions l.decision; cookie = 0; idle = 0 }
+
+-- a rule that sends to the controller (OpenFlow Switch Specification 1.0.0, 5.2.1, OFPP_CONTROLLER)
+abbrev pub barrier : Match → ℕ → Rule
+barrier m priority = record { of = m; priority = priority; actions = 0xfffd ∷ []; cookie = 0; idle = 0 }
+
+abbrev mutual
+  -- the rules of the runs: each fixes the reads and the true tests of its path
+  pub facts_of : Shape → Match → ℕ → List Rule
+  facts_of Empty m base = []
+  facts_of (Ends l) m base = fact l m base ∷ []
+  facts_of (Reads f bs) m base = facts_in bs f m base
+  facts_of (Tests f v n y) m base = facts_of n m base ++ facts_of y (fix f v m) (base + with_barrier (levels_of n))
+
+  pub facts_in : Branches → Field → Match → ℕ → List Rule
+  facts_in NoBranch f m base = []
+  facts_in (Branch v t bs) f m base = facts_of t (fix f v m) base ++ facts_in bs f m base
+
+-- a barrier behind so many levels
+abbrev pub barrier_behind : ℕ → Match → ℕ → List Rule
+barrier_behind zero m base = []
+barrier_behind (suc n) m base = barrier m (base + with_barrier (suc n)) ∷ []
+
+abbrev mutual
+  -- the barriers of the tests: each fixes the tested value, behind a false side that has a rule
+  pub barriers_of : Shape → Match → ℕ → List Rule
+  barriers_of Empty m base = []
+  barriers_of (Ends l) m base = []
+  barriers_of (Reads f bs) m base = barriers_in bs f m base
+  barriers_of (Tests f v n y) m base =
+      barriers_of n m base ++ (barrier_behind (levels_of n) (fix f v m) base ++ barriers_of y (fix f v m) (base + with_barrier (levels_of n)))
+
+  pub barriers_in : Branches → Field → Match → ℕ → List Rule
+  barriers_in NoBranch f m base = []
+  barriers_in (Branch v t bs) f m base = barriers_of t (fix f v m) base ++ barriers_in bs f m base
+
+-- the rules of a part of a tree
+abbrev pub rules_within : Shape → Match → ℕ → List Rule
+rules_within t m base = facts_of t m base ++ barriers_of t m base
+
+-- the rules of a tree
+abbrev pub rules_of : Shape → List Rule
+rules_of t = rules_within t anything 0
+
+abbrev pub rules_needed : Shape → ℕ
+rules_needed t = length (rules_of t)
+
+-- at one test whose false side has a rule: a rule of the false side and the barrier, or the barrier and a rule of the true side
+abbrev pub PartedBy : Field → ℕ → Shape → Shape → Match → ℕ → Rule → Rule → Type 0
+PartedBy f v n y m base r q =
+    (Contains (rules_within n m base) r × Contains (barrier_behind (levels_of n) (fix f v m) base) q)
+    ⊎ (Contains (barrier_behind (levels_of n) (fix f v m) base) r × Contains (rules_within y (fix f v m) (base + with_barrier (levels_of n))) q)
+
+abbrev mutual
+  pub StandsBelow : Shape → Match → ℕ → Rule → Rule → Type 0
+  StandsBelow Empty m base r q = ⊥
+  StandsBelow (Ends l) m base r q = ⊥
+  StandsBelow (Reads f bs) m base r q = StandsBelowIn bs f m base r q
+  StandsBelow (Tests f v n y) m base r q =
+      PartedBy f v n y m base r q ⊎ (StandsBelow n m base r q ⊎ StandsBelow y (fix f v m) (base + with_barrier (levels_of n)) r q)
+
+  pub StandsBelowIn : Branches → Field → Match → ℕ → Rule → Rule → Type 0
+  StandsBelowIn NoBranch f m base r q = ⊥
+  StandsBelowIn (Branch v t bs) f m base r q = StandsBelow t (fix f v m) base r q ⊎ StandsBelowIn bs f m base r q
+
+-- the first rule of a tree must stand below the second, so that no switch chooses it in the second's place
+abbrev pub MustStandBelow : Shape → Rule → Rule → Type 0
+MustStandBelow t r q = StandsBelow t anything 0 r q

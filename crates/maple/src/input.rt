@@ -1,0 +1,45 @@
+// How an input is read to its end.
+ghost use Rattle.std.specs.Prelude.{◌≡◌, ◌<◌, ◌≤◌, length, IfOk, OnOk, IfSome};
+ghost use Rattle.std.specs.Io.KnownBytes.{IsAtEnd};
+ghost use Rattle.maple_io.specs.Counts.{HasRisen};
+
+use maple_io::{Got, Source};
+use std::alloc::Global;
+
+/// The most bytes that an input may have.
+pub const LIMIT: usize = 67_108_864;
+
+/// Why an input wasn't read to its end.
+#[derive(Clone, Copy, Debug, PartialEq, Eq)]
+pub enum ReadStop {
+    /// A read failed.
+    Failed,
+    /// More than `LIMIT` bytes came.
+    TooLong,
+    /// Memory ran out.
+    NoMemory,
+}
+
+/// All bytes that are left of a source.
+pub fn read_all<I: Source>(alloc: Global, input: &mut I) -> Result<Vec<u8>, ReadStop>
+    ensures whole { IfOk result (λ all. IfSome (I.left input.old) (λ bytes. all.items ≡ bytes)) }
+    ensures end { OnOk result (IfSome (I.left input.old) (λ _. IsAtEnd (I.left input.new))) }
+    ensures fit { IfOk result (λ all. length all.items ≤ 67108864) }
+    ensures long { result ≡ Err ReadStop.TooLong → IfSome (I.left input.old) (λ bytes. 67108864 < length bytes) }
+    ensures cause { result ≡ Err ReadStop.Failed → HasRisen (I.failed input.old) (I.failed input.new) }
+{
+    let mut all = Vec::new(alloc);
+    let mut piece = [0u8; 4096];
+    'reading: while all.len() <= LIMIT {
+        match input.read(&mut piece) {
+            Got::Bytes(count) => {
+                if all.extend_from_slice(&piece[..count]).is_err() {
+                    return Err(ReadStop::NoMemory);
+                }
+            }
+            Got::End => return Ok(all),
+            Got::Failed => return Err(ReadStop::Failed),
+        }
+    }
+    Err(ReadStop::TooLong)
+}

@@ -1,0 +1,14 @@
+//! Maple, an SDN controller for OpenFlow 1.0 switches.
+#![tactic(auto)]
+
+pub mod input;
+pub mod lines;
+pub mod output;
+pub mod policy_text;
+pub mod report;
+pub mod status;
+pub mod tokens;
+
+fn main(rt: HostRuntime) {
+    let _ = rt;
+}

@@ -1,0 +1,34 @@
+// How bytes are written.
+ghost use Rattle.std.specs.Prelude.{◌≡◌, ℕ, ◌≤◌, List, OnOk, OnErr};
+ghost use Rattle.std.specs.Io.KnownBytes.{Appends};
+ghost use Rattle.maple_io.specs.Counts.{HasRisen};
+ghost use Rattle.maple.specs.Fronts.{IsFront};
+
+use maple_io::{Put, Sink};
+
+/// Why bytes weren't written.
+#[derive(Clone, Copy, Debug, PartialEq, Eq)]
+pub enum PutStop {
+    /// A write failed.
+    Failed,
+    /// Memory ran out.
+    NoMemory,
+}
+
+/// Writes all of these bytes. After an error a front of them was written.
+pub fn put_all<O: Sink>(output: &mut O, bytes: &[u8]) -> Result<(), PutStop>
+    ensures ok { OnOk result (Appends (O.taken output.old) (O.taken output.new) bytes.now) }
+    ensures front { OnErr result ((front : List ℕ) × IsFront front bytes.now × Appends (O.taken output.old) (O.taken output.new) front) }
+    ensures cause { result ≡ Err PutStop.Failed → HasRisen (O.failed output.old) (O.failed output.new) }
+    ensures count { O.failed output.old ≤ O.failed output.new }
+{
+    let mut at = 0;
+    while at < bytes.len() {
+        match output.write(&bytes[at..]) {
+            Put::Took(count) => at += count,
+            Put::Failed => return Err(PutStop::Failed),
+            Put::NoMemory => return Err(PutStop::NoMemory),
+        }
+    }
+    Ok(())
+}

@@ -1,0 +1,5 @@
+pub mod Adapters
+pub mod Counts
+pub mod Memory
+pub mod Reads
+pub mod Writes

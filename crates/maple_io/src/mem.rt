@@ -1,0 +1,187 @@
+// A source and a sink over memory, whose failures are chosen ahead.
+ghost use Rattle.std.specs.Prelude.{◌≡◌, ◌<◌, ◌≤◌, ◌↔◌, [], IsTrue, Some, length, min, take, drop, ◌++◌, ◌+◌, ◌-◌};
+ghost use Rattle.std.specs.List.{Contains};
+ghost use Rattle.maple_io.specs.Counts.{HasRisen, next_count};
+ghost use Rattle.maple_io.specs.Reads.{FillsUp, GivesWithin, ReadsBytes, failed_reads};
+ghost use Rattle.maple_io.specs.Writes.{TakesAll, TakesWithin, WritesBytes, failed_writes};
+
+use crate::{Got, Put, Sink, Source};
+use std::marker::Model;
+
+/// A source over bytes in memory.
+#[derive(Drop)]
+pub struct MemSource {
+    content: Vec<u8>,
+    at: usize,
+    fails: Vec<u64>,
+    calls: u64,
+    faults: u64,
+}
+
+impl Model for MemSource {
+    ghost use Rattle.std.specs.Prelude.{◌≤◌, drop, length};
+    ghost use Rattle.maple_io.specs.Memory.{Feed};
+
+    ghost Value = { Feed };
+
+    ghost view = { λ a. record { left = drop a.at a.content.items; fails = a.fails.items; calls = a.calls; failed = a.faults } };
+
+    ghost invariant = { λ a. a.at ≤ length a.content.items };
+}
+
+impl MemSource {
+    /// A source of `content`, whose reads with the numbers in `fails` fail. The first read has the
+    /// number 1, and each from the 2^64 - 1st on has the number 2^64 - 1.
+    pub fn new(content: Vec<u8>, fails: Vec<u64>) -> MemSource
+        ensures left { result.left ≡ content.items }
+        ensures fails { result.fails ≡ fails.items }
+        ensures calls { result.calls ≡ 0 }
+        ensures failed { result.failed ≡ 0 }
+    {
+        MemSource {
+            content,
+            at: 0,
+            fails,
+            calls: 0,
+            faults: 0,
+        }
+    }
+}
+
+impl Source for MemSource {
+    ghost left = { λ s. Some s.left };
+
+    ghost failed = { λ s. s.failed };
+
+    fn read(&mut self, into: &mut [u8]) -> Got
+        requires { 0 < length into.old }
+        ensures room { GivesWithin result (length into.old) }
+        ensures bytes { ReadsBytes (Some self.old.left) (Some self.new.left) result into.new }
+        ensures cause { result ≡ Got.Failed → HasRisen self.old.failed self.new.failed }
+        ensures count { self.old.failed ≤ self.new.failed }
+
+        // The read fails where its number is listed, and else gives all that fits.
+        ensures listed { (result ≡ Got.Failed) ↔ Contains self.old.fails self.new.calls }
+        ensures fills { FillsUp result self.old.left (length into.old) }
+
+        // What is counted, and what stays.
+        ensures calls { self.new.calls ≡ next_count self.old.calls }
+        ensures failed { self.new.failed ≡ failed_reads self.old.failed result }
+        ensures fails { self.new.fails ≡ self.old.fails }
+    {
+        self.calls = self.calls.saturating_add(1);
+        if is_listed(&self.fails, self.calls) {
+            self.faults = self.faults.saturating_add(1);
+            return Got::Failed;
+        }
+        let given = copy_from(&self.content, self.at, into);
+        if given == 0 {
+            return Got::End;
+        }
+        self.at += given;
+        Got::Bytes(given)
+    }
+
+    fn faults(&self) -> u64 {
+        self.faults
+    }
+}
+
+/// A sink over bytes in memory.
+#[derive(Drop)]
+pub struct MemSink {
+    bytes: Vec<u8>,
+    fails: Vec<u64>,
+    calls: u64,
+    faults: u64,
+}
+
+impl Model for MemSink {
+    ghost use Rattle.maple_io.specs.Memory.{Store};
+
+    ghost Value = { Store };
+
+    ghost view = { λ a. record { taken = a.bytes.items; fails = a.fails.items; calls = a.calls; failed = a.faults } };
+}
+
+impl MemSink {
+    /// A sink that took nothing, whose writes with the numbers in `fails` fail. The first write has
+    /// the number 1, and each from the 2^64 - 1st on has the number 2^64 - 1.
+    pub fn new(fails: Vec<u64>) -> MemSink
+        ensures taken { result.taken ≡ [] }
+        ensures fails { result.fails ≡ fails.items }
+        ensures calls { result.calls ≡ 0 }
+        ensures failed { result.failed ≡ 0 }
+    {
+        MemSink {
+            bytes: Vec::new(*fails.allocator()),
+            fails,
+            calls: 0,
+            faults: 0,
+        }
+    }
+
+    /// The bytes that it took, in order.
+    pub fn bytes(&self) -> &[u8]
+        ensures { result.now ≡ self.now.taken }
+    {
+        &self.bytes
+    }
+}
+
+impl Sink for MemSink {
+    ghost taken = { λ s. Some s.taken };
+
+    ghost failed = { λ s. s.failed };
+
+    fn write(&mut self, piece: &[u8]) -> Put
+        requires { 0 < length piece.now }
+        ensures room { TakesWithin result (length piece.now) }
+        ensures bytes { WritesBytes (Some self.old.taken) (Some self.new.taken) result piece.now }
+        ensures cause { result ≡ Put.Failed → HasRisen self.old.failed self.new.failed }
+        ensures count { self.old.failed ≤ self.new.failed }
+        ensures spared { result ≡ Put.NoMemory → self.new.failed ≡ self.old.failed }
+
+        // The write fails where its number is listed, and else takes all, or memory runs out.
+        ensures listed { (result ≡ Put.Failed) ↔ Contains self.old.fails self.new.calls }
+        ensures all { TakesAll result (length piece.now) }
+
+        // What is counted, and what stays.
+        ensures calls { self.new.calls ≡ next_count self.old.calls }
+        ensures failed { self.new.failed ≡ failed_writes self.old.failed result }
+        ensures fails { self.new.fails ≡ self.old.fails }
+    {
+        self.calls = self.calls.saturating_add(1);
+        if is_listed(&self.fails, self.calls) {
+            self.faults = self.faults.saturating_add(1);
+            return Put::Failed;
+        }
+        match self.bytes.extend_from_slice(piece) {
+            Ok(()) => Put::Took(piece.len()),
+            Err(_) => Put::NoMemory,
+        }
+    }
+
+    fn faults(&self) -> u64 {
+        self.faults
+    }
+}
+
+// Whether the numbers have this one.
+fn is_listed(numbers: &[u64], number: u64) -> bool
+    ensures { IsTrue result ↔ Contains numbers.now number }
+{
+    numbers.contains(&number)
+}
+
+// Copies what fits of the bytes from `at` on, and returns how many it copied.
+fn copy_from(content: &[u8], at: usize, into: &mut [u8]) -> usize
+    requires { at ≤ length content.now }
+    ensures count { result ≡ min (length content.now - at) (length into.old) }
+    ensures bytes { drop at content.now ≡ take result into.new ++ drop (at + result) content.now }
+{
+    let rest = &content[at..];
+    let count = rest.len().min(into.len());
+    into[..count].copy_from_slice(&rest[..count]);
+    count
+}

@@ -1,0 +1,38 @@
+// What takes bytes.
+ghost use Rattle.std.specs.Prelude.{◌≡◌, ℕ, ◌<◌, ◌≤◌, List, length};
+ghost use Rattle.std.specs.declared.option.Option.{Option};
+ghost use Rattle.maple_io.specs.Counts.{HasRisen};
+ghost use Rattle.maple_io.specs.Writes.{TakesWithin, WritesBytes};
+
+/// What became of a piece.
+#[derive(Clone, Copy, Debug, PartialEq, Eq)]
+pub enum Put {
+    /// So many bytes of its front were taken: one at least.
+    Took(usize),
+    /// The write failed, or would have taken none. No byte was taken.
+    Failed,
+    /// Memory ran out. No byte was taken, and no fault is counted.
+    NoMemory,
+}
+
+/// What takes bytes.
+pub trait Sink {
+    /// The bytes that were taken, where the sink tells them.
+    ghost taken: { Self → Option (List ℕ) };
+
+    /// How many writes failed. It stands still at 2^64 - 1.
+    ghost failed: { Self → ℕ };
+
+    /// Writes a piece that is not empty, or its front.
+    fn write(&mut self, piece: &[u8]) -> Put
+        requires { 0 < length piece.now }
+        ensures room { TakesWithin result (length piece.now) }
+        ensures bytes { WritesBytes (taken self.old) (taken self.new) result piece.now }
+        ensures cause { result ≡ Put.Failed → HasRisen (failed self.old) (failed self.new) }
+        ensures count { failed self.old ≤ failed self.new }
+        ensures spared { result ≡ Put.NoMemory → failed self.new ≡ failed self.old };
+
+    /// How many writes failed, up to 2^64 - 1.
+    fn faults(&self) -> u64
+        ensures { result ≡ failed self.now };
+}

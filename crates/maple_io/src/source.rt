@@ -1,0 +1,37 @@
+// What gives bytes.
+ghost use Rattle.std.specs.Prelude.{◌≡◌, ℕ, ◌<◌, ◌≤◌, List, length};
+ghost use Rattle.std.specs.declared.option.Option.{Option};
+ghost use Rattle.maple_io.specs.Counts.{HasRisen};
+ghost use Rattle.maple_io.specs.Reads.{GivesWithin, ReadsBytes};
+
+/// What a read found.
+#[derive(Clone, Copy, Debug, PartialEq, Eq)]
+pub enum Got {
+    /// So many bytes, which stand at the front of the slice: one at least.
+    Bytes(usize),
+    /// No byte is left.
+    End,
+    /// The read failed. No byte was taken, and what the slice holds is not said.
+    Failed,
+}
+
+/// What gives bytes.
+pub trait Source {
+    /// The bytes that are left, where the source tells them.
+    ghost left: { Self → Option (List ℕ) };
+
+    /// How many reads failed. It stands still at 2^64 - 1.
+    ghost failed: { Self → ℕ };
+
+    /// Reads into a slice that is not empty.
+    fn read(&mut self, into: &mut [u8]) -> Got
+        requires { 0 < length into.old }
+        ensures room { GivesWithin result (length into.old) }
+        ensures bytes { ReadsBytes (left self.old) (left self.new) result into.new }
+        ensures cause { result ≡ Got.Failed → HasRisen (failed self.old) (failed self.new) }
+        ensures count { failed self.old ≤ failed self.new };
+
+    /// How many reads failed, up to 2^64 - 1.
+    fn faults(&self) -> u64
+        ensures { result ≡ failed self.now };
+}
