@@ -1,5 +1,6 @@
 pub mod FirstLines
 pub mod FirstWords
+pub mod Grammar
 pub mod Known
 pub mod Marks
 pub mod Pieces

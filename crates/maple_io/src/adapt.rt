@@ -8,7 +8,8 @@ ghost use Rattle.maple_io.specs.Writes.{TakesWithin, WritesBytes, failed_writes}
 use crate::{Got, Put, Sink, Source};
 use std::io::{Read, Write};
 
-/// A source over a reader. Each call is one `read` of the reader, and is not tried again.
+/// A source over a reader. A read is one `read` of the reader, with no second try: an error of any
+/// kind, `Interrupted` too, is `Got::Failed`.
 #[derive(Drop)]
 pub struct ReadSource<R> {
     reader: R,
@@ -56,8 +57,8 @@ impl<R: Read> Source for ReadSource<R> {
     }
 }
 
-/// A sink over a writer. Each call is one `write` of the writer, and is not tried again; nothing is
-/// flushed.
+/// A sink over a writer. A write is one `write` of the writer, with no second try and no flush: an
+/// error of any kind, and a writer that takes 0 bytes, are `Put::Failed`.
 #[derive(Drop)]
 pub struct WriteSink<W> {
     writer: W,
@@ -88,7 +89,7 @@ impl<W: Write> Sink for WriteSink<W> {
         ensures count { write_faults self.old ≤ write_faults self.new }
         ensures spared { result ≡ Put.NoMemory → write_faults self.new ≡ write_faults self.old }
 
-        // Only a failure is counted, and it counts as one. Want of memory is the writer's to report.
+        // Only a failure is counted, and it counts as one. A writer that lacks memory failed too.
         ensures faults { write_faults self.new ≡ failed_writes (write_faults self.old) result }
         ensures memory { result ≢ Put.NoMemory }
     {

@@ -8,7 +8,8 @@ ghost use Rattle.maple_io.specs.Writes.{TakesAll, TakesWithin, WritesBytes, fail
 use crate::{Got, Put, Sink, Source};
 use std::marker::Model;
 
-/// A source over bytes in memory.
+/// A source over bytes in memory, whose failures are chosen ahead: a read fails exactly where its
+/// number is listed, and else gives as many bytes as are left and fit.
 #[derive(Drop)]
 pub struct MemSource {
     content: Vec<u8>,
@@ -87,7 +88,8 @@ impl Source for MemSource {
     }
 }
 
-/// A sink over bytes in memory.
+/// A sink over bytes in memory, whose failures are chosen ahead: a write fails exactly where its
+/// number is listed, and else takes the whole piece, unless memory runs out.
 #[derive(Drop)]
 pub struct MemSink {
     bytes: Vec<u8>,

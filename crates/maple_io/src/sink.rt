@@ -17,13 +17,15 @@ pub enum Put {
 
 /// What takes bytes.
 pub trait Sink {
-    /// The bytes that were taken, where the sink tells them.
+    /// The bytes that were taken, in order, where the sink tells them. `None` claims nothing.
     ghost taken: { Self → Option (List ℕ) };
 
-    /// How many writes failed. It stands still at 2^64 - 1.
+    /// How many writes failed. At 2^64 - 1 it stands still, and a failure then counts as a rise.
     ghost failed: { Self → ℕ };
 
-    /// Writes a piece that is not empty, or its front.
+    /// Writes a piece that is not empty, once. `Put::Took(n)` says that its first n bytes were taken,
+    /// with n from 1 to the piece's length; `Put::Failed` that none was and that `faults` rose;
+    /// `Put::NoMemory` that none was and that `faults` stayed.
     fn write(&mut self, piece: &[u8]) -> Put
         requires { 0 < length piece.now }
         ensures room { TakesWithin result (length piece.now) }

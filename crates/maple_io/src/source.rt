@@ -17,13 +17,15 @@ pub enum Got {
 
 /// What gives bytes.
 pub trait Source {
-    /// The bytes that are left, where the source tells them.
+    /// The bytes that are left, in order, where the source tells them. `None` claims nothing.
     ghost left: { Self → Option (List ℕ) };
 
-    /// How many reads failed. It stands still at 2^64 - 1.
+    /// How many reads failed. At 2^64 - 1 it stands still, and a failure then counts as a rise.
     ghost failed: { Self → ℕ };
 
-    /// Reads into a slice that is not empty.
+    /// Reads once into a slice that is not empty. `Got::Bytes(n)` says that its first n bytes are the
+    /// next n of the source, with n from 1 to the slice's length; `Got::End` that none is left;
+    /// `Got::Failed` that none was taken and that `faults` rose. A failed read may be tried again.
     fn read(&mut self, into: &mut [u8]) -> Got
         requires { 0 < length into.old }
         ensures room { GivesWithin result (length into.old) }
