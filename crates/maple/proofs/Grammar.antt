@@ -1,10 +1,11 @@
 -- What is read of a policy's words and signs is what they spell, and nothing that they spell is refused.
-use Rattle.std.proofs.Common.{◌≡◌, ◌≤◌, ℕ, Bool, true, false, cond, eqb, List, [], ◌∷◌, ◌++◌, length, Option, Some, None, refl, sym, ap, ◌∙◌, subst, arith, append_assoc, rules}
+use Rattle.std.proofs.Common.{◌≡◌, ◌≤◌, ℕ, Bool, true, false, cond, eqb, List, [], ◌∷◌, ◌++◌, length, Option, Some, None, refl, sym, ap, ◌∙◌, subst, ⊎_elim, append_assoc}
 use Rattle.std.specs.Prelude.{IsTrue, codes}
 use Rattle.std.specs.Option.{option_map, option_and_then}
 use Rattle.std.specs.List.{list_all}
 use Rattle.std.specs.Str.{bytes_eq}
 use Rattle.std.proofs.lemmas.Slice.Eq.{bytes_eq-Decides}
+use Rattle.std.proofs.lemmas.Bool.{cases_Bool}
 use Rattle.std.proofs.lemmas.Bool.Decides.{Decides-eqb}
 use Rattle.maple_base.specs.Numbers.{number_of}
 use Rattle.policy_lang.specs.declared.Expr.TheVariants.{Number}
@@ -60,6 +61,10 @@ port_Some : (o : Option ℕ) (q : Place) → option_map BehindPort o ≡ Some q 
 port_Some None q e = absurd (cc)
 port_Some (Some n) q e = (n, refl, cc)
 
+number_Some : (l : Lexeme) (n : ℕ) → number_in l ≡ Some n → (w : List ℕ) × (l ≡ Word w) × (number_of w ≡ Some n)
+number_Some (Word w) n e = (w, refl, e)
+number_Some (Sign c) n e = absurd (cc)
+
 leads_Some : (b : Bool) (p q : Place) → cond b (Some p) None ≡ Some q → (b ≡ true) × (p ≡ q)
 leads_Some true p q e = (refl, cc)
 leads_Some false p q e = absurd (cc)
@@ -73,15 +78,123 @@ sign_is sign (Word w) e = absurd (cc)
 sign_is sign (Sign c) e = ap Sign ((Decides-eqb c sign).0 e)
 
 -- statements and the closing brace
-abbrev Closes : List Statement → List Lexeme → Type 0
-Closes ss ls = (body : List Lexeme) × SpellsAll ss body × (ls ≡ body ++ Sign 125 ∷ [])
+record Closes (ss : List Statement) (ls : List Lexeme) : Type 0 where
+  body : List Lexeme
+  spelled : SpellsAll ss body
+  whole : ls ≡ body ++ Sign 125 ∷ []
 
 -- what stands behind a place where these statements are read
 abbrev From : Place → List Statement → List Lexeme → Type 0
 From Start ss ls = (rest : List Lexeme) × (ls ≡ Word (codes "policy") ∷ Sign 123 ∷ rest) × Closes ss rest
 From Opening ss ls = (rest : List Lexeme) × (ls ≡ Sign 123 ∷ rest) × Closes ss rest
 From Ahead ss ls = Closes ss ls
-From BehindDrop ss ls = (rs : List Statement) × (rest : List Lexeme) × (ss ≡ Drop ∷ rs) × (ls ≡ Sign 59 ∷ rest) × Closes rs rest
-From BehindOut ss ls = (w : List ℕ) × (n : ℕ) × (rs : List Statement) × (rest : List Lexeme) × (number_of w ≡ Some n) × (ss ≡ Out (Number n ∷ []) ∷ rs) × (ls ≡ Word w ∷ Sign 59 ∷ rest) × Closes rs rest
-From (BehindPort n) ss ls = (rs : List Statement) × (rest : List Lexeme) × (ss ≡ Out (Number n ∷ []) ∷ rs) × (ls ≡ Sign 59 ∷ rest) × Closes rs rest
+From BehindDrop ss ls = (rest : List Lexeme) × (ls ≡ Sign 59 ∷ rest) × ((rs : List Statement) × (ss ≡ Drop ∷ rs) × Closes rs rest)
+From BehindOut ss ls = (w : List ℕ) × (n : ℕ) × (rest : List Lexeme) × (number_of w ≡ Some n) × (ls ≡ Word w ∷ Sign 59 ∷ rest) × ((rs : List Statement) × (ss ≡ Out (Number n ∷ []) ∷ rs) × Closes rs rest)
+From (BehindPort n) ss ls = (rest : List Lexeme) × (ls ≡ Sign 59 ∷ rest) × ((rs : List Statement) × (ss ≡ Out (Number n ∷ []) ∷ rs) × Closes rs rest)
 From Closed ss ls = (ss ≡ []) × (ls ≡ [])
+
+closes_as : (ss rs : List Statement) (ls ms : List Lexeme) → ss ≡ rs → ls ≡ ms → Closes rs ms → Closes ss ls
+closes_as ss rs ls ms e f c = subst (λ x. Closes x ls) (sym e) (subst (Closes rs) (sym f) c)
+
+drop_closes : (rs : List Statement) (rest : List Lexeme) → Closes rs rest → Closes (Drop ∷ rs) (Word (codes "drop") ∷ Sign 59 ∷ rest)
+drop_closes rs rest c =
+    record {
+      body = Word (codes "drop") ∷ Sign 59 ∷ c.body;
+      spelled = (Word (codes "drop") ∷ Sign 59 ∷ [], c.body, refl, c.spelled, refl);
+      whole = ap (λ l. Word (codes "drop") ∷ Sign 59 ∷ l) c.whole;
+    }
+
+out_closes : (w : List ℕ) (n : ℕ) (rs : List Statement) (rest : List Lexeme) → number_of w ≡ Some n → Closes rs rest → Closes (Out (Number n ∷ []) ∷ rs) (Word (codes "out") ∷ Word w ∷ Sign 59 ∷ rest)
+out_closes w n rs rest e c =
+    record {
+      body = Word (codes "out") ∷ Word w ∷ Sign 59 ∷ c.body;
+      spelled = (Word (codes "out") ∷ Word w ∷ Sign 59 ∷ [], c.body, (w, n, e, refl, refl), c.spelled, refl);
+      whole = ap (λ l. Word (codes "out") ∷ Word w ∷ Sign 59 ∷ l) c.whole;
+    }
+
+-- behind a place that one lexeme leaves for another, these statements are read
+module _ (l : Lexeme) (ls : List Lexeme) (q : Place) (rs : List Statement) (behind : From q rs ls) where
+  to : (p : Place) → p ≡ q → From p rs ls
+  to p e = subst (λ x. From x rs ls) (sym e) behind
+
+  dropped : l ≡ Word (codes "drop") → From BehindDrop rs ls → Closes rs (l ∷ ls)
+  dropped w (rest, ls_is, (ss, rs_is, c)) = closes_as rs (Drop ∷ ss) (l ∷ ls) (Word (codes "drop") ∷ Sign 59 ∷ rest) rs_is (cc) (drop_closes ss rest c)
+
+  sent : l ≡ Word (codes "out") → From BehindOut rs ls → Closes rs (l ∷ ls)
+  sent w (v, n, rest, number, ls_is, (ss, rs_is, c)) =
+      closes_as rs (Out (Number n ∷ []) ∷ ss) (l ∷ ls) (Word (codes "out") ∷ Word v ∷ Sign 59 ∷ rest) rs_is (cc) (out_closes v n ss rest number c)
+
+  closed : l ≡ Sign 125 → From Closed rs ls → Closes rs (l ∷ ls)
+  closed s (rs_is, ls_is) = record { body = []; spelled = subst (λ x. SpellsAll x []) (sym rs_is) refl; whole = cc }
+
+  ahead_sign : cond (is_sign 125 l) (Some Closed) None ≡ Some q → Closes rs (l ∷ ls)
+  ahead_sign e = let h = leads_Some (is_sign 125 l) Closed q e in closed (sign_is 125 l h.0) (to Closed h.1)
+
+  ahead_out : cond (is_word (codes "out") l) (Some BehindOut) (cond (is_sign 125 l) (Some Closed) None) ≡ Some q → Closes rs (l ∷ ls)
+  ahead_out e =
+      ⊎_elim
+      (λ t. sent (word_is (codes "out") l t) (to BehindOut (let f = ap (λ b. cond b (Some BehindOut) (cond (is_sign 125 l) (Some Closed) None)) t in cc)))
+      (λ f. ahead_sign (sym (ap (λ b. cond b (Some BehindOut) (cond (is_sign 125 l) (Some Closed) None)) f) ∙ e))
+      (cases_Bool (is_word (codes "out") l))
+
+  from_ahead : step Ahead l ≡ Some q → Closes rs (l ∷ ls)
+  from_ahead e =
+      ⊎_elim
+      (λ t. dropped (word_is (codes "drop") l t) (to BehindDrop (let f = ap (λ b. cond b (Some BehindDrop) (cond (is_word (codes "out") l) (Some BehindOut) (cond (is_sign 125 l) (Some Closed) None))) t in cc)))
+      (λ f. ahead_out (sym (ap (λ b. cond b (Some BehindDrop) (cond (is_word (codes "out") l) (Some BehindOut) (cond (is_sign 125 l) (Some Closed) None))) f) ∙ e))
+      (cases_Bool (is_word (codes "drop") l))
+
+  from_step : (p : Place) (ss : List Statement) → step p l ≡ Some q → ended p ++ rs ≡ ss → From p ss (l ∷ ls)
+  from_step Start ss e f =
+      let h = leads_Some (is_word (codes "policy") l) Opening q e in
+      let (rest, ls_is, c) = to Opening h.1 in
+      let w = word_is (codes "policy") l h.0 in
+      (rest, cc, closes_as ss rs rest rest (sym f) refl c)
+  from_step Opening ss e f =
+      let h = leads_Some (is_sign 123 l) Ahead q e in
+      let s = sign_is 123 l h.0 in
+      (ls, cc, closes_as ss rs ls ls (sym f) refl (to Ahead h.1))
+  from_step Ahead ss e f = closes_as ss rs (l ∷ ls) (l ∷ ls) (sym f) refl (from_ahead e)
+  from_step BehindDrop ss e f =
+      let h = leads_Some (is_sign 59 l) Ahead q e in
+      let s = sign_is 59 l h.0 in
+      (ls, cc, (rs, sym f, to Ahead h.1))
+  from_step BehindOut ss e f =
+      let (n, number, q_is) = port_Some (number_in l) q e in
+      let (rest, ls_is, (ss', rs_is, c)) = to (BehindPort n) q_is in
+      let (w, l_is, w_is) = number_Some l n number in
+      (w, n, rest, w_is, cc, (ss', sym f ∙ rs_is, c))
+  from_step (BehindPort n) ss e f =
+      let h = leads_Some (is_sign 59 l) Ahead q e in
+      let s = sign_is 59 l h.0 in
+      (ls, cc, (rs, sym f, to Ahead h.1))
+  from_step Closed ss e f = absurd (cc)
+
+from_parsed : (ls : List Lexeme) (p : Place) (ss : List Statement) → parsed p ls ≡ Some ss → From p ss ls
+from_parsed [] Closed ss e = (cc, refl)
+from_parsed [] p ss e = absurd (cc)
+from_parsed (l ∷ ls) p ss e =
+    let (q, step_is, f) = and_then_Some (λ q. option_map (λ rs. ended p ++ rs) (parsed q ls)) (step p l) ss e in
+    let (rs, parsed_is, ended_is) = map_Some (λ rs. ended p ++ rs) (parsed q ls) ss f in
+    from_step l ls q rs (from_parsed ls q rs parsed_is) p ss step_is ended_is
+
+-- what was read spells the text
+pub parsed_spells : (ss : List Statement) (text : List ℕ) → length text ≤ 65536 → list_all is_text_byte text ≡ true → nodes_in ss ≤ 4096 → parsed Start (text_lexemes text) ≡ Some ss → Spells ss text
+parsed_spells ss text short ascii few e =
+    let (rest, whole, c) = from_parsed (text_lexemes text) Start ss e in
+    record { short = short; ascii = ascii; few = few; body = c.body; statements = c.spelled; whole = whole ∙ ap (λ l. Word (codes "policy") ∷ Sign 123 ∷ l) c.whole }
+
+-- no policy has a text that isn't read
+pub unread : (text : List ℕ) → parsed Start (text_lexemes text) ≡ None → (policy : Policy) → IsTextOf policy text → ⊥
+unread text e policy h = let f = spelled_parsed (statements_of policy.body) text h.spells in absurd (cc)
+
+-- nor one whose statements are too many
+pub too_many : (ss : List Statement) (text : List ℕ) → parsed Start (text_lexemes text) ≡ Some ss → (nodes_in ss ≤ 4096 → ⊥) → (policy : Policy) → IsTextOf policy text → ⊥
+too_many ss text e many policy h =
+    let f = spelled_parsed (statements_of policy.body) text h.spells in
+    let same : statements_of policy.body ≡ ss = cc in
+    many (subst (λ x. nodes_in x ≤ 4096) same h.spells.few)
+
+-- a text is that of one list of statements alone
+pub one_list : (text : List ℕ) (p q : Policy) → IsTextOf p text → IsTextOf q text → statements_of p.body ≡ statements_of q.body
+one_list text p q h i = let e = spelled_parsed (statements_of p.body) text h.spells in let f = spelled_parsed (statements_of q.body) text i.spells in cc

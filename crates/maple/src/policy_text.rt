@@ -2,7 +2,7 @@
 ghost use Rattle.std.specs.Prelude.{◌≡◌, ◌-◌, ◌^◌, ◌≤◌, ◌↔◌, ◌++◌, min, if◌then◌else◌, IsTrue, IfOk, IfErr, OnOk};
 ghost use Rattle.std.specs.Option.{option_map};
 ghost use Rattle.std.specs.List.{list_all};
-ghost use Rattle.maple.specs.PolicyText.{IsTextOf, is_text_byte, lexemes_of, nodes_in, nodes_of};
+ghost use Rattle.maple.specs.PolicyText.{IsTextOf, is_text_byte, text_lexemes, lexemes_of, nodes_in, nodes_of};
 ghost use Rattle.maple.specs.Parsing.{IsRefused, is_word, is_sign, number_in, step, ended, parsed};
 ghost use Rattle.maple.specs.Tokens.{lexeme};
 
@@ -55,20 +55,17 @@ pub fn read_policy(alloc: Global, text: &[u8]) -> Result<Policy, ReadError>
     if text.len() > 65_536 || !is_ascii_text(text) {
         return Err(REFUSED);
     }
-    let Ok(kept) = without_comments(alloc, text) else {
+    let Ok(read) = text_statements(alloc, text) else {
         return Err(ReadError::NoMemory);
     };
-    match statements(alloc, &kept) {
-        Ok(Some(list)) => {
-            if !are_few(&list) {
-                return Err(REFUSED);
-            }
-            let tables = Names::new(Vec::new(alloc));
-            Ok(Policy::new(tables, false, Block::new(list)))
-        }
-        Ok(None) => Err(REFUSED),
-        Err(NoMemory) => Err(ReadError::NoMemory),
+    let Some(list) = read else {
+        return Err(REFUSED);
+    };
+    if !are_few(&list) {
+        return Err(REFUSED);
     }
+    let tables = Names::new(Vec::new(alloc));
+    Ok(Policy::new(tables, false, Block::new(list)))
 }
 
 fn is_ascii_text(text: &[u8]) -> bool
@@ -94,6 +91,14 @@ fn nodes_of(statement: &Statement) -> usize
         Statement::Drop | Statement::If(..) => 1,
         Statement::Out(ports) => ports.items().len().saturating_add(1),
     }
+}
+
+// The statements of a text, where it has the form of a policy.
+fn text_statements(alloc: Global, text: &[u8]) -> Result<Option<Vec<Statement>>, NoMemory>
+    ensures { IfOk result (λ read. option_map (λ list. list.items) read ≡ parsed Place.Start (text_lexemes text.now)) }
+{
+    let kept = without_comments(alloc, text)?;
+    statements(alloc, &kept)
 }
 
 // The statements of a text without comments, where it has the form of a policy.
