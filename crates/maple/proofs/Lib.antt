@@ -4,3 +4,4 @@ pub mod Grammar
 pub mod Known
 pub mod Marks
 pub mod Pieces
+pub mod Splits

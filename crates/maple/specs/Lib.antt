@@ -7,3 +7,4 @@ pub mod PolicyText
 pub mod Report
 pub mod Rules
 pub mod Tokens
+pub mod Words

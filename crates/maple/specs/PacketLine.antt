@@ -1,5 +1,5 @@
 -- A line `packet 1 P field=N ..`: a packet that comes to the switch at place 1 by its port P.
-use Rattle.std.specs.Prelude.{ℕ, ◌+◌, ◌^◌, Bool, true, false, not, ◌&&◌, ◌||◌, ◌==◌, nat_le, nat_lt, if◌then◌else◌, List, [], ◌∷◌, length, take, drop, position, Option, Some, None, is_none, unwrap_or, option_and_then, codes}
+use Rattle.std.specs.Prelude.{ℕ, ◌+◌, ◌^◌, Bool, true, false, not, ◌&&◌, ◌||◌, ◌==◌, nat_le, nat_lt, if◌then◌else◌, List, [], ◌∷◌, length, take, drop, Option, Some, None, is_none, unwrap_or, option_and_then, codes}
 use Rattle.std.specs.List.{slice_split}
 use Rattle.std.specs.Str.{bytes_eq}
 use Rattle.maple_base.specs.declared.key.Field.{Field}
@@ -8,6 +8,7 @@ use Rattle.maple_base.specs.declared.key.Key.{Key}
 use Rattle.maple_base.specs.declared.key.Match.{Match}
 use Rattle.maple_base.specs.Keys.{width_of, valid_key, anything, fix, fixed_of}
 use Rattle.maple_base.specs.Numbers.{number_of}
+use Rattle.maple.specs.Words.{len_to}
 
 -- the fields that a line may name, by their names
 abbrev pub field_names : List (List ℕ × Field)
@@ -27,13 +28,11 @@ abbrev pub valued : Option Field → List ℕ → Option (Field × ℕ)
 valued None number = None
 valued (Some f) number = within_width f (number_of number)
 
-abbrev pub parted_at : List ℕ → Option ℕ → Option (Field × ℕ)
-parted_at word None = None
-parted_at word (Some at) = valued (named_in field_names (take at word)) (drop (at + 1) word)
-
 -- a word `name=number`, the number in the field's width
 abbrev pub field_word : List ℕ → Option (Field × ℕ)
-field_word word = parted_at word (position (λ b. b == 61) word)
+field_word word =
+    let at = len_to 61 word in
+    if nat_lt at (length word) then valued (named_in field_names (take at word)) (drop (at + 1) word) else None
 
 -- a field is named once
 abbrev pub named : Option (Field × ℕ) → Match → Option Match

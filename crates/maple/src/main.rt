@@ -4,6 +4,7 @@
 pub mod input;
 pub mod lines;
 pub mod output;
+pub mod packet_line;
 pub mod policy_text;
 pub mod report;
 pub mod status;

@@ -1,0 +1,14 @@
+-- The words of a line, one after the other.
+use Rattle.std.specs.Prelude.{ℕ, ◌+◌, ◌==◌, if◌then◌else◌, List, [], ◌∷◌, Option, Some, None}
+use Rattle.std.specs.List.{slice_split}
+use Rattle.std.specs.Borrow.{Bor}
+
+-- the words of what is behind a word
+abbrev pub rest_words : Option (Bor (List ℕ)) → List (List ℕ)
+rest_words None = []
+rest_words (Some rest) = slice_split (λ b. b == 32) rest.now
+
+-- how many bytes stand ahead of the first of this kind
+abbrev pub len_to : ℕ → List ℕ → ℕ
+len_to stop [] = 0
+len_to stop (b ∷ bs) = if b == stop then 0 else 1 + len_to stop bs
