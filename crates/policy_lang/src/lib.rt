@@ -4,6 +4,8 @@
 ghost use Rattle.std.specs.Prelude.{◌≡◌, List};
 ghost use Rattle.policy_lang.specs.Blocks.{statements_of};
 
+pub mod laws;
+
 use maple_base::{Field, Names};
 use std::marker::Model;
 
