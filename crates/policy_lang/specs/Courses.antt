@@ -1,7 +1,7 @@
 -- What a run of a policy asks of its packet. Each question is determined by the answers so far.
 use Rattle.std.specs.Prelude.{ℕ, zero, suc, Bool, true, false, ◌&&◌, ◌==◌, if◌then◌else◌, List, [], ◌∷◌, ◌++◌, Option, Some, None}
 use Rattle.maple_base.specs.declared.key.Field.{Field}
-use Rattle.maple_base.specs.declared.key.Field.TheVariants.{InPort, DlSrc, DlDst, DlVlan, DlType, NwTos, NwProto, NwSrc, NwDst, TpSrc, TpDst}
+use Rattle.maple_base.specs.declared.key.Field.TheVariants.{DlType, NwTos, NwProto, NwSrc, NwDst, TpSrc, TpDst}
 use Rattle.maple_base.specs.declared.key.Key.{Key}
 use Rattle.maple_base.specs.declared.items.Item.{Item}
 use Rattle.maple_base.specs.declared.items.Item.TheVariants.{Read, Test as Tested}

@@ -1,4 +1,5 @@
 pub mod Blocks
 pub mod Courses
 pub mod Evaluation
+pub mod Laws
 pub mod Values

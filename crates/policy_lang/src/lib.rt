@@ -2,7 +2,9 @@
 #![tactic(auto)]
 
 ghost use Rattle.std.specs.Prelude.{◌≡◌, List};
-ghost use Rattle.policy_lang.specs.Blocks.{statements_of};
+ghost use Rattle.policy_lang.specs.Blocks.{statements_of, IsOutList};
+
+pub mod laws;
 
 use maple_base::{Field, Names};
 use std::marker::Model;
@@ -35,7 +37,7 @@ pub enum Statement {
     If(Head, Block, Option<Block>),
 }
 
-/// Expressions, in order.
+/// Expressions, in order, 1 to 16.
 #[derive(Drop)]
 pub struct Exprs {
     list: Vec<Expr>,
@@ -59,11 +61,16 @@ impl Model for Exprs {
     ghost coded = { coded_list expr.the_row.coded };
 
     ghost view = { λ a. a.list.items };
+
+    ghost use Rattle.policy_lang.specs.Blocks.{IsOutList};
+
+    ghost invariant = { λ a. IsOutList a.list.items };
 }
 
 impl Exprs {
     /// These expressions.
     pub fn new(list: Vec<Expr>) -> Exprs
+        requires { IsOutList list.items }
         ensures { result ≡ list.items }
     {
         Exprs { list }
@@ -71,7 +78,8 @@ impl Exprs {
 
     /// The expressions, in order.
     pub fn items(&self) -> &[Expr]
-        ensures { result.now ≡ self.now }
+        ensures list { result.now ≡ self.now }
+        ensures few { IsOutList self.now }
     {
         &self.list
     }

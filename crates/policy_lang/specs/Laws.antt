@@ -1,0 +1,44 @@
+-- What holds of each course, and of the course of each policy.
+use Rattle.std.specs.Prelude.{◌≡◌, ℕ, ◌*◌, ◌≤◌, true, [], length}
+use Rattle.std.specs.List.{list_all}
+use Rattle.maple_base.specs.declared.key.Key.{Key}
+use Rattle.maple_base.specs.declared.cells.Cell.{Cell}
+use Rattle.maple_base.specs.declared.cells.Value.{Value}
+use Rattle.maple_base.specs.Keys.{valid_key}
+use Rattle.maple_base.specs.Questions.{meets, clash, within_domain, asks_once}
+use Rattle.policy_lang.specs.declared.Policy.{Policy}
+use Rattle.policy_lang.specs.Evaluation.{eval_of}
+use Rattle.policy_lang.specs.Courses.{Course, items_of, outcome_at, course_of}
+
+-- a key meets what was asked of it
+abbrev pub OwnItems : Type 0
+OwnItems = (c : Course) (k : Key) → meets k (items_of c k) ≡ true
+
+-- two keys are asked the same and end the same
+abbrev pub GoAlike : Course → Key → Key → Type 0
+GoAlike c k l = (items_of c k ≡ items_of c l) × (outcome_at c k ≡ outcome_at c l)
+
+-- a key that meets what was asked of another is asked the same and ends the same
+abbrev pub SameTrace : Type 0
+SameTrace = (c : Course) (k l : Key) → meets k (items_of c l) ≡ true → GoAlike c k l
+
+-- two traces of one course are equal or do not clash
+abbrev pub OnePath : Type 0
+OnePath = (c : Course) (k l : Key) → clash (items_of c k) (items_of c l) ≡ true → GoAlike c k l
+
+-- the course of a policy ends as plain evaluation does, in each environment and at each switch
+abbrev pub EndsAsEvaluated : Type 0
+EndsAsEvaluated =
+    (policy : Policy) (budget : ℕ) (env : Cell → Value) (switch : ℕ) (k : Key) → valid_key k ≡ true → outcome_at (course_of policy budget) k ≡ eval_of policy budget env switch k
+
+-- each value that is asked of, or read, is in its field's domain
+abbrev pub AsksWithin : Type 0
+AsksWithin = (policy : Policy) (budget : ℕ) (k : Key) → valid_key k ≡ true → list_all within_domain (items_of (course_of policy budget) k) ≡ true
+
+-- no question is of a field that an earlier answer fixed
+abbrev pub AsksOnce : Type 0
+AsksOnce = (policy : Policy) (budget : ℕ) (k : Key) → valid_key k ≡ true → asks_once [] (items_of (course_of policy budget) k) ≡ true
+
+-- a step asks at most three questions
+abbrev pub AsksFew : Type 0
+AsksFew = (policy : Policy) (budget : ℕ) (k : Key) → valid_key k ≡ true → length (items_of (course_of policy budget) k) ≤ 3 * budget

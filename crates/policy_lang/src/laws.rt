@@ -1,0 +1,20 @@
+// What holds of each run of a policy.
+ghost use Rattle.policy_lang.specs.Laws.{OwnItems, SameTrace, OnePath, EndsAsEvaluated, AsksWithin, AsksOnce, AsksFew};
+
+/// What holds of each course: a key meets what was asked of it, keys that meet the same are asked
+/// the same, and two traces are equal or do not clash.
+pub fn course_laws()
+    ensures own { OwnItems }
+    ensures same { SameTrace }
+    ensures one_path { OnePath }
+{}
+
+/// What holds of the course of each policy, at a valid key: it ends as plain evaluation does, each
+/// value that is asked of is in its field's domain, no field is asked of once it is fixed, and a
+/// step asks at most three questions.
+pub fn policy_laws()
+    ensures evaluation { EndsAsEvaluated }
+    ensures within { AsksWithin }
+    ensures once { AsksOnce }
+    ensures few { AsksFew }
+{}
