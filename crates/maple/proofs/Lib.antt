@@ -1,3 +1,4 @@
+pub mod Endings
 pub mod FirstLines
 pub mod FirstWords
 pub mod Grammar

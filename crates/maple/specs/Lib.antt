@@ -1,5 +1,7 @@
 pub mod Due
+pub mod Ends
 pub mod Fronts
+pub mod Knowing
 pub mod Lines
 pub mod PacketLine
 pub mod Parsing

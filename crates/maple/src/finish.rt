@@ -1,0 +1,45 @@
+// The last line of a run.
+ghost use Rattle.std.specs.Prelude.{◌≡◌, ◌≤◌};
+ghost use Rattle.maple_io.specs.Counts.{HasRisen};
+ghost use Rattle.maple.specs.Due.{last_line};
+ghost use Rattle.maple.specs.Ends.{Ends, IsGiven};
+
+use crate::output::{PutStop, put_all};
+use crate::status::Status;
+use maple_io::Sink;
+
+/// Writes the line that a run writes last, and ends it with its status, or with `WriteFault` or
+/// `NoMemory` where the line can't be written.
+pub fn finish<O: Sink>(output: &mut O, status: Status) -> Status
+    requires { IsGiven status }
+    ensures { Ends (HasRisen (O.failed output.old) (O.failed output.new)) (O.taken output.old) (O.taken output.new) status (last_line status) result }
+{
+    put_text(output, last_line(status), status)
+}
+
+/// Writes a text, and gives this status, or `WriteFault` or `NoMemory` where it can't be written.
+pub fn put_text<O: Sink>(output: &mut O, text: &[u8], status: Status) -> Status
+    requires { IsGiven status }
+    ensures ends { Ends (HasRisen (O.failed output.old) (O.failed output.new)) (O.taken output.old) (O.taken output.new) status text.now result }
+    ensures count { O.failed output.old ≤ O.failed output.new }
+{
+    match put_all(output, text) {
+        Ok(()) => status,
+        Err(PutStop::Failed) => Status::WriteFault,
+        Err(PutStop::NoMemory) => Status::NoMemory,
+    }
+}
+
+fn last_line(status: Status) -> &'static [u8]
+    ensures { result.now ≡ last_line status }
+{
+    match status {
+        Status::Done => b"end\n",
+        Status::Usage => b"refused usage\n",
+        Status::Policy => b"refused policy\n",
+        Status::Script => b"refused script\n",
+        Status::ReadFault => b"refused read\n",
+        Status::TooLong => b"refused input\n",
+        Status::WriteFault | Status::NoMemory => b"",
+    }
+}
