@@ -1,0 +1,4 @@
+//! Evaluating policies and recording their runs.
+#![tactic(auto)]
+
+pub mod policy_eval;
