@@ -4,5 +4,7 @@ pub mod FirstWords
 pub mod Grammar
 pub mod Known
 pub mod Marks
+pub mod Numbers
 pub mod Pieces
+pub mod Ports
 pub mod Splits

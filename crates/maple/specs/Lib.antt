@@ -1,5 +1,6 @@
 pub mod Due
 pub mod Ends
+pub mod Evaluated
 pub mod Fronts
 pub mod Knowing
 pub mod Lines

@@ -6,6 +6,7 @@ pub mod input;
 pub mod lines;
 pub mod output;
 pub mod packet_line;
+pub mod policy_eval;
 pub mod policy_text;
 pub mod report;
 pub mod status;

@@ -20,6 +20,7 @@ use Rattle.policy_lang.specs.declared.Block.{Block}
 use Rattle.policy_lang.specs.Values.{Datum, Numeral, Truth, number_in, truth_in, ports_among, sent_out}
 use Rattle.policy_lang.specs.Evaluation.{Ending, Spends, Decides, Goes, Given, AllGiven, Running, tested, value_of, ahead_of, with_number, numbers_of, out_ending, otherwise, side_of, chosen, by_statement, and_then, in_order, by_block, block_ending}
 use Rattle.policy_lang.specs.Courses.{Stops, Going, Coursing, ask_test, value_course, numbers_course, otherwise_course, chosen_course, course_statement, courses, course_block, block_course}
+use Rattle.policy_lang.specs.Laws.{begins_at}
 use Rattle.policy_lang.proofs.Follows.{Follows, follows_more, follows_stop, follows_asked}
 
 -- how a run ends behind an expression, by what it gives
@@ -49,8 +50,8 @@ behind_tested n (Some (d, left)) o = refl
 
 value_agrees : (k : Key) (e : Expr) (seen : List Item) (left m : ℕ) (o : Datum → ℕ → Outcome) (next : Datum → Going)
     → valid_key k ≡ true → meets k seen ≡ true → ValueGoesOn k m o next → Follows k seen (3 * left + m) (behind_given (value_of e k left) o) (value_course e seen left next)
-value_agrees k (Number n) seen zero m o next valid met on = follows_stop k seen (3 * 0 + m) Spent
-value_agrees k (Is' f p e) seen zero m o next valid met on = follows_stop k seen (3 * 0 + m) Spent
+value_agrees k (Number n) seen zero m o next valid met on = follows_stop k seen (3 * 0 + m) Spent (λ switch. refl)
+value_agrees k (Is' f p e) seen zero m o next valid met on = follows_stop k seen (3 * 0 + m) Spent (λ switch. refl)
 value_agrees k (Number n) seen (suc left) m o next valid met on =
     follows_more k seen (3 * left + m) (3 * suc left + m) (o (Numeral n) left) (next (Numeral n) seen left) (omega arith) (on (Numeral n) seen left met)
 value_agrees k (Is' f p e) seen (suc left) m o next valid met on =
@@ -94,17 +95,21 @@ behind_out None o = refl
 behind_out (Some (ns, left)) o = refl
 
 drop_agrees : Agrees (by_statement drop) (course_statement drop)
-drop_agrees k seen zero m o next valid met on = follows_stop k seen (3 * 0 + m) Spent
-drop_agrees k seen (suc left) m o next valid met on = follows_stop k seen (3 * suc left + m) (Decided Dropped)
+drop_agrees k seen zero m o next valid met on = follows_stop k seen (3 * 0 + m) Spent (λ switch. refl)
+drop_agrees k seen (suc left) m o next valid met on = follows_stop k seen (3 * suc left + m) (Decided Dropped) (λ switch. refl)
+
+out_begins : (switch : ℕ) (ports : List ℕ) → begins_at switch (Decided (sent_out ports)) ≡ true
+out_begins switch [] = refl
+out_begins switch (p ∷ ports) = refl
 
 out_agrees : (es : List Expr) → Agrees (by_statement (out es)) (course_statement (out es))
-out_agrees es k seen zero m o next valid met on = follows_stop k seen (3 * 0 + m) Spent
+out_agrees es k seen zero m o next valid met on = follows_stop k seen (3 * 0 + m) Spent (λ switch. refl)
 out_agrees es k seen (suc left) m o next valid met on =
     let then : List ℕ → Going = λ ns seen left. Stops (Decided (sent_out (ports_among ns))) in
     follows_more k seen (3 * left + m) (3 * suc left + m) (behind (out_ending (numbers_of es k left)) o) (numbers_course es seen left then) (omega arith)
     (subst (λ x. Follows k seen (3 * left + m) x (numbers_course es seen left then)) (behind_out (numbers_of es k left) o)
     (numbers_agree k es seen left m (λ ns left. Decided (sent_out (ports_among ns))) then valid met
-    (λ ns seen left met. follows_stop k seen (3 * left + m) (Decided (sent_out (ports_among ns))))))
+    (λ ns seen left met. follows_stop k seen (3 * left + m) (Decided (sent_out (ports_among ns))) (λ switch. out_begins switch (ports_among ns)))))
 
 behind_chosen : (g : Given) (first : Running) (second : Option Running) (k : Key) (o : ℕ → Outcome)
     → behind_given g (λ d left. behind (side_of (truth_in d) first second k left) o) ≡ behind (chosen g first second k) o
@@ -118,7 +123,7 @@ side_agrees false first second then other a b = b
 
 if_agrees : (h : Head) (first : Running) (second : Option Running) (then : Coursing) (other : Option Coursing)
     → Agrees first then → Agrees (otherwise second) (otherwise_course other) → Agrees (by_statement (if_ h first second)) (course_statement (if_ h then other))
-if_agrees (Test e) first second then other a b k seen zero m o next valid met on = follows_stop k seen (3 * 0 + m) Spent
+if_agrees (Test e) first second then other a b k seen zero m o next valid met on = follows_stop k seen (3 * 0 + m) Spent (λ switch. refl)
 if_agrees (Test e) first second then other a b k seen (suc left) m o next valid met on =
     let side : Datum → Going = λ d seen left. chosen_course (truth_in d) then other seen left next in
     let after : Datum → ℕ → Outcome = λ d left. behind (side_of (truth_in d) first second k left) o in

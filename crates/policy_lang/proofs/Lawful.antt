@@ -1,5 +1,5 @@
 -- The laws of courses, and of the courses of policies.
-use Rattle.std.proofs.Common.{◌≡◌, ℕ, ◌+◌, ◌*◌, true, [], refl, ◌∙◌, arith}
+use Rattle.std.proofs.Common.{◌≡◌, ℕ, ◌+◌, ◌*◌, true, [], refl, sym, ap, ◌∙◌, arith}
 use Rattle.maple_base.specs.declared.key.Key.{Key}
 use Rattle.maple_base.specs.declared.decision.Decision.TheVariants.{Drop as Dropped}
 use Rattle.maple_base.specs.declared.decision.Outcome.{Outcome}
@@ -8,7 +8,7 @@ use Rattle.maple_base.specs.Keys.{valid_key}
 use Rattle.policy_lang.specs.declared.Policy.{Policy}
 use Rattle.policy_lang.specs.Evaluation.{Ending, Spends, Decides, Goes, block_ending, outcome_of}
 use Rattle.policy_lang.specs.Courses.{Stops, items_of, course_of}
-use Rattle.policy_lang.specs.Laws.{OwnItems, SameTrace, OnePath, EndsAsEvaluated, AsksWithin, AsksOnce, AsksFew}
+use Rattle.policy_lang.specs.Laws.{OwnItems, SameTrace, OnePath, EndsAsEvaluated, AsksWithin, AsksOnce, AsksFew, BeginsHere, begins_at}
 use Rattle.policy_lang.proofs.Courses.{own_meets, same_items, same_outcome, one_path}
 use Rattle.policy_lang.proofs.Answers.{anew_once}
 use Rattle.policy_lang.proofs.Follows.{Follows, follows_stop}
@@ -29,7 +29,7 @@ dropped left = Decided Dropped
 policy_follows : (policy : Policy) (budget : ℕ) (k : Key) → valid_key k ≡ true
     → Follows k [] (3 * budget + 0) (behind (block_ending policy.body k budget) dropped) (course_of policy budget)
 policy_follows policy budget k valid =
-    block_agrees policy.body k [] budget 0 dropped (λ seen left. Stops (Decided Dropped)) valid refl (λ seen left met. follows_stop k seen (3 * left + 0) (Decided Dropped))
+    block_agrees policy.body k [] budget 0 dropped (λ seen left. Stops (Decided Dropped)) valid refl (λ seen left met. follows_stop k seen (3 * left + 0) (Decided Dropped) (λ switch. refl))
 
 behind_end : (e : Ending) → behind e dropped ≡ outcome_of e
 behind_end Spends = refl
@@ -47,3 +47,7 @@ asks_once_only policy budget k valid = anew_once (items_of (course_of policy bud
 
 pub asks_few : AsksFew
 asks_few policy budget k valid = let f = (policy_follows policy budget k valid).few in omega (arith, f)
+
+pub begins_here : BeginsHere
+begins_here policy budget env switch k valid =
+    ap (begins_at switch) (sym (behind_end (block_ending policy.body k budget))) ∙ (policy_follows policy budget k valid).begins switch

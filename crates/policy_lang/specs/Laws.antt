@@ -1,9 +1,12 @@
 -- What holds of each course, and of the course of each policy.
-use Rattle.std.specs.Prelude.{◌≡◌, ℕ, ◌*◌, ◌≤◌, true, [], length}
+use Rattle.std.specs.Prelude.{◌≡◌, ℕ, ◌*◌, ◌≤◌, Bool, true, false, ◌==◌, [], ◌∷◌, length}
 use Rattle.std.specs.List.{list_all}
 use Rattle.maple_base.specs.declared.key.Key.{Key}
 use Rattle.maple_base.specs.declared.cells.Cell.{Cell}
 use Rattle.maple_base.specs.declared.cells.Value.{Value}
+use Rattle.maple_base.specs.declared.decision.Decision.TheVariants.{Path}
+use Rattle.maple_base.specs.declared.decision.Outcome.{Outcome}
+use Rattle.maple_base.specs.declared.decision.Outcome.TheVariants.{Decided}
 use Rattle.maple_base.specs.Keys.{valid_key}
 use Rattle.maple_base.specs.Questions.{meets, clash, within_domain, asks_once}
 use Rattle.policy_lang.specs.declared.Policy.{Policy}
@@ -42,3 +45,13 @@ AsksOnce = (policy : Policy) (budget : ℕ) (k : Key) → valid_key k ≡ true �
 -- a step asks at most three questions
 abbrev pub AsksFew : Type 0
 AsksFew = (policy : Policy) (budget : ℕ) (k : Key) → valid_key k ≡ true → length (items_of (course_of policy budget) k) ≤ 3 * budget
+
+-- a path that is decided begins at this switch
+abbrev pub begins_at : ℕ → Outcome → Bool
+begins_at switch (Decided (Path [])) = false
+begins_at switch (Decided (Path (hop ∷ hops))) = hop.switch == switch
+begins_at switch o = true
+
+-- a path that a policy decides begins at its own switch
+abbrev pub BeginsHere : Type 0
+BeginsHere = (policy : Policy) (budget : ℕ) (env : Cell → Value) (switch : ℕ) (k : Key) → valid_key k ≡ true → begins_at switch (eval_of policy budget env switch k) ≡ true

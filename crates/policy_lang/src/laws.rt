@@ -1,5 +1,5 @@
 // What holds of each run of a policy.
-ghost use Rattle.policy_lang.specs.Laws.{OwnItems, SameTrace, OnePath, EndsAsEvaluated, AsksWithin, AsksOnce, AsksFew};
+ghost use Rattle.policy_lang.specs.Laws.{OwnItems, SameTrace, OnePath, EndsAsEvaluated, AsksWithin, AsksOnce, AsksFew, BeginsHere};
 
 /// What holds of each course: a key meets what was asked of it, keys that meet the same are asked
 /// the same, and two traces are equal or do not clash.
@@ -11,10 +11,11 @@ pub fn course_laws()
 
 /// What holds of the course of each policy, at a valid key: it ends as plain evaluation does, each
 /// value that is asked of is in its field's domain, no field is asked of once it is fixed, and a
-/// step asks at most three questions.
+/// step asks at most three questions. A path that is decided begins at the switch.
 pub fn policy_laws()
     ensures evaluation { EndsAsEvaluated }
     ensures within { AsksWithin }
     ensures once { AsksOnce }
     ensures few { AsksFew }
+    ensures begins { BeginsHere }
 {}
