@@ -3,8 +3,10 @@ pub mod FirstLines
 pub mod FirstWords
 pub mod Grammar
 pub mod Known
+pub mod Learning
 pub mod Marks
 pub mod Numbers
 pub mod Pieces
 pub mod Ports
+pub mod Runs
 pub mod Splits

@@ -9,5 +9,6 @@ pub mod Parsing
 pub mod PolicyText
 pub mod Report
 pub mod Rules
+pub mod Running
 pub mod Tokens
 pub mod Words

@@ -65,14 +65,18 @@ abbrev pub text_of : List Line → List ℕ
 text_of [] = []
 text_of (l ∷ ls) = spelled l ++ text_of ls
 
+abbrev pub decided : Outcome → Decision
+decided (Decided d) = d
+decided Spent = Drop
+
+-- what the switch does by an outcome
+abbrev pub outcome_actions : Outcome → List ℕ
+outcome_actions o = actions_at (decided o) 1
+
 module _ (policy : Policy) where
   -- plain evaluation at switch 1, in at most 4,096 steps, where no host, hop, port and number is known
   abbrev pub plain : Key → Outcome
   plain k = eval_of policy 4096 blank_value 1 k
-
-  abbrev pub decided : Outcome → Decision
-  decided (Decided d) = d
-  decided Spent = Drop
 
   -- the run of the policy on a key, as the nth
   abbrev pub run_of : ℕ → Key → Trace
@@ -103,7 +107,7 @@ module _ (policy : Policy) where
 
   -- the lines of a packet, where these runs were learned before
   abbrev pub said : List Trace → Key → Option Trace → List Line
-  said runs k (Some run) = Hit k.in_port (actions_at (decided (plain k)) 1) ∷ []
+  said runs k (Some run) = Hit k.in_port (outcome_actions (plain k)) ∷ []
   said runs k None = Miss k.in_port (reason runs k) ∷ answered runs k (plain k)
 
   abbrev pub learned : List Trace → Key → Outcome → List Trace

@@ -9,8 +9,10 @@ pub mod packet_line;
 pub mod policy_eval;
 pub mod policy_text;
 pub mod report;
+pub mod sim;
 pub mod status;
 pub mod tokens;
+pub mod world;
 
 fn main(rt: HostRuntime) {
     let _ = rt;

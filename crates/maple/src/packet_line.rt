@@ -1,7 +1,7 @@
 // The packet lines of a script.
-ghost use Rattle.std.specs.Prelude.{◌≡◌, ◌==◌, ◌<◌, ◌≤◌, ◌^◌, ◌∷◌, nat_lt, length, IfSome, Some};
+ghost use Rattle.std.specs.Prelude.{◌≡◌, ◌==◌, ◌<◌, ◌≤◌, ◌^◌, ◌∷◌, nat_lt, length, IfSome, IsTrue, Some};
 ghost use Rattle.std.specs.List.{slice_split};
-ghost use Rattle.maple_base.specs.Keys.{width_of, anything};
+ghost use Rattle.maple_base.specs.Keys.{width_of, anything, valid_key};
 ghost use Rattle.maple.specs.PacketLine.{packet_of, field_names, named_in, field_word, within_width, named, named_by, key_by, has_frame, framed};
 ghost use Rattle.maple.specs.Words.{rest_words, len_to};
 
@@ -12,7 +12,8 @@ use maple_base::{Field, Key, Match, number_of};
 /// `None` exactly where the line isn't of this form, has more than 8,192 bytes, names a field
 /// twice, or no frame has the key.
 pub fn packet_line(line: &[u8]) -> Option<Key>
-    ensures { result ≡ packet_of line.now }
+    ensures packet { result ≡ packet_of line.now }
+    ensures valid { IfSome result (λ key. IsTrue (valid_key key)) }
 {
     if line.len() > 8_192 {
         return None;
@@ -146,7 +147,8 @@ fn named_field(name: &[u8]) -> Option<Field>
 
 // The key, where a frame can have it.
 fn framed(key: Key) -> Option<Key>
-    ensures { result ≡ framed key }
+    ensures key { result ≡ framed key }
+    ensures valid { IfSome result (λ key. IsTrue (valid_key key)) }
 {
     if has_frame(&key) { Some(key) } else { None }
 }
