@@ -6,7 +6,10 @@ pub mod Known
 pub mod Learning
 pub mod Marks
 pub mod Numbers
+pub mod OneWord
 pub mod Pieces
 pub mod Ports
+pub mod Plain
 pub mod Runs
 pub mod Splits
+pub mod Tops

@@ -1,5 +1,6 @@
 -- Which status a run of the program is due, and what it writes.
-use Rattle.std.specs.Prelude.{◌≡◌, ◌⊎◌, ℕ, ◌<◌, ◌≤◌, true, false, List, [], ◌∷◌, ◌++◌, length, IsTrue, codes}
+use Rattle.std.specs.Prelude.{◌≡◌, ◌⊎◌, ℕ, ◌<◌, ◌≤◌, false, List, [], ◌∷◌, ◌++◌, length, IsTrue, Option, codes}
+use Rattle.std.specs.Io.KnownBytes.{Appends}
 use Rattle.policy_lang.specs.declared.Policy.{Policy}
 use Rattle.maple.specs.declared.status.Status.{Status}
 use Rattle.maple.specs.declared.status.Status.TheVariants.{Done, Usage, Policy as PolicyRefused, Script, ReadFault, WriteFault, NoMemory, TooLong}
@@ -77,3 +78,11 @@ IsText risen NoMemory words input text = text ≡ []
 -- a front of what some run on this input writes
 abbrev pub IsFrontOfText : Type 0 → List (List ℕ) → List ℕ → List ℕ → Type 0
 IsFrontOfText risen words input front = (status : Status) × (text : List ℕ) × IsText risen status words input text × IsFront front text
+
+-- the report of the input's policy and script was written, and the last line of a status
+abbrev pub Reports : Option (List ℕ) → Option (List ℕ) → Status → List ℕ → Type 0
+Reports old new status input = (policy : Policy) × HasPolicy policy input × Appends old new (report_text policy input ++ last_line status)
+
+-- a front of what some run on this input writes was written
+abbrev pub WritesSome : Type 0 → List (List ℕ) → List ℕ → Option (List ℕ) → Option (List ℕ) → Type 0
+WritesSome risen words input old new = (front : List ℕ) × IsFrontOfText risen words input front × Appends old new front

@@ -10,5 +10,6 @@ pub mod PolicyText
 pub mod Report
 pub mod Rules
 pub mod Running
+pub mod Runs
 pub mod Tokens
 pub mod Words

@@ -12,6 +12,7 @@ pub mod report;
 pub mod sim;
 pub mod status;
 pub mod tokens;
+pub mod top;
 pub mod world;
 
 fn main(rt: HostRuntime) {

@@ -1,0 +1,180 @@
+-- What follows for each status from the way in which a run goes.
+use Rattle.std.proofs.Common.{◌≡◌, ◌⊎◌, ℕ, ◌<◌, ◌≤◌, Bool, true, false, cond, List, [], ◌∷◌, ◌++◌, length, Option, Some, None, refl, sym, ap, ◌∙◌, subst, inl, inr, ⊎_elim, arith, append-nil}
+use Rattle.std.specs.Prelude.{IfSome, IsTrue}
+use Rattle.std.specs.Io.KnownBytes.{Appends, IsAtEnd}
+use Rattle.std.proofs.lemmas.Bool.{cases_Bool}
+use Rattle.policy_lang.specs.declared.Policy.{Policy}
+use Rattle.maple.specs.declared.status.Status.{Status}
+use Rattle.maple.specs.declared.status.Status.TheVariants.{Done, Usage, Policy as PolicyRefused, Script, ReadFault, WriteFault, NoMemory, TooLong}
+use Rattle.maple.specs.Due.{AreSim, IsFit, HasPolicy, IsScript, IsDue, IsOrFails, IsText, IsFrontOfText, Reports, WritesSome, report_text, last_line}
+use Rattle.maple.specs.Ends.{Ends, IsGiven, WritesFront}
+use Rattle.maple.specs.Lines.{script_lines}
+use Rattle.maple.specs.PacketLine.{all_packets, packets_in}
+use Rattle.maple.specs.Report.{report, text_of}
+use Rattle.maple.specs.Running.{due_of, told_of}
+use Rattle.maple.specs.Runs.{IsRunOf, RunsText, refused_words, failed_read, read_too_long, lacked_memory, ran}
+
+given_is : (risen : Type 0) (old new : Option (List ℕ)) (due : Status) (text : List ℕ) (s : Status) → IsGiven s → Ends risen old new due text s → (s ≡ due) × Appends old new text
+given_is risen old new due text Done h e = e
+given_is risen old new due text Usage h e = e
+given_is risen old new due text PolicyRefused h e = e
+given_is risen old new due text Script h e = e
+given_is risen old new due text ReadFault h e = e
+given_is risen old new due text WriteFault h e = absurd h
+given_is risen old new due text NoMemory h e = absurd h
+given_is risen old new due text TooLong h e = e
+
+-- what a run of a text that ended with its own status is due and wrote
+abbrev RanAs : Option (List ℕ) → Option (List ℕ) → List ℕ → Status → Type 0
+RanAs old new input PolicyRefused = ((policy : Policy) → ¬ (HasPolicy policy input)) × Appends old new (last_line PolicyRefused)
+RanAs old new input Script = ((policy : Policy) × HasPolicy policy input × Appends old new (report_text policy input ++ last_line Script)) × (all_packets (script_lines input) ≡ false)
+RanAs old new input Done = ((policy : Policy) × HasPolicy policy input × Appends old new (report_text policy input ++ last_line Done)) × (all_packets (script_lines input) ≡ true)
+RanAs old new input s = ⊥
+
+ran_as : (risen : Type 0) (old new : Option (List ℕ)) (input : List ℕ) (s : Status) → IsGiven s → RunsText risen old new input s → RanAs old new input s
+ran_as risen old new input s h (inl (policy, has, e)) =
+    let g = given_is risen old new (due_of (script_lines input)) (told_of policy [] (script_lines input)) s h e in
+    ⊎_elim
+    (λ t.
+    let d : s ≡ Done = g.0 ∙ ap (λ b. cond b Done Script) t in
+    subst (RanAs old new input) (sym d) ((policy, has, subst (Appends old new) (ap (λ b. report_text policy input ++ last_line (cond b Done Script)) t) g.1), t))
+    (λ f.
+    let d : s ≡ Script = g.0 ∙ ap (λ b. cond b Done Script) f in
+    subst (RanAs old new input) (sym d) ((policy, has, subst (Appends old new) (ap (λ b. report_text policy input ++ last_line (cond b Done Script)) f) g.1), f))
+    (cases_Bool (all_packets (script_lines input)))
+ran_as risen old new input s h (inr (inl (n, e))) =
+    let g = given_is risen old new PolicyRefused (last_line PolicyRefused) s h e in subst (RanAs old new input) (sym g.0) (n, g.1)
+ran_as risen old new input s h (inr (inr (e, a))) = absurd (subst IsGiven e h)
+
+if_told : (left : Option (List ℕ)) (P : List ℕ → Type 0) → ((bytes : List ℕ) → left ≡ Some bytes → P bytes) → IfSome left P
+if_told None P h = tt
+if_told (Some bytes) P h = h bytes refl
+
+told : (left : Option (List ℕ)) (P : List ℕ → Type 0) (bytes : List ℕ) → left ≡ Some bytes → IfSome left P → P bytes
+told None P bytes e h = absurd (cc)
+told (Some xs) P bytes e h = let same : xs ≡ bytes = cc in subst P same h
+
+module _ (left rest : Option (List ℕ)) (unread risen : Type 0) (old new : Option (List ℕ)) (words : List (List ℕ)) where
+  abbrev Run : Status → Type 0
+  Run s = IsRunOf left rest unread risen old new words s
+
+  -- a run that ended with its own status behind the reading ran the whole input
+  ran_whole : (s : Status) → IsGiven s → (s ≡ Usage → ⊥) → (s ≡ ReadFault → ⊥) → (s ≡ TooLong → ⊥) → Run s → (bytes : List ℕ) → left ≡ Some bytes → AreSim words × IsFit bytes × RanAs old new bytes s
+  ran_whole s g u r l (refused_words n e) bytes is = absurd (u (given_is risen old new Usage (last_line Usage) s g e).0)
+  ran_whole s g u r l (failed_read w h e) bytes is = absurd (r (given_is risen old new ReadFault (last_line ReadFault) s g e).0)
+  ran_whole s g u r l (read_too_long w h e) bytes is = absurd (l (given_is risen old new TooLong (last_line TooLong) s g e).0)
+  ran_whole s g u r l (lacked_memory w e a) bytes is = absurd (subst IsGiven e g)
+  ran_whole s g u r l (ran w input fit same end text) bytes is =
+      let e : input ≡ bytes = told left (λ b. input ≡ b) bytes is same in (w, subst IsFit e fit, subst (λ x. RanAs old new x s) e (ran_as risen old new input s g text))
+
+  pub policy_due : Run PolicyRefused → IfSome left (λ bytes. IsDue PolicyRefused words bytes)
+  policy_due h = if_told left _ (λ bytes is. let r = ran_whole PolicyRefused tt (λ e. cc) (λ e. cc) (λ e. cc) h bytes is in (r.0, r.1, r.2.0))
+
+  pub script_due : Run Script → IfSome left (λ bytes. IsDue Script words bytes)
+  script_due h = if_told left _ (λ bytes is. let r = ran_whole Script tt (λ e. cc) (λ e. cc) (λ e. cc) h bytes is in (r.0, r.1, (r.2.0.0, r.2.0.1), r.2.1))
+
+  pub script_told : Run Script → IfSome left (λ bytes. Reports old new Script bytes)
+  script_told h = if_told left _ (λ bytes is. (ran_whole Script tt (λ e. cc) (λ e. cc) (λ e. cc) h bytes is).2.0)
+
+  pub done_due : Run Done → IfSome left (λ bytes. IsDue Done words bytes)
+  done_due h = if_told left _ (λ bytes is. let r = ran_whole Done tt (λ e. cc) (λ e. cc) (λ e. cc) h bytes is in (r.0, r.1, (r.2.0.0, r.2.0.1), r.2.1))
+
+  pub done_told : Run Done → IfSome left (λ bytes. Reports old new Done bytes)
+  done_told h = if_told left _ (λ bytes is. (ran_whole Done tt (λ e. cc) (λ e. cc) (λ e. cc) h bytes is).2.0)
+
+  ran_due : (s : Status) (bytes : List ℕ) → AreSim words → IsFit bytes → RanAs old new bytes s → IsDue s words bytes
+  ran_due Done bytes w f r = (w, f, (r.0.0, r.0.1), r.1)
+  ran_due Usage bytes w f r = absurd r
+  ran_due PolicyRefused bytes w f r = (w, f, r.0)
+  ran_due Script bytes w f r = (w, f, (r.0.0, r.0.1), r.1)
+  ran_due ReadFault bytes w f r = absurd r
+  ran_due WriteFault bytes w f r = absurd r
+  ran_due NoMemory bytes w f r = absurd r
+  ran_due TooLong bytes w f r = absurd r
+
+  result_due : (s : Status) → IsGiven s → (s ≡ ReadFault → ⊥) → Run s → (bytes : List ℕ) → left ≡ Some bytes → IsDue s words bytes
+  result_due s g r (refused_words n e) bytes is = subst (λ x. IsDue x words bytes) (sym (given_is risen old new Usage (last_line Usage) s g e).0) n
+  result_due s g r (failed_read w h e) bytes is = absurd (r (given_is risen old new ReadFault (last_line ReadFault) s g e).0)
+  result_due s g r (read_too_long w h e) bytes is =
+      subst (λ x. IsDue x words bytes) (sym (given_is risen old new TooLong (last_line TooLong) s g e).0) (w, told left (λ b. 67108864 < length b) bytes is h)
+  result_due s g r (lacked_memory w e a) bytes is = absurd (subst IsGiven e g)
+  result_due s g r (ran w input fit same end text) bytes is =
+      let e : input ≡ bytes = told left (λ b. input ≡ b) bytes is same in
+      ran_due s bytes w (subst IsFit e fit) (subst (λ x. RanAs old new x s) e (ran_as risen old new input s g text))
+
+  -- words and an input are due one status
+  due_once : (bytes : List ℕ) (s t : Status) → IsDue s words bytes → IsDue t words bytes → s ≡ t
+  due_once bytes Usage Usage d e = refl
+  due_once bytes Usage TooLong d e = absurd (d e.0)
+  due_once bytes Usage PolicyRefused d e = absurd (d e.0)
+  due_once bytes Usage Script d e = absurd (d e.0)
+  due_once bytes Usage Done d e = absurd (d e.0)
+  due_once bytes TooLong Usage d e = absurd (e d.0)
+  due_once bytes TooLong TooLong d e = refl
+  due_once bytes TooLong PolicyRefused d e = absurd (omega (arith, d.1, e.1))
+  due_once bytes TooLong Script d e = absurd (omega (arith, d.1, e.1))
+  due_once bytes TooLong Done d e = absurd (omega (arith, d.1, e.1))
+  due_once bytes PolicyRefused Usage d e = absurd (e d.0)
+  due_once bytes PolicyRefused TooLong d e = absurd (omega (arith, d.1, e.1))
+  due_once bytes PolicyRefused PolicyRefused d e = refl
+  due_once bytes PolicyRefused Script d e = absurd (d.2 e.2.0 e.2.1)
+  due_once bytes PolicyRefused Done d e = absurd (d.2 e.2.0 e.2.1)
+  due_once bytes Script Usage d e = absurd (e d.0)
+  due_once bytes Script TooLong d e = absurd (omega (arith, d.1, e.1))
+  due_once bytes Script PolicyRefused d e = absurd (e.2 d.2.0 d.2.1)
+  due_once bytes Script Script d e = refl
+  due_once bytes Script Done d e = absurd (let f = sym d.3 ∙ e.3 in cc)
+  due_once bytes Done Usage d e = absurd (e d.0)
+  due_once bytes Done TooLong d e = absurd (omega (arith, d.1, e.1))
+  due_once bytes Done PolicyRefused d e = absurd (e.2 d.2.0 d.2.1)
+  due_once bytes Done Script d e = absurd (let f = sym d.3 ∙ e.3 in cc)
+  due_once bytes Done Done d e = refl
+  due_once bytes ReadFault t d e = absurd d
+  due_once bytes WriteFault t d e = absurd d
+  due_once bytes NoMemory t d e = absurd d
+  due_once bytes s ReadFault d e = absurd e
+  due_once bytes s WriteFault d e = absurd e
+  due_once bytes s NoMemory d e = absurd e
+
+  exact_for : (result : Status) → Run result → (bytes : List ℕ) → left ≡ Some bytes → (status : Status) → IsDue status words bytes → IsOrFails status result
+  exact_for Done h bytes is status d = inl (due_once bytes Done status (result_due Done tt (λ e. cc) h bytes is) d)
+  exact_for Usage h bytes is status d = inl (due_once bytes Usage status (result_due Usage tt (λ e. cc) h bytes is) d)
+  exact_for PolicyRefused h bytes is status d = inl (due_once bytes PolicyRefused status (result_due PolicyRefused tt (λ e. cc) h bytes is) d)
+  exact_for Script h bytes is status d = inl (due_once bytes Script status (result_due Script tt (λ e. cc) h bytes is) d)
+  exact_for ReadFault h bytes is status d = inr (inl refl)
+  exact_for WriteFault h bytes is status d = inr (inr (inl refl))
+  exact_for NoMemory h bytes is status d = inr (inr (inr refl))
+  exact_for TooLong h bytes is status d = inl (due_once bytes TooLong status (result_due TooLong tt (λ e. cc) h bytes is) d)
+
+  pub exact : (result : Status) → Run result → IfSome left (λ bytes. (status : Status) → IsDue status words bytes → IsOrFails status result)
+  exact result h = if_told left _ (exact_for result h)
+
+  in_front : (bytes : List ℕ) (status : Status) (text : List ℕ) → IsText unread status words bytes text → WritesFront old new text → WritesSome unread words bytes old new
+  in_front bytes status text t (front, is, a) = (front, (status, text, t, is), a)
+
+  policy_text : (bytes : List ℕ) (policy : Policy) → AreSim words → IsFit bytes → HasPolicy policy bytes → (b : Bool) → all_packets (script_lines bytes) ≡ b → IsText unread (cond b Done Script) words bytes (report_text policy bytes ++ last_line (cond b Done Script))
+  policy_text bytes policy w f h true e = ((w, f, (policy, h), e), (policy, h, refl))
+  policy_text bytes policy w f h false e = ((w, f, (policy, h), e), (policy, h, refl))
+
+  front_of : (s : Status) → ((due : Status) (text : List ℕ) → Ends risen old new due text s → WritesFront old new text) → Run s → (bytes : List ℕ) → left ≡ Some bytes → WritesSome unread words bytes old new
+  front_of s f (refused_words n e) bytes is = in_front bytes Usage (last_line Usage) (n, refl) (f Usage (last_line Usage) e)
+  front_of s f (failed_read w u e) bytes is = in_front bytes ReadFault (last_line ReadFault) (w, u, refl) (f ReadFault (last_line ReadFault) e)
+  front_of s f (read_too_long w h e) bytes is =
+      in_front bytes TooLong (last_line TooLong) ((w, told left (λ b. 67108864 < length b) bytes is h), refl) (f TooLong (last_line TooLong) e)
+  front_of s f (lacked_memory w e a) bytes is = in_front bytes NoMemory [] refl ([], ([], refl), a)
+  front_of s f (ran w input fit same end text) bytes is =
+      let e : input ≡ bytes = told left (λ b. input ≡ b) bytes is same in
+      run_front bytes (subst IsFit e fit) w (subst (λ x. RunsText risen old new x s) e text)
+    where
+      run_front : (bytes : List ℕ) → IsFit bytes → AreSim words → RunsText risen old new bytes s → WritesSome unread words bytes old new
+      run_front bytes fit w (inl (policy, has, e)) =
+          in_front bytes (due_of (script_lines bytes)) (told_of policy [] (script_lines bytes)) (policy_text bytes policy w fit has (all_packets (script_lines bytes)) refl)
+          (f (due_of (script_lines bytes)) (told_of policy [] (script_lines bytes)) e)
+      run_front bytes fit w (inr (inl (n, e))) = in_front bytes PolicyRefused (last_line PolicyRefused) ((w, fit, n), refl) (f PolicyRefused (last_line PolicyRefused) e)
+      run_front bytes fit w (inr (inr (e, a))) = in_front bytes NoMemory [] refl ([], ([], refl), a)
+
+  pub fault_front : Run WriteFault → IfSome left (λ bytes. WritesSome unread words bytes old new)
+  fault_front h = if_told left _ (front_of WriteFault (λ due text e. e.1) h)
+
+  pub memory_front : Run NoMemory → IfSome left (λ bytes. WritesSome unread words bytes old new)
+  memory_front h = if_told left _ (front_of NoMemory (λ due text e. e) h)
