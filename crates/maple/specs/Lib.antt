@@ -11,5 +11,6 @@ pub mod Report
 pub mod Rules
 pub mod Running
 pub mod Runs
+pub mod Statuses
 pub mod Tokens
 pub mod Words

@@ -17,13 +17,25 @@ pub enum Learnt {
 #[derive(Drop)]
 pub enum Line {
     /// A packet at this port hit a rule.
-    Hit { port: u16, actions: Actions },
+    Hit {
+        port: u16,
+        actions: Actions,
+    },
     /// A packet at this port came to the controller: by a rule for reason 1, by none for reason 0.
-    Miss { port: u16, reason: u8 },
+    Miss {
+        port: u16,
+        reason: u8,
+    },
     /// What the controller decided of it.
-    Answer { port: u16, decision: Decision, learnt: Learnt },
+    Answer {
+        port: u16,
+        decision: Decision,
+        learnt: Learnt,
+    },
     /// Its run needed more steps than the budget.
-    SpentRun { port: u16 },
+    SpentRun {
+        port: u16,
+    },
 }
 
 /// Writes a line of the report at the end of a text.

@@ -19,12 +19,7 @@ use policy_lang::Policy;
 use std::alloc::Global;
 
 /// Runs the packet lines of a script, and writes the report and the last line.
-pub fn run_script<O: Sink>(
-    alloc: Global,
-    policy: &Policy,
-    script: &[u8],
-    output: &mut O,
-) -> Status
+pub fn run_script<O: Sink>(alloc: Global, policy: &Policy, script: &[u8], output: &mut O) -> Status
     requires { AsksNothing policy.now }
     ensures { Ends (HasRisen (O.failed output.old) (O.failed output.new)) (O.taken output.old) (O.taken output.new) (due_of (map without_end (ended_lines script.now))) (told_of policy.now [] (map without_end (ended_lines script.now))) result }
 {

@@ -1,6 +1,8 @@
 // How a run of the program ends.
+ghost use Rattle.std.specs.Prelude.{◌≡◌};
+ghost use Rattle.maple.specs.Statuses.{status_number};
 
-/// How a run of the program ends. Its number, from 0 in this order, is the exit status.
+/// How a run of the program ends.
 #[derive(Clone, Copy, Debug, PartialEq, Eq)]
 pub enum Status {
     /// The input was read and run to its end.
@@ -19,4 +21,13 @@ pub enum Status {
     NoMemory,
     /// The input has more than 67,108,864 bytes.
     TooLong,
+}
+
+impl Status {
+    /// The exit status, 0 to 7 in the order of the variants.
+    pub fn number(self) -> u8
+        ensures { result ≡ status_number self }
+    {
+        self as u8
+    }
 }

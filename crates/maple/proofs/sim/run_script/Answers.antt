@@ -16,9 +16,12 @@ loop-rest-preserved g c =
     let good : Some c.in-Some.key ≡ packet_of (without_end c.cut_line.result.0.now) = rw c.without_end.ensures at c.in-Some.ensures.packet in
     let p = c.in-Ok.ensures runs s.known in
     let piece = text_of (said c.args.policy.now runs c.in-Some.key (found runs c.in-Some.key)) in
-    let text : c.as_bytes.result.now ≡ piece = c.as_bytes.ensures.value ∙ p.0 ∙ ap (λ b. b ++ piece) c.new-text.ensures.bytes in
-    (_, _, stands_further _ _ _ _ _ _ _ _ _ runs _ (without_end c.cut_line.result.0.now) (map without_end (ended_lines c.cut_line.result.1.now)) s c.in-Some.key good c.in-Ok.known p.1
-      (subst (Appends (g.O.Sink.taken c.loop-rest.output) (g.O.Sink.taken c.put_text.new.output)) text c.in-Done.ensures.ends.1) c.in-Done.ensures.count)
+    let text : c.as_bytes.result.now ≡ piece = c.as_bytes.ensures.value ∙ p.0 ∙ ap (λ b. b ++ piece) c.new-text.ensures.bytes in (
+      _,
+      _,
+      stands_further _ _ _ _ _ _ _ _ _ runs _ (without_end c.cut_line.result.0.now) (map without_end (ended_lines c.cut_line.result.1.now)) s c.in-Some.key good c.in-Ok.known p.1
+          (subst (Appends (g.O.Sink.taken c.loop-rest.output) (g.O.Sink.taken c.put_text.new.output)) text c.in-Done.ensures.ends.1) c.in-Done.ensures.count,
+    )
 
 pub returns-in_default-put_text : goal.returns-in_default-put_text
 returns-in_default-put_text g c =

@@ -1,0 +1,321 @@
+// Runs through the top call, over memory.
+ghost use Rattle.std.specs.Prelude.{None};
+
+use crate::status::Status;
+use crate::top::maple;
+use maple_base::{Bytes, Words};
+use maple_io::{Got, MemSink, MemSource, Source};
+use std::alloc::{AllocError, Global};
+use std::process::Abort;
+use std::test::Fail;
+
+fn bytes_of(alloc: Global, text: &str) -> Result<Vec<u8>, AllocError> {
+    Vec::from_slice(alloc, text.as_bytes())
+}
+
+fn words_of(alloc: Global, texts: &[&str]) -> Result<Words, AllocError> {
+    let mut words = Vec::new(alloc);
+    for text in texts {
+        words.push(Bytes::new(bytes_of(alloc, text)?))?;
+    }
+    Ok(Words::new(words))
+}
+
+// Runs `sim` on an input, where the reads and the writes of these numbers fail, and wants this
+// status and these bytes.
+fn wants(
+    rt: &impl Abort,
+    alloc: Global,
+    input: &str,
+    read_fails: &[u64],
+    write_fails: &[u64],
+    status: Status,
+    output: &str,
+) -> Result<(), AllocError> {
+    let words = words_of(alloc, &["sim"])?;
+    let mut source = MemSource::new(bytes_of(alloc, input)?, Vec::from_slice(alloc, read_fails)?);
+    let mut sink = MemSink::new(Vec::from_slice(alloc, write_fails)?);
+    let got = maple(&(), alloc, &words, &mut source, &mut sink);
+    assert_eq!(rt; got, status, "{input}");
+    assert_eq!(rt; sink.bytes(), output.as_bytes(), "{input}");
+    Ok(())
+}
+
+// The same where nothing fails.
+fn gives(
+    rt: &impl Abort,
+    alloc: Global,
+    input: &str,
+    status: Status,
+    output: &str,
+) -> Result<(), AllocError> {
+    wants(rt, alloc, input, &[], &[], status, output)
+}
+
+#[test]
+fn a_miss_an_answer_and_hits(rt: HostRuntime) -> Result<(), Fail> {
+    let alloc = rt.alloc();
+    gives(&rt, alloc, "policy { drop; }", Status::Done, "end\n")?;
+    gives(
+        &rt,
+        alloc,
+        "policy { out 2; }\n%%\npacket 1 1\npacket 1 1\n",
+        Status::Done,
+        "miss c1 1 0\nanswer s1 1 out 2 learned\nhit c1 1 out 2\nend\n",
+    )?;
+    gives(
+        &rt,
+        alloc,
+        "policy { drop; }\n%%\npacket 1 007 tp_dst=80\npacket 1 65535 dl_type=2054",
+        Status::Done,
+        "miss c1 7 0\nanswer s1 7 drop learned\nhit c1 65535 drop\nend\n",
+    )?;
+    gives(&rt, alloc, "", Status::Policy, "refused policy\n")?;
+    Ok(())
+}
+
+#[test]
+fn words(rt: HostRuntime) -> Result<(), Fail> {
+    let alloc = rt.alloc();
+    let lines: [&[&str]; 6] = [&[], &["simm"], &["sim", "sim"], &["--"], &[""], &["SIM"]];
+    for texts in lines {
+        let words = words_of(alloc, texts)?;
+        let content = bytes_of(alloc, "policy { drop; }")?;
+        let mut source = MemSource::new(content, Vec::new(alloc));
+        let mut sink = MemSink::new(Vec::new(alloc));
+        let got = maple(&(), alloc, &words, &mut source, &mut sink);
+        assert_eq!(rt; got, Status::Usage);
+        assert_eq!(rt; got.number(), 1);
+        assert_eq!(rt; sink.bytes(), b"refused usage\n".as_slice());
+    }
+    Ok(())
+}
+
+// What each policy decides of a packet at port 1.
+#[test]
+fn policies(rt: HostRuntime) -> Result<(), Fail> {
+    let alloc = rt.alloc();
+    let accepted = [
+        ("policy{out 2;}", "out 2"),
+        (
+            "\tpolicy\r\n{ # a comment; out 3;\n out 2 ; drop ; }\n",
+            "out 2",
+        ),
+        ("policy { }", "drop"),
+        ("policy { drop; out 2; }", "drop"),
+        ("policy { out 0; }", "drop"),
+        ("policy { out 65280; }", "out 65280"),
+        ("policy { out 65281; }", "drop"),
+        ("policy { out 18446744073709551615; }", "drop"),
+        ("policy { out 0002; } # end", "out 2"),
+    ];
+    for (policy, decision) in accepted {
+        let input = format!(in alloc; "{policy}\n%%\npacket 1 1\n")?;
+        let output = format!(in alloc; "miss c1 1 0\nanswer s1 1 {decision} learned\nend\n")?;
+        gives(&rt, alloc, input.as_str(), Status::Done, output.as_str())?;
+    }
+    Ok(())
+}
+
+#[test]
+fn refused_policies(rt: HostRuntime) -> Result<(), Fail> {
+    let alloc = rt.alloc();
+    let refused = [
+        "policy { if pkt.tp_dst is 22 { drop; } out 2; }",
+        "policy { out x; }",
+        "policy { out 18446744073709551616; }",
+        "policy { out 0x2; }",
+        "policy { out (2); }",
+        "policy { out 1, 2; }",
+        "policy { out; }",
+        "policy { drop }",
+        "policy { drop;",
+        "policy { drop; } }",
+        "policy { drop; } drop;",
+        "policy { ; }",
+        "policy { flood; }",
+        "Policy { drop; }",
+        "policy { dropp; }",
+        "policy { drop.; }",
+        "policy learning { drop; }",
+        "table t; policy { drop; }",
+        "policy { drop; } # caf\u{e9}",
+        "policy { drop; } \u{0}",
+        "# policy { drop; }",
+        "%%\npolicy { drop; }",
+    ];
+    for policy in refused {
+        gives(&rt, alloc, policy, Status::Policy, "refused policy\n")?;
+    }
+    Ok(())
+}
+
+#[test]
+fn limits_of_a_policy(rt: HostRuntime) -> Result<(), Fail> {
+    let alloc = rt.alloc();
+    let mut nodes = String::from_str(alloc, "policy {")?;
+    for _ in 0..2048 {
+        nodes.push_str(" out 1;")?;
+    }
+    let most = format!(in alloc; "{nodes} }}")?;
+    gives(&rt, alloc, most.as_str(), Status::Done, "end\n")?;
+    let past = format!(in alloc; "{nodes} drop; }}")?;
+    gives(
+        &rt,
+        alloc,
+        past.as_str(),
+        Status::Policy,
+        "refused policy\n",
+    )?;
+    let mut long = String::from_str(alloc, "policy { drop; }")?;
+    for _ in 0..65_520 {
+        long.push_str(" ")?;
+    }
+    gives(&rt, alloc, long.as_str(), Status::Done, "end\n")?;
+    long.push_str(" ")?;
+    gives(
+        &rt,
+        alloc,
+        long.as_str(),
+        Status::Policy,
+        "refused policy\n",
+    )?;
+    Ok(())
+}
+
+#[test]
+fn packet_lines(rt: HostRuntime) -> Result<(), Fail> {
+    let alloc = rt.alloc();
+    let accepted = [
+        "packet 1 1 dl_src=281474976710655 dl_dst=1 dl_vlan=4095 nw_tos=252 nw_src=4294967295",
+        "packet 1 1 dl_vlan=65535",
+        "packet 1 1 dl_type=1536",
+        "packet 1 1 nw_proto=17 tp_src=65535 tp_dst=053",
+        "packet 1 1 nw_proto=1 tp_src=255 tp_dst=0",
+        "packet 1 1 nw_proto=2 nw_dst=1",
+    ];
+    for line in accepted {
+        let input = format!(in alloc; "policy {{ out 2; }}\n%%\n{line}\n")?;
+        gives(
+            &rt,
+            alloc,
+            input.as_str(),
+            Status::Done,
+            "miss c1 1 0\nanswer s1 1 out 2 learned\nend\n",
+        )?;
+    }
+    Ok(())
+}
+
+#[test]
+fn refused_packet_lines(rt: HostRuntime) -> Result<(), Fail> {
+    let alloc = rt.alloc();
+    let refused = [
+        "",
+        "# a comment",
+        "fly 1",
+        "packet",
+        "packet 1",
+        "packet 2 1",
+        "packet 01 1",
+        "packet 1 65536",
+        "packet 1 1 ",
+        "packet 1  1",
+        "packet 1 1\r",
+        "packet 1 1 tp_dst=65536",
+        "packet 1 1 tp_dst=0x50",
+        "packet 1 1 tp_dst=",
+        "packet 1 1 tp_dst",
+        "packet 1 1 tp_dst=80 tp_dst=80",
+        "packet 1 1 in_port=1",
+        "packet 1 1 dl_pcp=1",
+        "packet 1 1 dl_vlan=4096",
+        "packet 1 1 dl_type=1535",
+        "packet 1 1 dl_type=33024",
+        "packet 1 1 dl_type=2054 nw_src=1",
+        "packet 1 1 nw_tos=1",
+        "packet 1 1 nw_proto=1 tp_src=256",
+        "packet 1 1 nw_proto=2 tp_dst=1",
+        "%%",
+    ];
+    for line in refused {
+        let input = format!(in alloc; "policy {{ out 2; }}\n%%\npacket 1 1\n{line}\npacket 1 1\n")?;
+        let output = "miss c1 1 0\nanswer s1 1 out 2 learned\nrefused script\n";
+        gives(&rt, alloc, input.as_str(), Status::Script, output)?;
+    }
+    Ok(())
+}
+
+#[test]
+fn failing_reads_and_writes(rt: HostRuntime) -> Result<(), Fail> {
+    let alloc = rt.alloc();
+    let input = "policy { out 2; }\n%%\npacket 1 1\npacket 1 1\n";
+    for number in [1, 2] {
+        wants(
+            &rt,
+            alloc,
+            input,
+            &[number],
+            &[],
+            Status::ReadFault,
+            "refused read\n",
+        )?;
+        wants(&rt, alloc, input, &[number], &[1], Status::WriteFault, "")?;
+    }
+    wants(
+        &rt,
+        alloc,
+        "policy { drop; }",
+        &[],
+        &[1],
+        Status::WriteFault,
+        "",
+    )?;
+    let written = [
+        "",
+        "miss c1 1 0\nanswer s1 1 out 2 learned\n",
+        "miss c1 1 0\nanswer s1 1 out 2 learned\nhit c1 1 out 2\n",
+    ];
+    for (at, output) in written.iter().enumerate() {
+        wants(
+            &rt,
+            alloc,
+            input,
+            &[],
+            &[at as u64 + 1],
+            Status::WriteFault,
+            output,
+        )?;
+    }
+    Ok(())
+}
+
+// Gives blanks for ever.
+#[derive(Drop)]
+struct Endless;
+
+impl Source for Endless {
+    ghost left = { λ s. None };
+
+    ghost failed = { λ s. 0 };
+
+    fn read(&mut self, into: &mut [u8]) -> Got {
+        into.fill(b' ');
+        Got::Bytes(into.len())
+    }
+
+    fn faults(&self) -> u64 {
+        0
+    }
+}
+
+#[test]
+fn an_input_without_an_end(rt: HostRuntime) -> Result<(), Fail> {
+    let alloc = rt.alloc();
+    let words = words_of(alloc, &["sim"])?;
+    let mut sink = MemSink::new(Vec::new(alloc));
+    let got = maple(&(), alloc, &words, &mut Endless, &mut sink);
+    assert_eq!(rt; got, Status::TooLong);
+    assert_eq!(rt; sink.bytes(), b"refused input\n".as_slice());
+    Ok(())
+}
