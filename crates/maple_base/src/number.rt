@@ -28,9 +28,7 @@ fn with_digit(number: u64, digit: u8) -> Option<u64>
     requires { IsTrue (is_digit digit) }
     ensures { SomeIff result (10 * number + (digit - 48) < 2 ^ 64) (10 * number + (digit - 48)) }
 {
-    number
-        .checked_mul(10)?
-        .checked_add((digit - b'0') as u64)
+    number.checked_mul(10)?.checked_add((digit - b'0') as u64)
 }
 
 fn is_digit(byte: u8) -> bool
