@@ -10,7 +10,7 @@ use Rattle.trace_tree.specs.Growth.{insert, leaf_of, found}
 use Rattle.maple.specs.declared.report.Line.TheVariants.{Miss, Answer}
 use Rattle.maple.specs.declared.report.Learnt.TheVariants.{Learned, Rows}
 use Rattle.maple.specs.Knowing.{AsksNothing, Knows}
-use Rattle.maple.specs.Rules.{rules_needed}
+use Rattle.rule_builder.specs.Rules.{rules_needed}
 use Rattle.maple.specs.Report.{plain, run_of, with_run, need, lacks_room, learnt, answered, said, learned, after, spelled, text_of}
 
 module _ (policy : Policy) (asks : AsksNothing policy) (k : Key) (d : Decision) (is : plain policy k ≡ Decided d) where

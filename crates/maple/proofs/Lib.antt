@@ -1,14 +1,10 @@
 pub mod Endings
 pub mod FirstLines
-pub mod FirstWords
-pub mod Grammar
 pub mod Known
 pub mod Learning
 pub mod Marks
-pub mod Numbers
 pub mod OneWord
 pub mod Pieces
-pub mod Ports
 pub mod Plain
 pub mod Runs
 pub mod Splits

@@ -14,7 +14,7 @@ use Rattle.policy_lang.specs.Blocks.{statements_of}
 use Rattle.policy_lang.specs.Courses.{Going, Coursing, items_of, course_of, course_statement, course_block, courses, block_course, Stops, numbers_course}
 use Rattle.maple_base.specs.declared.decision.Outcome.TheVariants.{Decided}
 use Rattle.maple_base.specs.declared.decision.Decision.TheVariants.{Drop as Dropped}
-use Rattle.maple.specs.PolicyText.{Lexeme, SpellsStatement, SpellsAll, IsTextOf}
+use Rattle.policy_text.specs.PolicyText.{Lexeme, SpellsStatement, SpellsAll, IsTextOf}
 use Rattle.maple.specs.Knowing.{AsksNothing}
 
 abbrev statement_coursing : Statement → Coursing

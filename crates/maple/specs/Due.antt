@@ -6,7 +6,7 @@ use Rattle.maple.specs.declared.status.Status.{Status}
 use Rattle.maple.specs.declared.status.Status.TheVariants.{Done, Usage, Policy as PolicyRefused, Script, ReadFault, WriteFault, NoMemory, TooLong}
 use Rattle.maple.specs.Fronts.{IsFront}
 use Rattle.maple.specs.Lines.{policy_part, script_lines}
-use Rattle.maple.specs.PolicyText.{IsTextOf}
+use Rattle.policy_text.specs.PolicyText.{IsTextOf}
 use Rattle.maple.specs.PacketLine.{packets_in, all_packets}
 use Rattle.maple.specs.Report.{report, text_of}
 

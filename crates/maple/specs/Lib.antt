@@ -1,16 +1,11 @@
 pub mod Due
 pub mod Ends
-pub mod Evaluated
 pub mod Fronts
 pub mod Knowing
 pub mod Lines
 pub mod PacketLine
-pub mod Parsing
-pub mod PolicyText
 pub mod Report
-pub mod Rules
 pub mod Running
 pub mod Runs
 pub mod Statuses
-pub mod Tokens
 pub mod Words

@@ -20,7 +20,7 @@ use Rattle.maple.specs.declared.report.Line.{Line}
 use Rattle.maple.specs.declared.report.Line.TheVariants.{Hit, Miss, Answer, SpentRun}
 use Rattle.maple.specs.declared.report.Learnt.{Learnt}
 use Rattle.maple.specs.declared.report.Learnt.TheVariants.{Learned, Rows}
-use Rattle.maple.specs.Rules.{rules_of, rules_needed}
+use Rattle.rule_builder.specs.Rules.{rules_of, rules_needed}
 
 -- ports, joined by commas
 abbrev pub joined_ports : List ℕ → List ℕ

@@ -6,14 +6,11 @@ pub mod input;
 pub mod lines;
 pub mod output;
 pub mod packet_line;
-pub mod policy_eval;
-pub mod policy_text;
 pub mod report;
 pub mod sim;
 pub mod status;
 #[cfg(test)]
 mod tests;
-pub mod tokens;
 pub mod top;
 pub mod world;
 

@@ -10,7 +10,7 @@ ghost use Rattle.maple.specs.Due.{AreSim, IsDue, IsOrFails, IsOrUnwritten, Repor
 use crate::finish::finish;
 use crate::input::{ReadStop, read_all};
 use crate::lines::split_input;
-use crate::policy_text::{ReadError, read_policy};
+use policy_text::{ReadError, read_policy};
 use crate::sim::run_script;
 use crate::status::Status;
 use maple_base::Words;

@@ -6,7 +6,7 @@ ghost use Rattle.trace_tree.specs.Growth.{found};
 ghost use Rattle.maple.specs.Knowing.{AsksNothing, Knows};
 ghost use Rattle.maple.specs.Report.{said, after, text_of, outcome_actions};
 
-use crate::policy_eval::eval;
+use policy_eval::eval;
 use crate::report::{Learnt, Line, push_line};
 use maple_base::{Actions, Blank, Decision, Key, NoMemory, Outcome};
 use policy_lang::Policy;

@@ -1,6 +1,12 @@
+pub mod Admits
 pub mod Apart
+pub mod Bounds
+pub mod Branching
 pub mod Children
+pub mod Clears
 pub mod Growths
 pub mod Places
 pub mod Puts
+pub mod Refusals
 pub mod Rolls
+pub mod Walks

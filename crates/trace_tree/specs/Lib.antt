@@ -1,5 +1,9 @@
 pub mod Apart
+pub mod Bounds
+pub mod Clears
 pub mod Growth
+pub mod Laws
 pub mod Shape
 pub mod ShapeCode
 pub mod TreeOf
+pub mod Walks

@@ -1,9 +1,16 @@
 //! Trees of recorded runs.
 #![tactic(auto)]
 
-pub mod grow;
+mod clear;
+mod grow;
+pub mod laws;
 pub mod node;
 pub mod tree;
+mod walk;
 
+pub use laws::scratch_laws;
 pub use node::{Leaf, Node, Trace};
 pub use tree::Tree;
+
+#[cfg(test)]
+mod tests;

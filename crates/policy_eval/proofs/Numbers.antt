@@ -1,0 +1,59 @@
+-- The numbers of expressions that were evaluated so far, ahead of the rest.
+use Rattle.std.proofs.Common.{◌≡◌, ℕ, ◌+◌, ◌<◌, ◌≤◌, suc, add-one, List, [], ◌∷◌, ◌++◌, length, drop, get_or, refl, sym, ap, ◌∙◌}
+use Rattle.std.specs.Prelude.{Some, None}
+use Rattle.std.proofs.Math.Seq.{drop-cons}
+use Rattle.std.proofs.lemmas.List.{drop_all}
+use Rattle.maple_base.specs.declared.key.Key.{Key}
+use Rattle.policy_lang.specs.declared.Expr.{Expr}
+use Rattle.policy_lang.specs.Values.{Datum, number_in}
+use Rattle.policy_lang.specs.Evaluation.{AllGiven, ahead_of, with_number, value_of, numbers_of}
+
+abbrev pub put_ahead : List ℕ → AllGiven → AllGiven
+put_ahead [] g = g
+put_ahead (n ∷ ns) g = ahead_of n (put_ahead ns g)
+
+pub ahead_none : (ns : List ℕ) → put_ahead ns None ≡ None
+ahead_none [] = refl
+ahead_none (n ∷ ns) = ap (ahead_of n) (ahead_none ns)
+
+pub ahead_all : (ns : List ℕ) (left : ℕ) → put_ahead ns (Some ([], left)) ≡ Some (ns, left)
+ahead_all [] left = refl
+ahead_all (n ∷ ns) left = ap (ahead_of n) (ahead_all ns left)
+
+pub ahead_push : (ns : List ℕ) (n : ℕ) (g : AllGiven) → put_ahead (ns ++ n ∷ []) g ≡ put_ahead ns (ahead_of n g)
+ahead_push [] n g = refl
+ahead_push (m ∷ ns) n g = ap (ahead_of m) (ahead_push ns n g)
+
+pub numbers_next : (es : List Expr) (i : ℕ) (d : Expr) (k : Key) (left : ℕ) → i < length es
+    → numbers_of (drop i es) k left ≡ with_number (value_of (get_or es i d) k left) (numbers_of (drop (suc i) es) k)
+numbers_next es i d k left h = ap (λ l. numbers_of l k left) (drop-cons es i d h)
+
+-- one more number
+pub numbers_more : (es : List Expr) (i : ℕ) (d : Expr) (k : Key) (steps left rest : ℕ) (x : Datum) (ns : List ℕ)
+    → i < length es → d ≡ get_or es i d → value_of d k left ≡ Some (x, rest) → numbers_of es k steps ≡ put_ahead ns (numbers_of (drop i es) k left)
+    → numbers_of es k steps ≡ put_ahead (ns ++ number_in x ∷ []) (numbers_of (drop (i + 1) es) k rest)
+numbers_more es i d k steps left rest x ns h q v e =
+    let after : AllGiven = numbers_of (drop (i + 1) es) k rest in
+    e
+    ∙ ap (put_ahead ns)
+    (numbers_next es i d k left h
+    ∙ ap (λ f. with_number (value_of f k left) (numbers_of (drop (suc i) es) k)) (sym q)
+    ∙ ap (λ g. with_number g (numbers_of (drop (suc i) es) k)) v
+    ∙ ap (λ j. ahead_of (number_in x) (numbers_of (drop j es) k rest)) (sym (add-one i)))
+    ∙ sym (ahead_push ns (number_in x) after)
+
+-- no step was left for the next
+pub numbers_spent : (es : List Expr) (i : ℕ) (d : Expr) (k : Key) (steps left : ℕ) (ns : List ℕ)
+    → i < length es → d ≡ get_or es i d → value_of d k left ≡ None → numbers_of es k steps ≡ put_ahead ns (numbers_of (drop i es) k left) → numbers_of es k steps ≡ None
+numbers_spent es i d k steps left ns h q v e =
+    e
+    ∙ ap (put_ahead ns)
+    (numbers_next es i d k left h
+    ∙ ap (λ f. with_number (value_of f k left) (numbers_of (drop (suc i) es) k)) (sym q)
+    ∙ ap (λ g. with_number g (numbers_of (drop (suc i) es) k)) v)
+    ∙ ahead_none ns
+
+-- behind the last
+pub numbers_all : (es : List Expr) (i : ℕ) (k : Key) (steps left : ℕ) (ns : List ℕ)
+    → length es ≤ i → numbers_of es k steps ≡ put_ahead ns (numbers_of (drop i es) k left) → numbers_of es k steps ≡ Some (ns, left)
+numbers_all es i k steps left ns h e = e ∙ ap (λ l. put_ahead ns (numbers_of l k left)) (drop_all i es h) ∙ ahead_all ns left

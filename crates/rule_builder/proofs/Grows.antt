@@ -1,0 +1,97 @@
+-- How many rules a further run brings.
+use Rattle.std.proofs.Common.{◌≡◌, ℕ, zero, suc, ◌+◌, ◌≤◌, true, false, cond, List, [], ◌∷◌, length, ap, subst, ⊎_elim, arith}
+use Rattle.std.specs.Prelude.{◌==◌, ◌&&◌}
+use Rattle.std.proofs.lemmas.Bool.{cases_order, eq-eqb}
+use Rattle.std.proofs.lemmas.Bool.Decides.{nat_tests}
+use Rattle.maple_base.specs.declared.items.Item.{Item}
+use Rattle.maple_base.specs.declared.items.Item.TheVariants.{Read, Test}
+use Rattle.maple_base.specs.Questions.{same_field}
+use Rattle.trace_tree.specs.declared.node.Leaf.{Leaf}
+use Rattle.trace_tree.specs.Shape.{Shape, Branches, Empty, Ends, Reads, Tests, NoBranch, Branch}
+use Rattle.trace_tree.specs.Growth.{change, insert, child, admits}
+use Rattle.trace_tree.proofs.Growths.{both, admits_Empty}
+use Rattle.trace_tree.proofs.Children.{change_here, change_ahead, change_past}
+use Rattle.rule_builder.specs.Rules.{with_barrier, levels_of, most_levels}
+use Rattle.rule_builder.specs.Counts.{count_of, count_in}
+use Rattle.rule_builder.specs.Laws.{FewLevels, FewMore}
+use Rattle.rule_builder.proofs.Counted.{needed_count}
+
+barrier_mono : (a b : ℕ) → a ≤ b → with_barrier a ≤ with_barrier b
+barrier_mono zero b h = omega arith
+barrier_mono (suc a) zero h = absurd (omega (arith, h))
+barrier_mono (suc a) (suc b) h = omega (arith, h)
+
+mutual
+  levels_counted : (t : Shape) → levels_of t ≤ count_of t
+  levels_counted Empty = omega arith
+  levels_counted (Ends l) = omega arith
+  levels_counted (Reads f bs) = levels_counted_in bs
+  levels_counted (Tests f v n y) =
+      let a = barrier_mono (levels_of n) (count_of n) (levels_counted n) in
+      let b = levels_counted y in
+      omega (arith, a, b)
+
+  levels_counted_in : (bs : Branches) → most_levels bs ≤ count_in bs
+  levels_counted_in NoBranch = omega arith
+  levels_counted_in (Branch v t bs) = let a = levels_counted t in let b = levels_counted_in bs in omega (arith, a, b)
+
+pub few_levels : FewLevels
+few_levels t = let a = levels_counted t in let e = needed_count t in omega (arith, a, e)
+
+-- one more run below a node brings these further rules
+abbrev Grew : ℕ → ℕ → ℕ → Type 0
+Grew old new n = new ≤ old + n
+
+change_grew : (bs : Branches) (v : ℕ) (g : Shape → Shape) (n : ℕ) → Grew (count_of (child v bs)) (count_of (g (child v bs))) n → Grew 0 (count_of (g Empty)) n → Grew (count_in bs) (count_in (change v g bs)) n
+change_grew NoBranch v g n at empty = omega (arith, empty)
+change_grew (Branch w t bs) v g n at empty =
+    ⊎_elim
+    (λ same.
+    let own : child v (Branch w t bs) ≡ t = ap (λ b. cond b t (child v bs)) (eq-eqb v w same) in
+    let h = subst (λ u. Grew (count_of u) (count_of (g u)) n) own at in
+    let e = ap count_in (change_here v g w t bs same) in
+    omega (arith, h, e))
+    (⊎_elim (λ lt. let e = ap count_in (change_ahead v g w t bs lt) in omega (arith, e, empty))
+    (λ gt.
+    let ne : (v == w) ≡ false = grind (arith, nat_tests) in
+    let next : child v (Branch w t bs) ≡ child v bs = ap (λ b. cond b t (child v bs)) ne in
+    let h = change_grew bs v g n (subst (λ u. Grew (count_of u) (count_of (g u)) n) next at) empty in
+    let e = ap count_in (change_past v g w t bs gt) in
+    omega (arith, h, e)))
+    (cases_order v w)
+
+barrier_more : (a b n : ℕ) → b ≤ a + n → with_barrier b ≤ with_barrier a + (n + 1)
+barrier_more a zero n h = omega arith
+barrier_more zero (suc b) n h = omega (arith, h)
+barrier_more (suc a) (suc b) n h = omega (arith, h)
+
+insert_grew : (is : List Item) (leaf : Leaf) (t : Shape) → admits is t ≡ true → Grew (count_of t) (count_of (insert is leaf t)) (length is + 1)
+insert_grew [] leaf Empty a = omega arith
+insert_grew [] leaf (Ends l) a = absurd (cc)
+insert_grew [] leaf (Reads h bs) a = absurd (cc)
+insert_grew [] leaf (Tests h w n y) a = absurd (cc)
+insert_grew (Read f v ∷ is) leaf Empty a = let h = insert_grew is leaf Empty (admits_Empty is) in omega (arith, h)
+insert_grew (Read f v ∷ is) leaf (Ends l) a = absurd (cc)
+insert_grew (Read f v ∷ is) leaf (Reads h bs) a =
+    let p = both (same_field f h) (admits is (child v bs)) a in
+    let i = change_grew bs v (insert is leaf) (length is + 1) (insert_grew is leaf (child v bs) p.1) (insert_grew is leaf Empty (admits_Empty is)) in
+    omega (arith, i)
+insert_grew (Read f v ∷ is) leaf (Tests h w n y) a = absurd (cc)
+insert_grew (Test f v b ∷ is) leaf (Ends l) a = absurd (cc)
+insert_grew (Test f v b ∷ is) leaf (Reads h bs) a = absurd (cc)
+insert_grew (Test f v true ∷ is) leaf Empty a = let h = insert_grew is leaf Empty (admits_Empty is) in omega (arith, h)
+insert_grew (Test f v false ∷ is) leaf Empty a =
+    let h = insert_grew is leaf Empty (admits_Empty is) in
+    let b = barrier_more 0 (count_of (insert is leaf Empty)) (length is + 1) h in
+    omega (arith, b)
+insert_grew (Test f v true ∷ is) leaf (Tests h w n y) a =
+    let p = both (same_field f h && v == w) (admits is y) a in
+    let i = insert_grew is leaf y p.1 in
+    omega (arith, i)
+insert_grew (Test f v false ∷ is) leaf (Tests h w n y) a =
+    let p = both (same_field f h && v == w) (admits is n) a in
+    let i = barrier_more (count_of n) (count_of (insert is leaf n)) (length is + 1) (insert_grew is leaf n p.1) in
+    omega (arith, i)
+
+pub few_more : FewMore
+few_more is leaf t a = let h = insert_grew is leaf t a in let e = needed_count t in let f = needed_count (insert is leaf t) in omega (arith, h, e, f)

@@ -1,0 +1,69 @@
+-- The promise on the rules of a tree: what a switch may choose is the rule of the run that the key finds.
+use Rattle.std.specs.Prelude.{◌≡◌, ◌⊎◌, ◌++◌, true, false, List, [], ◌∷◌, None, Contains, MatchOption, IfSome}
+use Rattle.std.specs.List.Sorted.{IsPermutation}
+use Rattle.maple_base.specs.declared.key.Key.{Key}
+use Rattle.maple_base.specs.declared.key.Match.{Match}
+use Rattle.maple_base.specs.declared.decision.Rule.{Rule}
+use Rattle.maple_base.specs.declared.items.Item.{Item}
+use Rattle.maple_base.specs.declared.items.Item.TheVariants.{Read, Test}
+use Rattle.maple_base.specs.Keys.{fix, anything}
+use Rattle.maple_base.specs.Choice.{fits, MayChoose}
+use Rattle.trace_tree.specs.declared.node.Trace.{Trace}
+use Rattle.trace_tree.specs.Shape.{Shape, Empty}
+use Rattle.trace_tree.specs.Growth.{found, scratch, AreAdmitted, AllAskOnce}
+use Rattle.rule_builder.specs.Rules.{facts_of, barriers_of, fact_actions, rules_of}
+
+-- a match with the reads and the true tests of these items fixed
+abbrev pub fixed_by : List Item → Match → Match
+fixed_by [] m = m
+fixed_by (Read f v ∷ is) m = fixed_by is (fix f v m)
+fixed_by (Test f v true ∷ is) m = fixed_by is (fix f v m)
+fixed_by (Test f v false ∷ is) m = fixed_by is m
+
+-- the tree's fact of this run: it fixes what the run read or found true, and does what the run decided
+pub record IsFactOf (t : Shape) (x : Trace) (r : Rule) : Type 0 where
+  pub there : Contains (facts_of t anything 0) r
+  pub fixes : r.of ≡ fixed_by x.items anything
+  pub does : r.actions ≡ fact_actions x.decision
+
+-- a rule that sends to the controller
+abbrev pub IsBarrier : Rule → Type 0
+IsBarrier r = r.actions ≡ 0xfffd ∷ []
+
+-- a table of the tree's rules, in any order
+pub record HoldsRules (t : Shape) (table : List Rule) : Type 0 where
+  pub all : (r : Rule) → Contains (rules_of t) r → Contains table r
+  pub only : (r : Rule) → Contains table r → Contains (rules_of t) r
+
+-- a table of all barriers of the tree, further barriers, and of the facts only some
+pub record Shields (t : Shape) (table : List Rule) : Type 0 where
+  pub barriers : (b : Rule) → Contains (barriers_of t anything 0) b → Contains table b
+  pub rest : (r : Rule) → Contains table r → IsBarrier r ⊎ Contains (facts_of t anything 0) r
+
+-- the tree's rules: what may be chosen is the found run's fact, and a barrier where none is found
+abbrev pub IsFoundRule : List Trace → Key → Rule → Type 0
+IsFoundRule runs k r =
+    MatchOption (found runs k) (Contains (barriers_of (scratch runs) anything 0) r) (λ x. IsFactOf (scratch runs) x r)
+
+-- fewer facts: it is the found run's fact or a barrier, and a barrier where none is found
+abbrev pub IsFoundOrBarrier : List Trace → Key → Rule → Type 0
+IsFoundOrBarrier runs k r = MatchOption (found runs k) (IsBarrier r) (λ x. IsBarrier r ⊎ IsFactOf (scratch runs) x r)
+
+-- what holds of a list of runs and a key
+pub record ChoosesRight (runs : List Trace) (k : Key) : Type 0 where
+  pub exact : (table : List Rule) (r : Rule) → HoldsRules (scratch runs) table → MayChoose table k r → IsFoundRule runs k r
+  pub between : (table : List Rule) (r : Rule) → Shields (scratch runs) table → MayChoose table k r → IsFoundOrBarrier runs k r
+  -- where a run is found some rule may be chosen
+  pub some : (table : List Rule) → HoldsRules (scratch runs) table → IfSome (found runs k) (λ _. (r : Rule) × MayChoose table k r)
+  -- and no other
+  pub one : (table : List Rule) (r q : Rule) → HoldsRules (scratch runs) table → MayChoose table k r → MayChoose table k q → IfSome (found runs k) (λ _. r ≡ q)
+  -- where no rule fits none is found
+  pub unfit : (table : List Rule) → HoldsRules (scratch runs) table → ((r : Rule) → Contains table r → fits r k ≡ false) → found runs k ≡ None
+
+-- it holds of each list of runs that a tree admits one after the other, each asking of a fixed field no more
+abbrev pub ChoiceLaw : Type 0
+ChoiceLaw = (runs : List Trace) (k : Key) → AreAdmitted Empty runs → AllAskOnce runs → ChoosesRight runs k
+
+-- the tree's facts and barriers, each in any order, make such a table
+abbrev pub TableLaw : Type 0
+TableLaw = (t : Shape) (facts barriers : List Rule) → IsPermutation (facts_of t anything 0) facts → IsPermutation (barriers_of t anything 0) barriers → HoldsRules t (facts ++ barriers)

@@ -1,0 +1,379 @@
+// The rules of a tree of runs.
+ghost use Rattle.std.specs.Option.{option_copied};
+ghost use Rattle.trace_tree.specs.declared.node.Leaf.{Leaf as LeafData};
+ghost use Rattle.trace_tree.specs.Growth.{insert, admits, child, IsOrdered};
+ghost use Rattle.std.specs.Prelude.{IsTrue, nat_lt, length, ◌≡◌, ◌+◌, ◌^◌, ◌<◌, ◌≤◌, [], ◌∷◌, ◌++◌, IfOk, OnOk};
+ghost use Rattle.std.specs.List.Sorted.{IsPermutation, IsNonDecreasingBy};
+ghost use Rattle.maple_base.specs.Keys.{anything};
+ghost use Rattle.trace_tree.specs.TreeOf.{tree_of, branches, child_trees};
+ghost use Rattle.rule_builder.specs.Rules.{levels_of, most_levels, with_barrier, fact, barrier_behind, facts_of, facts_in, barriers_of, barriers_in, fact_actions, rules_needed};
+ghost use Rattle.rule_builder.specs.Counts.{count_of, count_in, behind, barriers_with, tree_at};
+ghost use Rattle.rule_builder.specs.Domains.{IsInDomains, AreInDomain};
+ghost use Rattle.rule_builder.specs.Chosen.{ChoiceLaw, TableLaw};
+ghost use Rattle.rule_builder.specs.Rows.{RowsOfTwo, RowsOfDrop};
+ghost use Rattle.rule_builder.specs.Laws.{NoneExact, NoneLower, LevelsLaw, BelowLaw, DistinctLaw, DomainLaw, NormalLaw, FewLevels, FewMore};
+
+use maple_base::{Actions, Decision, Field, Item, Items, Match, NoMemory, Rule, RuleList};
+use std::alloc::Global;
+use trace_tree::{Leaf, Node, Tree};
+
+/// How many priorities the rules of a tree take.
+pub fn levels(tree: &Tree) -> u64
+    requires { levels_of tree.now < 2 ^ 64 }
+    ensures { result ≡ levels_of tree.now }
+{
+    node_levels(tree.root())
+}
+
+// Down the false sides in a loop: a path has few other steps, since each of these fixes a field.
+#[cycle(levels)]
+fn node_levels(node: &Node) -> u64
+    requires { levels_of (tree_of node.now) < 2 ^ 64 }
+    ensures { result ≡ levels_of (tree_of node.now) }
+{
+    let mut node = node;
+    let mut levels: u64 = 0;
+    // tests since the last rule: their barriers count once a further rule stands on their false side
+    let mut waiting: u64 = 0;
+    loop {
+        match node {
+            Node::Empty => return levels,
+            Node::Leaf(_) => return levels + waiting + 1,
+            Node::Values { children, .. } => {
+                let most = most_levels(children);
+                return if most == 0 {
+                    levels
+                } else {
+                    levels + waiting + most
+                };
+            }
+            Node::Test { no, yes, .. } => {
+                let above = node_levels(yes);
+                if above == 0 {
+                    waiting = waiting.saturating_add(1);
+                } else {
+                    levels += waiting + above;
+                    waiting = 1;
+                }
+                node = no;
+            }
+        }
+    }
+}
+
+#[cycle(levels)]
+fn most_levels(children: &[(u64, Node)]) -> u64
+    requires { most_levels (branches (child_trees children.now)) < 2 ^ 64 }
+    ensures { result ≡ most_levels (branches (child_trees children.now)) }
+{
+    let mut most = 0;
+    for child in children {
+        let levels = node_levels(&child.1);
+        if most < levels {
+            most = levels;
+        }
+    }
+    most
+}
+
+/// How many rules a tree has.
+pub fn rules_needed(tree: &Tree) -> u64
+    requires { rules_needed tree.now < 2 ^ 64 }
+    ensures { result ≡ rules_needed tree.now }
+{
+    node_rules(tree.root())
+}
+
+#[cycle(counts)]
+fn node_rules(node: &Node) -> u64
+    requires { count_of (tree_of node.now) < 2 ^ 64 }
+    ensures { result ≡ count_of (tree_of node.now) }
+{
+    let mut node = node;
+    let mut rules: u64 = 0;
+    // tests since the last rule: their barriers count once a further rule stands on their false side
+    let mut waiting: u64 = 0;
+    loop {
+        match node {
+            Node::Empty => return rules,
+            Node::Leaf(_) => return rules + waiting + 1,
+            Node::Values { children, .. } => {
+                let all = all_rules(children);
+                return if all == 0 {
+                    rules
+                } else {
+                    rules + waiting + all
+                };
+            }
+            Node::Test { no, yes, .. } => {
+                let above = node_rules(yes);
+                if above == 0 {
+                    waiting = waiting.saturating_add(1);
+                } else {
+                    rules += waiting + above;
+                    waiting = 1;
+                }
+                node = no;
+            }
+        }
+    }
+}
+
+#[cycle(counts)]
+fn all_rules(children: &[(u64, Node)]) -> u64
+    requires { count_in (branches (child_trees children.now)) < 2 ^ 64 }
+    ensures { result ≡ count_in (branches (child_trees children.now)) }
+{
+    let mut all = 0;
+    for child in children {
+        all += node_rules(&child.1);
+    }
+    all
+}
+
+/// How many rules a tree will have with a further run of these items.
+pub fn rules_needed_with(tree: &Tree, items: &Items) -> u64
+    requires ordered { IsOrdered tree.now }
+    requires admitted { IsTrue (admits items.now tree.now) }
+    requires room { rules_needed tree.now + length items.now + 1 < 2 ^ 64 }
+    ensures { (leaf : LeafData) → result ≡ rules_needed (insert items.now leaf tree.now) }
+{
+    let rules = node_rules(tree.root());
+    rules + 1 + barriers_with(tree.root(), items.items())
+}
+
+// The barriers that a run of these items brings.
+fn barriers_with(node: &Node, items: &[Item]) -> u64
+    ensures { result ≡ barriers_with items.now (tree_of node.now) }
+{
+    let mut here = Some(node);
+    let mut barriers = 0;
+    for item in items {
+        here = match here {
+            Some(node) => behind(node, item),
+            None => None,
+        };
+        if let Item::Test { outcome: false, .. } = item {
+            let bare = match here {
+                Some(node) => !has_rules(node),
+                None => true,
+            };
+            if bare {
+                barriers += 1;
+            }
+        }
+    }
+    barriers
+}
+
+// What stands behind an answer, if it has a node.
+fn behind<'a>(node: &'a Node, item: &Item) -> Option<&'a Node>
+    ensures { tree_at (option_copied result) ≡ behind item.now (tree_of node.now) }
+{
+    match (node, item) {
+        (Node::Values { children, .. }, Item::Read { value, .. }) => child(children, *value),
+        (Node::Test { no, yes, .. }, Item::Test { outcome, .. }) => {
+            Some(if *outcome { yes } else { no })
+        }
+        _ => None,
+    }
+}
+
+fn child(children: &[(u64, Node)], value: u64) -> Option<&Node>
+    ensures { tree_at (option_copied result) ≡ child value (branches (child_trees children.now)) }
+{
+    for one in children {
+        if value == one.0 {
+            return Some(&one.1);
+        }
+    }
+    None
+}
+
+#[cycle(has)]
+fn has_rules(node: &Node) -> bool
+    ensures { result ≡ nat_lt 0 (count_of (tree_of node.now)) }
+{
+    let mut node = node;
+    loop {
+        match node {
+            Node::Empty => return false,
+            Node::Leaf(_) => return true,
+            Node::Values { children, .. } => return any_has_rules(children),
+            Node::Test { no, yes, .. } => {
+                if has_rules(yes) {
+                    return true;
+                }
+                node = no;
+            }
+        }
+    }
+}
+
+#[cycle(has)]
+fn any_has_rules(children: &[(u64, Node)]) -> bool
+    ensures { result ≡ nat_lt 0 (count_in (branches (child_trees children.now))) }
+{
+    for child in children {
+        if has_rules(&child.1) {
+            return true;
+        }
+    }
+    false
+}
+
+/// The rules of a tree.
+pub fn rules(alloc: Global, tree: &Tree) -> Result<RuleList, NoMemory>
+    requires values { IsInDomains tree.now }
+    requires room { levels_of tree.now ≤ 65000 }
+    ensures facts { IfOk result (λ list. IsPermutation (facts_of tree.now anything 0) list.facts) }
+    ensures facts_order { IfOk result (λ list. IsNonDecreasingBy (λ rule. rule.priority) list.facts) }
+    ensures barriers { IfOk result (λ list. IsPermutation (barriers_of tree.now anything 0) list.barriers) }
+    ensures barriers_order { IfOk result (λ list. IsNonDecreasingBy (λ rule. rule.priority) list.barriers) }
+{
+    let mut facts = Vec::new(alloc);
+    let mut barriers = Vec::new(alloc);
+    let root = tree.root();
+    let levels = node_levels(root);
+    let any = Match::any();
+    push_rules(root, levels, &any, 0, &mut facts, &mut barriers)?;
+    facts.sort_by_key(|rule| rule.priority)?;
+    barriers.sort_by_key(|rule| rule.priority)?;
+    Ok(RuleList::new(facts, barriers))
+}
+
+// Adds the rules of a node that takes so many levels above the base.
+#[cycle(rules)]
+fn push_rules(
+    node: &Node,
+    levels: u64,
+    of: &Match,
+    base: u64,
+    facts: &mut Vec<Rule>,
+    barriers: &mut Vec<Rule>,
+) -> Result<(), NoMemory>
+    requires levels { levels ≡ levels_of (tree_of node.now) }
+    requires values { IsInDomains (tree_of node.now) }
+    requires room { base + levels_of (tree_of node.now) ≤ 65000 }
+    ensures facts { OnOk result (IsPermutation (facts.old.items ++ facts_of (tree_of node.now) of.now base) facts.new.items) }
+    ensures barriers { OnOk result (IsPermutation (barriers.old.items ++ barriers_of (tree_of node.now) of.now base) barriers.new.items) }
+{
+    let mut node = node;
+    let mut left = levels;
+    loop {
+        match node {
+            Node::Empty => return Ok(()),
+            Node::Leaf(leaf) => return push_fact(leaf, of, base, facts),
+            Node::Values { field, children } => {
+                return push_all(children, *field, of, base, facts, barriers);
+            }
+            Node::Test {
+                field,
+                value,
+                no,
+                yes,
+            } => {
+                let above = node_levels(yes);
+                let behind = left - above;
+                let below = behind.saturating_sub(1);
+                let within = of.fixing(*field, *value);
+                push_barrier(below, &within, base, barriers)?;
+                push_rules(yes, above, &within, base + behind, facts, barriers)?;
+                left = below;
+                node = no;
+            }
+        }
+    }
+}
+
+#[cycle(rules)]
+fn push_all(
+    children: &[(u64, Node)],
+    field: Field,
+    of: &Match,
+    base: u64,
+    facts: &mut Vec<Rule>,
+    barriers: &mut Vec<Rule>,
+) -> Result<(), NoMemory>
+    requires values { AreInDomain (branches (child_trees children.now)) field }
+    requires room { base + most_levels (branches (child_trees children.now)) ≤ 65000 }
+    ensures facts { OnOk result (IsPermutation (facts.old.items ++ facts_in (branches (child_trees children.now)) field of.now base) facts.new.items) }
+    ensures barriers { OnOk result (IsPermutation (barriers.old.items ++ barriers_in (branches (child_trees children.now)) field of.now base) barriers.new.items) }
+{
+    for child in children {
+        let within = of.fixing(field, child.0);
+        let levels = node_levels(&child.1);
+        push_rules(&child.1, levels, &within, base, facts, barriers)?;
+    }
+    Ok(())
+}
+
+// Adds the rule of a run.
+fn push_fact(leaf: &Leaf, of: &Match, base: u64, facts: &mut Vec<Rule>) -> Result<(), NoMemory>
+    requires { base + 1 ≤ 65000 }
+    ensures { OnOk result (facts.new.items ≡ facts.old.items ++ fact leaf.now of.now base ∷ []) }
+{
+    let actions = fact_actions(&leaf.decision);
+    facts.push(Rule {
+        of: *of,
+        priority: (base + 1) as u16,
+        actions,
+        cookie: 0,
+        idle: 0,
+    })?;
+    Ok(())
+}
+
+// Adds the barrier behind a false side of so many levels, if it has any.
+fn push_barrier(below: u64, of: &Match, base: u64, barriers: &mut Vec<Rule>) -> Result<(), NoMemory>
+    requires { base + with_barrier below ≤ 65000 }
+    ensures { OnOk result (barriers.new.items ≡ barriers.old.items ++ barrier_behind below of.now base) }
+{
+    if below > 0 {
+        barriers.push(Rule {
+            of: *of,
+            priority: (base + below + 1) as u16,
+            actions: Actions::new(&[0xfffd]),
+            cookie: 0,
+            idle: 0,
+        })?;
+    }
+    Ok(())
+}
+
+fn fact_actions(decision: &Decision) -> Actions
+    ensures { result ≡ fact_actions decision.now }
+{
+    match decision {
+        Decision::Path(path) => match path.items() {
+            [first, ..] => decision.actions_at(first.switch),
+            [] => decision.actions_at(0),
+        },
+        _ => decision.actions_at(0),
+    }
+}
+
+/// What a switch may choose among the rules of a tree is the rule of the run that the key finds.
+pub fn choice_law()
+    ensures choice { ChoiceLaw }
+    ensures table { TableLaw }
+{}
+
+/// The matches and the priorities of the rules of a tree.
+pub fn rules_law()
+    ensures exact { NoneExact }
+    ensures lower { NoneLower }
+    ensures levels { LevelsLaw }
+    ensures below { BelowLaw }
+    ensures few_levels { FewLevels }
+    ensures few_more { FewMore }
+    ensures distinct { DistinctLaw }
+    ensures domains { DomainLaw }
+    ensures normal { NormalLaw }
+{}
+
+/// The rules of two small trees.
+pub fn rules_rows()
+    ensures two { RowsOfTwo }
+    ensures drop_alone { RowsOfDrop }
+{}

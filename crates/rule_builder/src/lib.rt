@@ -1,0 +1,6 @@
+//! The rules of a tree of runs, and which of them a switch may choose.
+#![tactic(auto)]
+
+pub mod building;
+
+pub use building::{choice_law, levels, rules, rules_law, rules_needed, rules_needed_with, rules_rows};

@@ -1,0 +1,57 @@
+-- How a run's items lead from one place of a course to another.
+use Rattle.std.specs.Prelude.{◌≡◌, ℕ, Bool, List, ◌++◌, length, Some, None}
+use Rattle.maple_base.specs.declared.key.Key.{Key}
+use Rattle.maple_base.specs.declared.items.Item.{Item}
+use Rattle.maple_base.specs.declared.decision.Outcome.TheVariants.{Decided, Spent}
+use Rattle.policy_lang.specs.declared.Expr.{Expr}
+use Rattle.policy_lang.specs.declared.Statement.{Statement, fold-Statement}
+use Rattle.policy_lang.specs.Values.{Datum, ports_among, sent_out}
+use Rattle.policy_lang.specs.Evaluation.{Ending, Spends, Decides, Goes, Given, AllGiven}
+use Rattle.policy_lang.specs.Courses.{Course, Stops, Onward, Going, Coursing, items_of, outcome_at, numbers_course, course_statement, course_block}
+
+-- behind the items so far the key's course goes on as another does behind more items: the whole trace and the outcome are the same
+pub record Leads (k : Key) (seen : List Item) (c : Course) (now : List Item) (d : Course) : Type 0 where
+  pub trace : seen ++ items_of c k ≡ now ++ items_of d k
+  pub outcome : outcome_at c k ≡ outcome_at d k
+
+-- a question leads to what follows its truth, whatever follows
+abbrev pub Asked : Key → List Item → (List Item → Onward → Course) → List Item → Bool → Type 0
+Asked k seen ask now truth = (next : Onward) → Leads k seen (ask seen next) now (next truth now)
+
+abbrev pub course_given : Given → List Item → (Datum → Going) → Course
+course_given None seen next = Stops Spent
+course_given (Some (d, left)) seen next = next d seen left
+
+-- a value's course leads to what follows what it gives, whatever follows
+abbrev pub RecordedValue : Key → List Item → (List Item → ℕ → (Datum → Going) → Course) → ℕ → List Item → Given → Type 0
+RecordedValue k seen run left now given = (next : Datum → Going) → Leads k seen (run seen left next) now (course_given given now next)
+
+abbrev pub course_numbers : AllGiven → List Item → (List ℕ → Going) → Course
+course_numbers None seen next = Stops Spent
+course_numbers (Some (ns, left)) seen next = next ns seen left
+
+abbrev pub course_behind : Ending → List Item → Going → Course
+course_behind Spends seen next = Stops Spent
+course_behind (Decides d) seen next = Stops (Decided d)
+course_behind (Goes left) seen next = next seen left
+
+-- a part leads to what follows it by how it ends, whatever follows
+abbrev pub Recorded : Key → List Item → Coursing → ℕ → List Item → Ending → Type 0
+Recorded k seen run left now ending = (next : Going) → Leads k seen (run seen left next) now (course_behind ending now next)
+
+abbrev pub statement_course : Statement → Coursing
+statement_course = fold-Statement Coursing Coursing course_statement course_block
+
+-- as many numbers as expressions
+abbrev pub AreAsMany : List Expr → AllGiven → Type 0
+AreAsMany es None = Unit {0}
+AreAsMany es (Some (ns, left)) = length ns ≡ length es
+
+-- a number for each expression, where there were steps for them all, and what they lead to
+pub record RecordedNumbers (k : Key) (seen : List Item) (es : List Expr) (left : ℕ) (now : List Item) (given : AllGiven) : Type 0 where
+  pub course : (next : List ℕ → Going) → Leads k seen (numbers_course es seen left next) now (course_numbers given now next)
+  pub each : AreAsMany es given
+
+-- how a run goes on behind an `out`, its own step apart
+abbrev pub out_course : List Expr → Coursing
+out_course es seen left next = numbers_course es seen left (λ ns seen left. Stops (Decided (sent_out (ports_among ns))))

@@ -1,0 +1,507 @@
+// Recording of a run: what a policy asks of a packet, and what it decides.
+ghost use Rattle.std.specs.Prelude.{◌≡◌, ◌≤◌, ◌==◌, ◌&&◌, ◌++◌, ◌∷◌, [], ◌<◌, ◌↔◌, Err, IfOk, IsTrue, map, length};
+ghost use Rattle.std.specs.Option.{option_map};
+ghost use Rattle.maple_base.specs.Questions.{same_field, known, excluded, field_number};
+ghost use Rattle.policy_lang.specs.Courses.{Onward, ask_net, ask_proto, ask_ports, ask_header, ask_value, ask_test, no_ports, course_of, items_of, value_course, head_course, courses, block_course, otherwise_course};
+ghost use Rattle.policy_eval.specs.Evaluated.{IsBudget, given_of, all_given, end_of};
+ghost use Rattle.trace_record.specs.Recording.{Leads, Asked, RecordedValue, RecordedNumbers, Recorded, out_course, statement_course};
+ghost use Rattle.maple_base.specs.Keys.{field_of, has_ports, valid_key};
+ghost use Rattle.maple_base.specs.declared.cells.Cell.{Cell};
+ghost use Rattle.maple_base.specs.declared.cells.Value.{Value};
+ghost use Rattle.policy_lang.specs.Evaluation.{eval_of};
+ghost use Rattle.trace_record.specs.Runs.{IsRun, IsOfCall, IsWhole, Gives, AreGiven};
+ghost use Rattle.trace_record.specs.declared.recording.RecordError.TheVariants.{Unread, NoMemory as Failed};
+ghost use Rattle.maple_base.specs.declared.items.Item.TheVariants.{Read, Test as Tested};
+
+use policy_eval::{Datum, Ending, outcome_of, sent_out};
+use maple_base::{Cells, Decision, EnvView, Field, Item, Items, Key, NoMemory, Outcome};
+use policy_lang::{Block, Expr, Head, Policy, Statement};
+use std::alloc::Global;
+use std::marker::Model;
+use std::snapshot::Snapshot;
+use thiserror::Error;
+
+fn number_of(field: Field) -> u8
+    ensures { result ≡ field_number field }
+{
+    match field {
+        Field::InPort => 0,
+        Field::DlSrc => 1,
+        Field::DlDst => 2,
+        Field::DlVlan => 3,
+        Field::DlType => 4,
+        Field::NwTos => 5,
+        Field::NwProto => 6,
+        Field::NwSrc => 7,
+        Field::NwDst => 8,
+        Field::TpSrc => 9,
+        Field::TpDst => 10,
+    }
+}
+
+fn same_field(first: Field, second: Field) -> bool
+    ensures { result ≡ same_field first second }
+{
+    number_of(first) == number_of(second)
+}
+
+// The value that the items fixed a field to.
+fn known(field: Field, items: &[Item]) -> Option<u64>
+    ensures { result ≡ known field items.now }
+{
+    for item in items {
+        match item {
+            Item::Read {
+                field: other,
+                value,
+            } => {
+                if same_field(field, *other) {
+                    return Some(*value);
+                }
+            }
+            Item::Test {
+                field: other,
+                value,
+                outcome,
+            } => {
+                if *outcome && same_field(field, *other) {
+                    return Some(*value);
+                }
+            }
+        }
+    }
+    None
+}
+
+// Whether a false test excluded this value of a field.
+fn excluded(field: Field, value: u64, items: &[Item]) -> bool
+    ensures { result ≡ excluded field value items.now }
+{
+    for item in items {
+        if let Item::Test {
+            field: other,
+            value: tested,
+            outcome,
+        } = item
+        {
+            if !*outcome && same_field(field, *other) && value == *tested {
+                return true;
+            }
+        }
+    }
+    false
+}
+
+// The packet's number of a field, which stands in the items from then on.
+fn read_field(field: Field, key: &Key, items: &mut Vec<Item>) -> Result<u64, NoMemory>
+    ensures value { IfOk result (λ value. value ≡ field_of key.now field) }
+    ensures items { IfOk result (λ value. items.new.items ≡ items.old.items ++ Read field (field_of key.now field) ∷ []) }
+{
+    let value = key.get(field);
+    items.push(Item::Read { field, value })?;
+    Ok(value)
+}
+
+fn has_ports(proto: u64) -> bool
+    ensures { result ≡ has_ports proto }
+{
+    proto == 1 || proto == 6 || proto == 17
+}
+
+fn no_ports(items: &[Item]) -> bool
+    ensures { result ≡ no_ports items.now }
+{
+    excluded(Field::NwProto, 1, items)
+        && excluded(Field::NwProto, 6, items)
+        && excluded(Field::NwProto, 17, items)
+}
+
+// Whether the packet has an IP header.
+fn ask_net(key: &Key, items: &mut Vec<Item>) -> Result<bool, NoMemory>
+    ensures { IfOk result (λ truth. Asked key.now items.old.items ask_net items.new.items truth) }
+{
+    if let Some(value) = known(Field::DlType, items) {
+        return Ok(value == 0x0800);
+    }
+    if excluded(Field::DlType, 0x0800, items) {
+        return Ok(false);
+    }
+    let value = read_field(Field::DlType, key, items)?;
+    Ok(value == 0x0800)
+}
+
+// Whether the packet has ports, where it is known whether it has an IP header.
+fn ask_proto(net: bool, key: &Key, items: &mut Vec<Item>) -> Result<bool, NoMemory>
+    ensures { IfOk result (λ truth. Asked key.now items.old.items (λ seen next. ask_proto next net seen) items.new.items truth) }
+{
+    if !net {
+        return Ok(false);
+    }
+    if let Some(value) = known(Field::NwProto, items) {
+        return Ok(has_ports(value));
+    }
+    if no_ports(items) {
+        return Ok(false);
+    }
+    let value = read_field(Field::NwProto, key, items)?;
+    Ok(has_ports(value))
+}
+
+fn ask_ports(key: &Key, items: &mut Vec<Item>) -> Result<bool, NoMemory>
+    ensures { IfOk result (λ truth. Asked key.now items.old.items ask_ports items.new.items truth) }
+{
+    let net = ask_net(key, items)?;
+    ask_proto(net, key, items)
+}
+
+// Whether the packet has the header of a field.
+fn ask_header(field: Field, key: &Key, items: &mut Vec<Item>) -> Result<bool, NoMemory>
+    ensures { IfOk result (λ truth. Asked key.now items.old.items (ask_header field) items.new.items truth) }
+{
+    match field {
+        Field::NwTos | Field::NwProto | Field::NwSrc | Field::NwDst => ask_net(key, items),
+        Field::TpSrc | Field::TpDst => ask_ports(key, items),
+        _ => Ok(true),
+    }
+}
+
+// Whether the field has the value, where it is known whether the packet has the field's header.
+fn ask_value(
+    header: bool,
+    field: Field,
+    value: u64,
+    key: &Key,
+    items: &mut Vec<Item>,
+) -> Result<bool, NoMemory>
+    ensures { IfOk result (λ truth. Asked key.now items.old.items (λ seen next. ask_value field value next header seen) items.new.items truth) }
+{
+    if !header {
+        return Ok(value == 0);
+    }
+    if let Some(fixed) = known(field, items) {
+        return Ok(fixed == value);
+    }
+    if excluded(field, value, items) {
+        return Ok(false);
+    }
+    let outcome = key.get(field) == value;
+    items.push(Item::Test {
+        field,
+        value,
+        outcome,
+    })?;
+    Ok(outcome)
+}
+
+// Whether the field has the value.
+fn ask_test(field: Field, value: u64, key: &Key, items: &mut Vec<Item>) -> Result<bool, NoMemory>
+    ensures { IfOk result (λ truth. Asked key.now items.old.items (ask_test field value) items.new.items truth) }
+{
+    if !field.in_domain(value) {
+        return Ok(false);
+    }
+    let header = ask_header(field, key, items)?;
+    ask_value(header, field, value, key, items)
+}
+
+// What an expression gives, and how many steps are left, or `None` where no step was left for it.
+fn record_value(
+    expr: &Expr,
+    key: &Key,
+    left: u32,
+    items: &mut Vec<Item>,
+) -> Result<Option<(Datum, u32)>, NoMemory>
+    ensures { IfOk result (λ given. RecordedValue key.now items.old.items (value_course expr.now) left items.new.items (given_of given)) }
+{
+    if left == 0 {
+        return Ok(None);
+    }
+    match expr {
+        Expr::Number(n) => Ok(Some((Datum::Numeral(*n), left - 1))),
+        Expr::Is(field, right) => match record_value(right, key, left - 1, items)? {
+            None => Ok(None),
+            Some((datum, left)) => {
+                let answer = ask_test(*field, datum.number(), key, items)?;
+                Ok(Some((Datum::Truth(answer), left)))
+            }
+        },
+    }
+}
+
+// The numbers of expressions, from left to right, and how many steps are left.
+fn record_numbers(
+    alloc: Global,
+    exprs: &[Expr],
+    key: &Key,
+    steps: u32,
+    items: &mut Vec<Item>,
+) -> Result<Option<(Vec<u64>, u32)>, NoMemory>
+    ensures { IfOk result (λ given. RecordedNumbers key.now items.old.items exprs.now steps items.new.items (all_given given)) }
+{
+    let mut numbers = Vec::new(alloc);
+    let mut left = steps;
+    for expr in exprs {
+        let Some((datum, rest)) = record_value(expr, key, left, items)? else {
+            return Ok(None);
+        };
+        numbers.push(datum.number())?;
+        left = rest;
+    }
+    Ok(Some((numbers, left)))
+}
+
+fn record_head(
+    head: &Head,
+    key: &Key,
+    left: u32,
+    items: &mut Vec<Item>,
+) -> Result<Option<(Datum, u32)>, NoMemory>
+    ensures { IfOk result (λ given. RecordedValue key.now items.old.items (head_course head.now) left items.new.items (given_of given)) }
+{
+    match head {
+        Head::Test(expr) => record_value(expr, key, left, items),
+    }
+}
+
+fn record_out(
+    alloc: Global,
+    exprs: &[Expr],
+    key: &Key,
+    left: u32,
+    items: &mut Vec<Item>,
+) -> Result<Ending, NoMemory>
+    requires { length exprs.now ≤ 16 }
+    ensures { IfOk result (λ ending. Recorded key.now items.old.items (out_course exprs.now) left items.new.items (end_of ending)) }
+{
+    match record_numbers(alloc, exprs, key, left, items)? {
+        None => Ok(Ending::Spends),
+        Some((numbers, _)) => Ok(Ending::Decides(sent_out(alloc, &numbers)?)),
+    }
+}
+
+#[cycle(recording)]
+fn record_statement(
+    alloc: Global,
+    statement: &Statement,
+    key: &Key,
+    left: u32,
+    items: &mut Vec<Item>,
+) -> Result<Ending, NoMemory>
+    ensures { IfOk result (λ ending. Recorded key.now items.old.items (statement_course statement.now) left items.new.items (end_of ending)) }
+{
+    if left == 0 {
+        return Ok(Ending::Spends);
+    }
+    match statement {
+        Statement::Drop => Ok(Ending::Decides(Decision::Drop)),
+        Statement::Out(exprs) => record_out(alloc, exprs.items(), key, left - 1, items),
+        Statement::If(head, block, other) => match record_head(head, key, left - 1, items)? {
+            None => Ok(Ending::Spends),
+            Some((datum, left)) => {
+                if datum.truth() {
+                    record_block(alloc, block.items(), key, left, items)
+                } else {
+                    record_other(alloc, other, key, left, items)
+                }
+            }
+        },
+    }
+}
+
+#[cycle(recording)]
+fn record_other(
+    alloc: Global,
+    other: &Option<Block>,
+    key: &Key,
+    left: u32,
+    items: &mut Vec<Item>,
+) -> Result<Ending, NoMemory>
+    ensures { IfOk result (λ ending. Recorded key.now items.old.items (otherwise_course (option_map block_course other.now)) left items.new.items (end_of ending)) }
+{
+    match other {
+        None => Ok(Ending::Goes(left)),
+        Some(block) => record_block(alloc, block.items(), key, left, items),
+    }
+}
+
+#[cycle(recording)]
+fn record_block(
+    alloc: Global,
+    statements: &[Statement],
+    key: &Key,
+    steps: u32,
+    items: &mut Vec<Item>,
+) -> Result<Ending, NoMemory>
+    ensures { IfOk result (λ ending. Recorded key.now items.old.items (courses (map statement_course statements.now)) steps items.new.items (end_of ending)) }
+{
+    let mut left = steps;
+    for statement in statements {
+        match record_statement(alloc, statement, key, left, items)? {
+            Ending::Spends => return Ok(Ending::Spends),
+            Ending::Decides(decision) => return Ok(Ending::Decides(decision)),
+            Ending::Goes(rest) => left = rest,
+        }
+    }
+    Ok(Ending::Goes(left))
+}
+
+fn record_policy(
+    alloc: Global,
+    body: &Block,
+    key: &Key,
+    budget: u32,
+    items: &mut Vec<Item>,
+) -> Result<Ending, NoMemory>
+    ensures { IfOk result (λ ending. Recorded key.now items.old.items (block_course body.now) budget items.new.items (end_of ending)) }
+{
+    record_block(alloc, body.items(), key, budget, items)
+}
+
+/// What a policy asked of a packet in one run, and what it decided of it.
+#[derive(Drop)]
+pub struct Run {
+    number: u64,
+    switch: u64,
+    key: Key,
+    items: Items,
+    cells: Cells,
+    outcome: Outcome,
+    budget: u32,
+    policy: Snapshot<Policy>,
+}
+
+impl Model for Run {
+    ghost use Rattle.trace_record.specs.Runs.{Traced};
+    ghost use Rattle.std.specs.Coded.{codes};
+    ghost use Rattle.policy_lang.specs.contracts.Policy as policies;
+
+    ghost Value = { Traced };
+
+    ghost coded = { Prim.hlevel (codes, policies.the_row.coded) };
+
+    ghost use Rattle.trace_record.specs.RunViews.{traced, IsLawful};
+
+    ghost view = { traced };
+
+    ghost invariant = { IsLawful };
+}
+
+/// Why a run was not recorded.
+#[derive(Clone, Copy, Debug, PartialEq, Eq, Error)]
+pub enum RecordError {
+    /// The view refused to tell a cell.
+    #[error("a cell was not told")]
+    Unread,
+    /// Memory ran out.
+    #[error("out of memory")]
+    NoMemory,
+}
+
+impl From<NoMemory> for RecordError {
+    ghost from_gives = { λ _ e. e ≡ Failed };
+
+    fn from(_error: NoMemory) -> RecordError {
+        RecordError::NoMemory
+    }
+}
+
+impl Run {
+    /// The number of its policy.
+    pub fn number(&self) -> u64
+        ensures { result ≡ self.now.number }
+    {
+        self.number
+    }
+
+    /// The switch that its packet came to.
+    pub fn switch(&self) -> u64
+        ensures { result ≡ self.now.switch }
+    {
+        self.switch
+    }
+
+    /// The key of its packet.
+    pub fn key(&self) -> &Key
+        ensures { result.now ≡ self.now.key }
+    {
+        &self.key
+    }
+
+    /// What was asked of the packet, with the answers, in order.
+    pub fn items(&self) -> &Items
+        ensures { result.now ≡ self.now.items }
+    {
+        &self.items
+    }
+
+    /// The cells that were read, with their values, in order.
+    pub fn cells(&self) -> &Cells
+        ensures { result.now ≡ self.now.cells }
+    {
+        &self.cells
+    }
+
+    /// What was decided.
+    pub fn outcome(&self) -> &Outcome
+        ensures { result.now ≡ self.now.outcome }
+    {
+        &self.outcome
+    }
+
+    /// What holds of each run.
+    pub fn law(&self)
+        ensures { IsRun self.now }
+    {
+        let _ = &self.number;
+    }
+}
+
+fn run_of(
+    alloc: Global,
+    policy: &Policy,
+    number: u64,
+    budget: u32,
+    switch: u64,
+    key: &Key,
+) -> Result<Run, NoMemory>
+    requires key { IsTrue (valid_key key.now) }
+    requires budget { IsBudget budget }
+    ensures call { IfOk result (λ run. IsOfCall policy.now number budget switch key.now run) }
+    ensures cells { IfOk result (λ run. run.cells ≡ []) }
+    ensures whole { IfOk result (λ run. IsWhole policy.now budget key.now run.items run.outcome) }
+{
+    let mut items = Vec::new(alloc);
+    let ending = record_policy(alloc, policy.body(), key, budget, &mut items)?;
+    Ok(Run {
+        number,
+        switch,
+        key: *key,
+        items: Items::new(items),
+        cells: Cells::new(Vec::new(alloc)),
+        outcome: outcome_of(ending),
+        budget,
+        policy: Snapshot::of(policy),
+    })
+}
+
+/// Runs a policy on a packet, and records what it asks and decides.
+pub fn record<V: EnvView>(
+    alloc: Global,
+    policy: &Policy,
+    number: u64,
+    budget: u32,
+    switch: u64,
+    key: &Key,
+    view: &mut V,
+) -> Result<Run, RecordError>
+    requires key { IsTrue (valid_key key.now) }
+    requires budget { IsBudget budget }
+    ensures call { IfOk result (λ run. IsOfCall policy.now number budget switch key.now run) }
+    ensures items { IfOk result (λ run. run.items ≡ items_of (course_of policy.now budget) key.now) }
+    ensures outcome { IfOk result (λ run. (env : Cell → Value) → Gives env run.cells → run.outcome ≡ eval_of policy.now budget env switch key.now) }
+    ensures given { IfOk result (λ run. AreGiven (V.gave view.new) run.cells) }
+    ensures unread { result ≡ Err Unread ↔ V.refused view.old < V.refused view.new }
+    ensures few { IfOk result (λ run. length run.items ≤ 262144) }
+{
+    Ok(run_of(alloc, policy, number, budget, switch, key)?)
+}

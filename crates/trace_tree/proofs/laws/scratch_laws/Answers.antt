@@ -1,0 +1,20 @@
+use Rattle.std.proofs.Common.{arith}
+use Rattle.trace_tree.proofs.Growths.{search_scratch}
+use Rattle.trace_tree.proofs.Apart.{scratch_apart, admitted_scratch, grown_push, leaves_grown}
+use Rattle.trace_tree.specs.Shape.{Empty}
+use Rattle.trace_tree.proofs.laws.scratch_laws.Goals as goal
+
+pub returns-clause-apart : goal.returns-clause-apart
+returns-clause-apart c = scratch_apart
+
+pub returns-clause-free : goal.returns-clause-free
+returns-clause-free c = admitted_scratch
+
+pub returns-clause-grows : goal.returns-clause-grows
+returns-clause-grows c = λ rs r. grown_push rs Empty r
+
+pub returns-clause-found : goal.returns-clause-found
+returns-clause-found c = search_scratch
+
+pub returns-clause-leaves : goal.returns-clause-leaves
+returns-clause-leaves c = λ rs a. let e = leaves_grown rs Empty a in omega (arith, e)
