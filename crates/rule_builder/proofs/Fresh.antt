@@ -12,7 +12,8 @@ use Rattle.maple_base.specs.Questions.{same_field}
 use Rattle.trace_tree.specs.declared.node.Trace.{Trace}
 use Rattle.trace_tree.specs.declared.node.Leaf.{Leaf}
 use Rattle.trace_tree.specs.Shape.{Shape, Branches, Empty, Ends, Reads, Tests, NoBranch, Branch}
-use Rattle.trace_tree.specs.Growth.{change, insert, leaf_of, grown, child, admits, among, asks_once, AllAskOnce, AreAdmitted}
+use Rattle.maple_base.specs.Questions.{among, asks_once}
+use Rattle.trace_tree.specs.Growth.{change, insert, leaf_of, grown, child, admits, AllAskOnce, AreAdmitted}
 use Rattle.trace_tree.proofs.Growths.{both, same_field_is, admits_Empty}
 use Rattle.trace_tree.proofs.Children.{change_here, change_ahead, change_past}
 use Rattle.maple_base.specs.Keys.{fix, fixed_of, anything}

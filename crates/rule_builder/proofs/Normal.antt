@@ -15,7 +15,8 @@ use Rattle.maple_base.specs.Questions.{same_field, known}
 use Rattle.trace_tree.specs.declared.node.Trace.{Trace}
 use Rattle.trace_tree.specs.declared.node.Leaf.{Leaf}
 use Rattle.trace_tree.specs.Shape.{Shape, Branches, Empty, Ends, Reads, Tests, NoBranch, Branch}
-use Rattle.trace_tree.specs.Growth.{change, insert, leaf_of, grown, scratch, child, admits, among, asks_once, AllAskOnce, AreAdmitted}
+use Rattle.maple_base.specs.Questions.{among, asks_once}
+use Rattle.trace_tree.specs.Growth.{change, insert, leaf_of, grown, scratch, child, admits, AllAskOnce, AreAdmitted}
 use Rattle.trace_tree.proofs.Growths.{both, same_field_is, admits_Empty}
 use Rattle.trace_tree.proofs.Children.{change_here, change_ahead, change_past}
 use Rattle.rule_builder.specs.Rules.{with_barrier, levels_of, fact, facts_of, facts_in, barrier_behind, barriers_of, barriers_in}
