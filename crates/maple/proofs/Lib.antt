@@ -1,11 +1,11 @@
+pub mod Choosings
 pub mod Endings
 pub mod FirstLines
 pub mod Known
-pub mod Learning
+pub mod Learnings
 pub mod Marks
 pub mod OneWord
 pub mod Pieces
-pub mod Plain
 pub mod Runs
 pub mod Splits
 pub mod Tops

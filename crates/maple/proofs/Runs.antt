@@ -12,6 +12,7 @@ use Rattle.maple.specs.declared.status.Status.TheVariants.{Done, Usage, Policy a
 use Rattle.maple.specs.declared.report.Line.{Line}
 use Rattle.maple.specs.Due.{last_line}
 use Rattle.maple.specs.Ends.{Ends, WritesFront}
+use Rattle.maple.specs.declared.world.World.{World}
 use Rattle.maple.specs.Knowing.{Knows}
 use Rattle.maple.specs.PacketLine.{packet_of, is_packet, read_packet, packets_in, all_packets}
 use Rattle.maple.specs.Report.{report, said, after, spelled, text_of}
@@ -19,8 +20,8 @@ use Rattle.maple.specs.Running.{due_of, told_of}
 use Rattle.maple.proofs.Endings.{ends_behind, front_behind, front_longer}
 
 -- what holds ahead of a line: the lines left are due what all lines are, and what was written is all that is told but what is told of them
-pub record Stands (old new : Option (List ℕ)) (failed faults : ℕ) (policy : Policy) (learned : Bool) (lines rest : List (List ℕ)) (runs : List Trace) (written : List ℕ) : Type 0 where
-  pub known : Knows runs learned
+pub record Stands (old new : Option (List ℕ)) (failed faults : ℕ) (policy : Policy) (world : World) (lines rest : List (List ℕ)) (runs : List Trace) (written : List ℕ) : Type 0 where
+  pub known : Knows policy runs world
   pub due : due_of rest ≡ due_of lines
   pub told : written ++ told_of policy runs rest ≡ told_of policy [] lines
   pub appended : Appends old new written
@@ -36,9 +37,9 @@ risen_later a b c h r = omega (arith, h, r)
 risen_still : (a b c : ℕ) → HasRisen a b → b ≤ c → HasRisen a c
 risen_still a b c r h = omega (arith, h, r)
 
-module _ (old mid new : Option (List ℕ)) (failed faults later : ℕ) (policy : Policy) (learned : Bool) (lines : List (List ℕ)) (runs : List Trace) (written : List ℕ) where
+module _ (old mid new : Option (List ℕ)) (failed faults later : ℕ) (policy : Policy) (world : World) (lines : List (List ℕ)) (runs : List Trace) (written : List ℕ) where
   -- the run ends ahead of these lines
-  ends_here : (rest : List (List ℕ)) → Stands old mid failed faults policy learned lines rest runs written → (due : Status) (text : List ℕ) (result : Status) → due_of rest ≡ due → told_of policy runs rest ≡ text
+  ends_here : (rest : List (List ℕ)) → Stands old mid failed faults policy world lines rest runs written → (due : Status) (text : List ℕ) (result : Status) → due_of rest ≡ due → told_of policy runs rest ≡ text
       → Ends (HasRisen faults later) mid new due text result → Ends (HasRisen failed later) old new (due_of lines) (told_of policy [] lines) result
   ends_here rest s due text result d t e =
       let whole : written ++ text ≡ told_of policy [] lines = ap (λ x. written ++ x) (sym t) ∙ s.told in
@@ -46,10 +47,10 @@ module _ (old mid new : Option (List ℕ)) (failed faults later : ℕ) (policy :
       subst (λ x. Ends (HasRisen failed later) old new x (told_of policy [] lines) result) same
       (subst (λ x. Ends (HasRisen failed later) old new due x result) whole (ends_behind _ _ old mid new written text due result (risen_later failed faults later s.count) s.appended e))
 
-  pub ends_after : Stands old mid failed faults policy learned lines [] runs written → (result : Status) → Ends (HasRisen faults later) mid new Done (last_line Done) result → Ends (HasRisen failed later) old new (due_of lines) (told_of policy [] lines) result
+  pub ends_after : Stands old mid failed faults policy world lines [] runs written → (result : Status) → Ends (HasRisen faults later) mid new Done (last_line Done) result → Ends (HasRisen failed later) old new (due_of lines) (told_of policy [] lines) result
   ends_after s result e = ends_here [] s Done (last_line Done) result refl refl e
 
-  module _ (line : List ℕ) (others : List (List ℕ)) (s : Stands old mid failed faults policy learned lines (line ∷ others) runs written) where
+  module _ (line : List ℕ) (others : List (List ℕ)) (s : Stands old mid failed faults policy world lines (line ∷ others) runs written) where
     pub ends_at_bad : (result : Status) → None ≡ packet_of line → Ends (HasRisen faults later) mid new Script (last_line Script) result → Ends (HasRisen failed later) old new (due_of lines) (told_of policy [] lines) result
     ends_at_bad result bad e =
         ends_here (line ∷ others) s Script (last_line Script) result
@@ -71,7 +72,7 @@ module _ (old mid new : Option (List ℕ)) (failed faults later : ℕ) (policy :
           ∙ ap (λ t. t ++ last_line (due_of others)) (text_more (said policy runs k (found runs k)) (report policy (after policy runs k (found runs k)) (packets_in others)))
           ∙ append_assoc (text_of (said policy runs k (found runs k))) (text_of (report policy (after policy runs k (found runs k)) (packets_in others))) (last_line (due_of others))
 
-      pub stands_further : (known : Bool) → Knows (after policy runs k (found runs k)) known → Appends mid new (text_of (said policy runs k (found runs k))) → faults ≤ later
+      pub stands_further : (known : World) → Knows policy (after policy runs k (found runs k)) known → Appends mid new (text_of (said policy runs k (found runs k))) → faults ≤ later
           → Stands old new failed later policy known lines others (after policy runs k (found runs k)) (written ++ text_of (said policy runs k (found runs k)))
       unfolding piece
       stands_further known h a c =
@@ -105,6 +106,6 @@ module _ (old mid new : Option (List ℕ)) (failed faults later : ℕ) (policy :
           within TooLong n e = absurd (n e.0)
 
 -- memory runs out ahead of a line
-pub lacks_memory : (old mid : Option (List ℕ)) (failed faults : ℕ) (policy : Policy) (learned : Bool) (lines rest : List (List ℕ)) (runs : List Trace) (written : List ℕ)
-    → Stands old mid failed faults policy learned lines rest runs written → WritesFront old mid (told_of policy [] lines)
-lacks_memory old mid failed faults policy learned lines rest runs written s = (written, (told_of policy runs rest, s.told), s.appended)
+pub lacks_memory : (old mid : Option (List ℕ)) (failed faults : ℕ) (policy : Policy) (world : World) (lines rest : List (List ℕ)) (runs : List Trace) (written : List ℕ)
+    → Stands old mid failed faults policy world lines rest runs written → WritesFront old mid (told_of policy [] lines)
+lacks_memory old mid failed faults policy world lines rest runs written s = (written, (told_of policy runs rest, s.told), s.appended)

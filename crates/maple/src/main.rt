@@ -1,6 +1,7 @@
 //! Maple, an SDN controller for OpenFlow 1.0 switches.
 #![tactic(auto)]
 
+pub mod choosing;
 pub mod finish;
 pub mod input;
 pub mod lines;

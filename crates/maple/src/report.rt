@@ -55,17 +55,29 @@ pub fn push_line(text: &mut String, line: &Line) -> Result<(), NoMemory>
             port,
             decision,
             learnt,
-        } => {
-            push_port(text, "answer s1 ", *port)?;
-            push_decision(text, decision)?;
-            text.push_str(" ")?;
-            push_learnt(text, *learnt)?;
-        }
+        } => return push_answer(text, *port, decision, *learnt),
         Line::SpentRun { port } => {
             text.push_str("spent s1 ")?;
             push_number(text, *port as u64)?;
         }
     }
+    text.push_str("\n")?;
+    Ok(())
+}
+
+/// Writes the line of an answer at the end of a text.
+pub fn push_answer(
+    text: &mut String,
+    port: u16,
+    decision: &Decision,
+    learnt: Learnt,
+) -> Result<(), NoMemory>
+    ensures { OnOk result (string_bytes text.new ≡ string_bytes text.old ++ spelled (Line.Answer port decision.now learnt)) }
+{
+    push_port(text, "answer s1 ", port)?;
+    push_decision(text, decision)?;
+    text.push_str(" ")?;
+    push_learnt(text, learnt)?;
     text.push_str("\n")?;
     Ok(())
 }

@@ -10,11 +10,11 @@ ghost use Rattle.maple.specs.Due.{AreSim, IsDue, IsOrFails, IsOrUnwritten, Repor
 use crate::finish::finish;
 use crate::input::{ReadStop, read_all};
 use crate::lines::split_input;
-use policy_text::{ReadError, read_policy};
 use crate::sim::run_script;
 use crate::status::Status;
 use maple_base::Words;
 use maple_io::{Sink, Source};
+use policy_text::{ReadError, read_policy};
 use std::alloc::Global;
 
 /// Runs Maple with the words of a command line.

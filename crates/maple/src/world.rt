@@ -1,81 +1,127 @@
 // One switch and its controller.
-ghost use Rattle.std.specs.Prelude.{◌≡◌, ◌++◌, ◌∷◌, [], List, IfOk, OnOk, IsTrue, string_bytes};
-ghost use Rattle.maple_base.specs.Keys.{valid_key};
-ghost use Rattle.trace_tree.specs.declared.node.Trace.{Trace};
-ghost use Rattle.trace_tree.specs.Growth.{found};
-ghost use Rattle.maple.specs.Knowing.{AsksNothing, Knows};
-ghost use Rattle.maple.specs.Report.{said, after, text_of, outcome_actions};
+ghost use Rattle.std.specs.Prelude.{◌≡◌, ◌++◌, ◌+◌, ◌<◌, ◌≤◌, ◌^◌, ◌∷◌, [], List, None, length, OnOk, IsTrue, string_bytes};
+ghost use Rattle.std.specs.List.Sorted.{IsPermutation};
+ghost use Rattle.maple_base.specs.Keys.{anything, valid_key};
+ghost use Rattle.maple_base.specs.Questions.{asks_once};
+ghost use Rattle.policy_lang.specs.declared.Policy.{Policy as PolicyData};
+ghost use Rattle.trace_tree.specs.declared.node.Trace.{Trace as TraceData};
+ghost use Rattle.trace_tree.specs.Bounds.{items_within};
+ghost use Rattle.trace_tree.specs.Growth.{admits, found, insert, leaf_of, leaves_of};
+ghost use Rattle.rule_builder.specs.Rules.{barriers_of, facts_of, levels_of};
+ghost use Rattle.maple.specs.Knowing.{Knows};
+ghost use Rattle.maple.specs.Report.{said, after, answered, learned, plain, text_of};
 
-use policy_eval::eval;
-use crate::report::{Learnt, Line, push_line};
-use maple_base::{Actions, Blank, Decision, Key, NoMemory, Outcome};
+use crate::choosing::{Choice, choose};
+use crate::report::{Learnt, Line, push_answer, push_line};
+use maple_base::{Blank, Cells, Decision, Items, Key, NoMemory, Outcome, RuleList};
 use policy_lang::Policy;
+use rule_builder::{rules, rules_needed_with};
 use std::alloc::Global;
+use trace_record::record;
+use trace_tree::{Trace, Tree};
 
-/// The steps that an evaluation may take.
+/// The steps that a run may take.
 pub const BUDGET: u32 = 4_096;
 
-/// Writes the lines of a packet at the end of a text, and says what is known from then on: whether
-/// the run, which asks nothing, was learned.
-pub fn packet(
-    alloc: Global,
-    policy: &Policy,
-    learned: bool,
-    key: &Key,
-    text: &mut String,
-) -> Result<bool, NoMemory>
-    requires key { IsTrue (valid_key key.now) }
-    requires questions { AsksNothing policy.now }
-    ensures { (runs : List Trace) → Knows runs learned → IfOk result (λ known. (string_bytes text.new ≡ string_bytes text.old ++ text_of (said policy.now runs key.now (found runs key.now))) × Knows (after policy.now runs key.now (found runs key.now)) known) }
-{
-    let outcome = eval(alloc, policy, BUDGET, &Blank, 1, key)?;
-    let port = key.in_port;
-    if learned {
-        let actions = outcome_actions(&outcome);
-        push_line(text, &Line::Hit { port, actions })?;
-        return Ok(true);
-    }
-    match outcome {
-        Outcome::Spent => {
-            push_spent(text, port)?;
-            Ok(false)
-        }
-        Outcome::Decided(decision) => {
-            push_answer(text, port, decision)?;
-            Ok(true)
+/// The rules that a switch has room for.
+pub const ROWS: u32 = 1_024;
+
+/// The tree of the runs that were learned, and the rules of the switch, which are the tree's.
+#[derive(Drop)]
+pub struct World {
+    tree: Tree,
+    rules: RuleList,
+}
+
+impl World {
+    /// A switch and a controller that know no run.
+    pub fn new(alloc: Global) -> World
+        ensures { (policy : PolicyData) → Knows policy [] result }
+    {
+        World {
+            tree: Tree::new(alloc),
+            rules: RuleList::new(Vec::new(alloc), Vec::new(alloc)),
         }
     }
-}
 
-// The lines of a packet that no rule fits and whose run is learned.
-fn push_answer(text: &mut String, port: u16, decision: Decision) -> Result<(), NoMemory>
-    ensures { OnOk result (string_bytes text.new ≡ string_bytes text.old ++ text_of (Line.Miss port 0 ∷ Line.Answer port decision Learnt.Learned ∷ [])) }
-{
-    push_line(text, &Line::Miss { port, reason: 0 })?;
-    let answer = Line::Answer {
-        port,
-        decision,
-        learnt: Learnt::Learned,
-    };
-    push_line(text, &answer)?;
-    Ok(())
-}
+    /// Writes the lines of a packet at the end of a text, and learns its run where no rule decides it.
+    pub fn packet(
+        &mut self,
+        alloc: Global,
+        policy: &Policy,
+        key: &Key,
+        text: &mut String,
+    ) -> Result<(), NoMemory>
+        requires key { IsTrue (valid_key key.now) }
+        requires known { (runs : List TraceData) × Knows policy.now runs self.old }
+        ensures { (runs : List TraceData) → Knows policy.now runs self.old → OnOk result ((string_bytes text.new ≡ string_bytes text.old ++ text_of (said policy.now runs key.now (found runs key.now))) × Knows policy.now (after policy.now runs key.now (found runs key.now)) self.new) }
+    {
+        let port = key.in_port;
+        let reason = match choose(&self.rules, key) {
+            Choice::Fact(actions) => return push_line(text, &Line::Hit { port, actions }),
+            Choice::Barrier => 1,
+            Choice::Unfit => 0,
+        };
+        push_line(text, &Line::Miss { port, reason })?;
+        self.answer(alloc, policy, key, text)
+    }
 
-// The lines of a packet that no rule fits and whose run needs more steps than the budget.
-fn push_spent(text: &mut String, port: u16) -> Result<(), NoMemory>
-    ensures { OnOk result (string_bytes text.new ≡ string_bytes text.old ++ text_of (Line.Miss port 0 ∷ Line.SpentRun port ∷ [])) }
-{
-    push_line(text, &Line::Miss { port, reason: 0 })?;
-    push_line(text, &Line::SpentRun { port })?;
-    Ok(())
-}
+    // Writes the answer to a packet whose run isn't known, and learns the run.
+    fn answer(
+        &mut self,
+        alloc: Global,
+        policy: &Policy,
+        key: &Key,
+        text: &mut String,
+    ) -> Result<(), NoMemory>
+        requires key { IsTrue (valid_key key.now) }
+        requires known { (runs : List TraceData) × Knows policy.now runs self.old × (found runs key.now ≡ None) }
+        ensures { (runs : List TraceData) → Knows policy.now runs self.old → found runs key.now ≡ None → OnOk result ((string_bytes text.new ≡ string_bytes text.old ++ text_of (answered policy.now runs key.now (plain policy.now key.now))) × Knows policy.now (learned policy.now runs key.now (plain policy.now key.now)) self.new) }
+    {
+        let port = key.in_port;
+        let number = self.tree.leaves() as u64 + 1;
+        let Ok(run) = record(alloc, policy, number, BUDGET, 1, key, &mut Blank) else {
+            return Err(NoMemory);
+        };
+        let (items, cells, outcome) = run.into_parts();
+        let decision = match outcome {
+            Outcome::Decided(decision) => decision,
+            Outcome::Spent => return push_line(text, &Line::SpentRun { port }),
+        };
+        let need = rules_needed_with(&self.tree, &items);
+        if need > ROWS as u64 {
+            let learnt = Learnt::Rows {
+                need,
+                capacity: ROWS,
+            };
+            return push_answer(text, port, &decision, learnt);
+        }
+        push_answer(text, port, &decision, Learnt::Learned)?;
+        let trace = Trace {
+            number,
+            items,
+            cells,
+            decision,
+        };
+        self.learn(alloc, trace)
+    }
 
-// What the switch does by a decision.
-fn outcome_actions(outcome: &Outcome) -> Actions
-    ensures { result ≡ outcome_actions outcome.now }
-{
-    match outcome {
-        Outcome::Decided(decision) => decision.actions_at(1),
-        Outcome::Spent => Actions::new(&[]),
+    // Adds a run to the tree, and replaces the rules by those of the new tree.
+    fn learn(&mut self, alloc: Global, trace: Trace) -> Result<(), NoMemory>
+        requires admitted { IsTrue (admits trace.items self.old.tree) }
+        requires within { IsTrue (items_within trace.items) }
+        requires once { IsTrue (asks_once [] trace.items) }
+        requires short { length trace.items ≤ 262144 }
+        requires room { leaves_of self.old.tree + 1 < 2 ^ 32 }
+        requires levels { levels_of (insert trace.items (leaf_of trace) self.old.tree) ≤ 65000 }
+        ensures tree { OnOk result (self.new.tree ≡ insert trace.items (leaf_of trace) self.old.tree) }
+        ensures facts { OnOk result (IsPermutation (facts_of self.new.tree anything 0) self.new.rules.facts) }
+        ensures barriers { OnOk result (IsPermutation (barriers_of self.new.tree anything 0) self.new.rules.barriers) }
+    {
+        let Ok(()) = self.tree.augment(trace) else {
+            return Err(NoMemory);
+        };
+        self.rules = rules(alloc, &self.tree)?;
+        Ok(())
     }
 }

@@ -319,6 +319,23 @@ module _ (runs : List Trace) (k : Key) (admitted : AreAdmitted Empty runs) (once
       as_fact None h = h
       as_fact (Some x) h = inr h
 
+  fact_choice : (table : List Rule) (r : Rule) → HoldsRules tree table → MayChoose table k r → Contains facts r → (x : Trace) × (found runs k ≡ Some x) × IsFactOf tree x r
+  fact_choice table r holds may c =
+      let e = chosen_fact r may.fitting c (λ q h g. may.top q (holds.all q (Contains-append_right facts _ q h)) g) in
+      pick (found runs k) refl (as_found r ⊥ e c (found runs k) here_does here_fixes)
+    where
+      pick : (o : Option Trace) → found runs k ≡ o → MatchOption o ⊥ (λ x. IsFactOf tree x r) → (x : Trace) × (found runs k ≡ Some x) × IsFactOf tree x r
+      pick None e h = absurd h
+      pick (Some x) e h = (x, e, h)
+
+  barrier_choice : (table : List Rule) (r : Rule) → HoldsRules tree table → MayChoose table k r → Contains barriers r → found runs k ≡ None
+  barrier_choice table r holds may c = pick here refl (found runs k) refl here_does
+    where
+      pick : (h : Option Rule) → h ≡ here → (o : Option Trace) → found runs k ≡ o → option_map actions here ≡ option_map run_actions o → found runs k ≡ None
+      pick h e None f g = f
+      pick None e (Some x) f g = let i = ap (option_map actions) e ∙ g in absurd (cc)
+      pick (Some own) e (Some x) f g = absurd (no_barrier table r own holds may (sym e) c)
+
   -- where a run is found nothing but the fact at the key may be chosen
   chosen_here : (table : List Rule) (r : Rule) → HoldsRules tree table → MayChoose table k r → IfSome (found runs k) (λ _. here ≡ Some r)
   chosen_here table r holds may =
@@ -390,6 +407,8 @@ choice_law runs k a o =
       between = between_choice runs k a o;
       some = some_choice runs k a o;
       one = one_choice runs k a o;
+      fact = fact_choice runs k a o;
+      barrier = barrier_choice runs k a o;
       unfit = none_fits runs k a o;
     }
 

@@ -13,3 +13,4 @@ pub mod Paths
 pub mod Places
 pub mod Spans
 pub mod Steps
+pub mod WithinTree

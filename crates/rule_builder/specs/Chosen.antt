@@ -1,5 +1,5 @@
 -- The promise on the rules of a tree: what a switch may choose is the rule of the run that the key finds.
-use Rattle.std.specs.Prelude.{◌≡◌, ◌⊎◌, ◌++◌, true, false, List, [], ◌∷◌, None, Contains, MatchOption, IfSome}
+use Rattle.std.specs.Prelude.{◌≡◌, ◌⊎◌, ◌++◌, true, false, List, [], ◌∷◌, Some, None, Contains, MatchOption, IfSome}
 use Rattle.std.specs.List.Sorted.{IsPermutation}
 use Rattle.maple_base.specs.declared.key.Key.{Key}
 use Rattle.maple_base.specs.declared.key.Match.{Match}
@@ -57,6 +57,10 @@ pub record ChoosesRight (runs : List Trace) (k : Key) : Type 0 where
   pub some : (table : List Rule) → HoldsRules (scratch runs) table → IfSome (found runs k) (λ _. (r : Rule) × MayChoose table k r)
   -- and no other
   pub one : (table : List Rule) (r q : Rule) → HoldsRules (scratch runs) table → MayChoose table k r → MayChoose table k q → IfSome (found runs k) (λ _. r ≡ q)
+  -- a fact may be chosen only where a run is found, and it is that run's
+  pub fact : (table : List Rule) (r : Rule) → HoldsRules (scratch runs) table → MayChoose table k r → Contains (facts_of (scratch runs) anything 0) r → (x : Trace) × (found runs k ≡ Some x) × IsFactOf (scratch runs) x r
+  -- and a barrier only where none is
+  pub barrier : (table : List Rule) (r : Rule) → HoldsRules (scratch runs) table → MayChoose table k r → Contains (barriers_of (scratch runs) anything 0) r → found runs k ≡ None
   -- where no rule fits none is found
   pub unfit : (table : List Rule) → HoldsRules (scratch runs) table → ((r : Rule) → Contains table r → fits r k ≡ false) → found runs k ≡ None
 

@@ -224,7 +224,6 @@ fn any_has_rules(children: &[(u64, Node)]) -> bool
 
 /// The rules of a tree.
 pub fn rules(alloc: Global, tree: &Tree) -> Result<RuleList, NoMemory>
-    requires values { IsInDomains tree.now }
     requires room { levels_of tree.now ≤ 65000 }
     ensures facts { IfOk result (λ list. IsPermutation (facts_of tree.now anything 0) list.facts) }
     ensures facts_order { IfOk result (λ list. IsNonDecreasingBy (λ rule. rule.priority) list.facts) }

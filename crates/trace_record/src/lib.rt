@@ -2,7 +2,6 @@
 #![tactic(auto)]
 
 pub mod recording;
-
 #[cfg(test)]
 mod tests;
 

@@ -13,8 +13,8 @@ ghost use Rattle.trace_record.specs.Runs.{IsRun, IsOfCall, IsWhole, Gives, AreGi
 ghost use Rattle.trace_record.specs.declared.recording.RecordError.TheVariants.{Unread, NoMemory as Failed};
 ghost use Rattle.maple_base.specs.declared.items.Item.TheVariants.{Read, Test as Tested};
 
-use policy_eval::{Datum, Ending, outcome_of, sent_out};
 use maple_base::{Cells, Decision, EnvView, Field, Item, Items, Key, NoMemory, Outcome};
+use policy_eval::{Datum, Ending, outcome_of, sent_out};
 use policy_lang::{Block, Expr, Head, Policy, Statement};
 use std::alloc::Global;
 use std::marker::Model;
@@ -448,6 +448,15 @@ impl Run {
         &self.outcome
     }
 
+    /// What was asked, the cells that were read, and what was decided.
+    pub fn into_parts(self) -> (Items, Cells, Outcome)
+        ensures items { result.0 ≡ self.items }
+        ensures cells { result.1 ≡ self.cells }
+        ensures outcome { result.2 ≡ self.outcome }
+    {
+        (self.items, self.cells, self.outcome)
+    }
+
     /// What holds of each run.
     pub fn law(&self)
         ensures { IsRun self.now }
@@ -501,6 +510,7 @@ pub fn record<V: EnvView>(
     ensures outcome { IfOk result (λ run. (env : Cell → Value) → Gives env run.cells → run.outcome ≡ eval_of policy.now budget env switch key.now) }
     ensures given { IfOk result (λ run. AreGiven (V.gave view.new) run.cells) }
     ensures unread { result ≡ Err Unread ↔ V.refused view.old < V.refused view.new }
+    ensures cells { IfOk result (λ run. run.cells ≡ []) }
     ensures few { IfOk result (λ run. length run.items ≤ 262144) }
 {
     Ok(run_of(alloc, policy, number, budget, switch, key)?)

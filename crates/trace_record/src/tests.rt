@@ -1,6 +1,6 @@
-use policy_eval::eval;
 use crate::recording::record;
 use maple_base::{Blank, Decision, Field, Item, Key, Names, NoMemory, Outcome};
+use policy_eval::eval;
 use policy_lang::{Block, Expr, Exprs, Head, Policy, Statement};
 use std::alloc::Global;
 use std::process::Abort;

@@ -8,7 +8,7 @@ use Rattle.maple.proofs.sim.run_script.Given as goal
 -- some runs were learned, and what was written and what is told of the rest is all that is told
 abbrev pub invariant-loop-rest : goal.invariant-loop-rest
 invariant-loop-rest g l = (runs : List Trace) × (written : List ℕ) ×
-    Stands (g.O.Sink.taken l.fn.output) (g.O.Sink.taken l.output) (g.O.Sink.failed l.fn.output) (g.O.Sink.failed l.output) l.policy l.learned (map without_end (ended_lines l.script)) (map without_end (ended_lines l.rest)) runs written
+    Stands (g.O.Sink.taken l.fn.output) (g.O.Sink.taken l.output) (g.O.Sink.failed l.fn.output) (g.O.Sink.failed l.output) l.policy l.world (map without_end (ended_lines l.script)) (map without_end (ended_lines l.rest)) runs written
 
 abbrev pub decreases-loop-rest : goal.decreases-loop-rest
 decreases-loop-rest g l = length l.rest

@@ -1,10 +1,6 @@
 use Rattle.std.proofs.Common.{inl, inr, rules, ap, sym, subst}
 use Rattle.std.specs.Prelude.{map}
-use Rattle.maple.proofs.Plain.{asks_nothing}
 use Rattle.maple.proofs.top.run_text.Goals as goal
-
-pub run_script-requires : goal.run_script-requires
-run_script-requires g c = asks_nothing c.in-Ok.policy _ c.in-Ok.ensures.policy
 
 pub returns-in-Ok : goal.returns-in-Ok
 returns-in-Ok g c = inl (c.in-Ok.policy, rw c.split_input.ensures.policy at c.in-Ok.ensures.policy, rw c.split_input.ensures.script at c.run_script.ensures)
