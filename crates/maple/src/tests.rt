@@ -121,7 +121,10 @@ fn policies(rt: HostRuntime) -> Result<(), Fail> {
 fn refused_policies(rt: HostRuntime) -> Result<(), Fail> {
     let alloc = rt.alloc();
     let refused = [
-        "policy { if pkt.tp_dst is 22 { drop; } out 2; }",
+        "policy { if pkt.tp_dst is 22 { drop; } else { out 2; } }",
+        "policy { if pkt.tp_dst == 22 { drop; } }",
+        "policy { if pkt.dl_pcp is 1 { drop; } }",
+        "policy { if pkt.tp_dst is 22 drop; }",
         "policy { out x; }",
         "policy { out 18446744073709551616; }",
         "policy { out 0x2; }",
@@ -317,5 +320,88 @@ fn an_input_without_an_end(rt: HostRuntime) -> Result<(), Fail> {
     let got = maple(&(), alloc, &words, &mut Endless, &mut sink);
     assert_eq!(rt; got, Status::TooLong);
     assert_eq!(rt; sink.bytes(), b"refused input\n".as_slice());
+    Ok(())
+}
+
+const FIELDS: &str = "policy {
+  if pkt.in_port is 9 { out 109; }
+  if pkt.dl_src is 5 { out 101; }
+  if pkt.dl_dst is 6 { out 102; }
+  if pkt.dl_vlan is 7 { out 103; }
+  if pkt.dl_type is 2054 { out 104; }
+  if pkt.nw_tos is 4 { out 105; }
+  if pkt.nw_proto is 6 { if pkt.tp_dst is 22 { drop; } if pkt.tp_src is 1000 { out 106; } }
+  if pkt.nw_src is 1 { if pkt.nw_dst is 2 { out 107; } }
+  out 2;
+}
+%%
+";
+
+// Tests of all fields, chained and nested. The first packet fails them all; a later one misses for
+// reason 1 where it leaves the path of that packet at a test, and for 0 where it does at a read.
+#[test]
+fn fields(rt: HostRuntime) -> Result<(), Fail> {
+    let alloc = rt.alloc();
+    let packets = [
+        ("1 nw_proto=17 tp_dst=80 nw_src=3", "1", "0", "out 2"),
+        ("9 nw_proto=17 tp_dst=80 nw_src=3", "9", "1", "out 109"),
+        ("1 dl_src=5", "1", "1", "out 101"),
+        ("1 dl_dst=6", "1", "1", "out 102"),
+        ("1 dl_vlan=7", "1", "1", "out 103"),
+        ("1 dl_type=2054", "1", "1", "out 104"),
+        ("1 nw_tos=4 nw_proto=17", "1", "1", "out 105"),
+        ("1 nw_proto=6 tp_dst=22 nw_src=3", "1", "1", "drop"),
+        ("1 nw_proto=6 tp_dst=80 tp_src=1000", "1", "1", "out 106"),
+        (
+            "1 nw_proto=6 tp_dst=80 tp_src=2000 nw_src=3",
+            "1",
+            "1",
+            "out 2",
+        ),
+        ("1 nw_proto=17 nw_src=1 nw_dst=2", "1", "1", "out 107"),
+        ("1 nw_proto=17 nw_src=1 nw_dst=3", "1", "1", "out 2"),
+        ("1 dl_type=34525", "1", "0", "out 2"),
+    ];
+    let mut input = String::from_str(alloc, FIELDS)?;
+    let mut output = String::new(alloc);
+    for (packet, port, reason, decision) in packets {
+        write!(input, "packet 1 {packet}\npacket 1 {packet}\n")?;
+        write!(
+            output,
+            "miss c1 {port} {reason}\nanswer s1 {port} {decision} learned\n"
+        )?;
+        write!(output, "hit c1 {port} {decision}\n")?;
+    }
+    for (packet, port, _, decision) in packets {
+        write!(input, "packet 1 {packet}\n")?;
+        write!(output, "hit c1 {port} {decision}\n")?;
+    }
+    output.push_str("end\n")?;
+    gives(&rt, alloc, input.as_str(), Status::Done, output.as_str())?;
+    Ok(())
+}
+
+// A run of so many false tests needs a barrier for each, and its own rule.
+#[test]
+fn rows(rt: HostRuntime) -> Result<(), Fail> {
+    let alloc = rt.alloc();
+    let answers = [
+        (
+            1023,
+            "miss c1 1 0\nanswer s1 1 out 2 learned\nhit c1 1 out 2\nend\n",
+        ),
+        (
+            1024,
+            "miss c1 1 0\nanswer s1 1 out 2 unlearned rows 1025 1024\nmiss c1 1 0\nanswer s1 1 out 2 unlearned rows 1025 1024\nend\n",
+        ),
+    ];
+    for (tests, output) in answers {
+        let mut input = String::from_str(alloc, "policy {")?;
+        for i in 0..tests {
+            write!(input, " if pkt.dl_src is {i} {{ }}")?;
+        }
+        input.push_str(" out 2; }\n%%\npacket 1 1 dl_src=9999\npacket 1 1 dl_src=9999\n")?;
+        gives(&rt, alloc, input.as_str(), Status::Done, output)?;
+    }
     Ok(())
 }

@@ -1,2 +1,6 @@
 pub mod FirstWords
 pub mod Grammar
+pub mod Marks
+pub mod OnePolicy
+pub mod Steps
+pub mod Values

@@ -1,3 +1,4 @@
+pub mod Laws
 pub mod Parsing
 pub mod PolicyText
 pub mod Tokens

@@ -1,13 +1,17 @@
--- The text of a policy of the statements `drop;` and `out N;`.
-use Rattle.std.specs.Prelude.{◌≡◌, ℕ, ◌+◌, ◌≤◌, Bool, true, false, ◌&&◌, ◌||◌, ◌==◌, nat_le, nat_lt, if◌then◌else◌, List, [], ◌∷◌, ◌++◌, length, Some, IsTrue, codes}
-use Rattle.std.specs.List.{list_all}
+-- The text of a policy of the statements `drop;`, `out N;` and `if pkt.FIELD is N { .. }`.
+use Rattle.std.specs.Prelude.{◌≡◌, ℕ, ◌+◌, ◌≤◌, Bool, true, false, ◌&&◌, ◌||◌, ◌==◌, max, nat_le, nat_lt, if◌then◌else◌, map, sum, List, [], ◌∷◌, ◌++◌, length, Option, Some, None, IsTrue, codes}
+use Rattle.std.specs.List.{list_all, concat}
+use Rattle.std.specs.Str.{bytes_eq}
 use Rattle.maple_base.specs.Numbers.{number_of}
+use Rattle.maple_base.specs.declared.key.Field.{Field}
+use Rattle.maple_base.specs.declared.key.Field.TheVariants.{InPort, DlSrc, DlDst, DlVlan, DlType, NwTos, NwProto, NwSrc, NwDst, TpSrc, TpDst}
 use Rattle.policy_lang.specs.declared.Expr.{Expr}
-use Rattle.policy_lang.specs.declared.Expr.TheVariants.{Number}
-use Rattle.policy_lang.specs.declared.Statement.{Statement}
-use Rattle.policy_lang.specs.declared.Statement.TheVariants.{Drop, Out}
+use Rattle.policy_lang.specs.declared.Expr.TheVariants.{Number, Is'}
+use Rattle.policy_lang.specs.declared.Head.{Head}
+use Rattle.policy_lang.specs.declared.Head.TheVariants.{Test}
+use Rattle.policy_lang.specs.declared.Statement.TheOpen.{Statement-F, Block-F, Drop as drop, Out as out, If as if_}
+use Rattle.policy_lang.specs.declared.Block.{Block, fold-Block}
 use Rattle.policy_lang.specs.declared.Policy.{Policy}
-use Rattle.policy_lang.specs.Blocks.{statements_of}
 
 -- a word, or a sign of one byte
 pub data Lexeme : Type 0 where
@@ -50,42 +54,146 @@ lexemes_of [] = []
 lexemes_of (b ∷ bs) =
     if is_word_byte b then word_onto b (begins_word bs) (lexemes_of bs) else (if is_blank b then lexemes_of bs else Sign b ∷ lexemes_of bs)
 
--- the statement is spelled so: `drop ;` or `out N ;`
-abbrev pub SpellsStatement : Statement → List Lexeme → Type 0
-SpellsStatement Drop ls = ls ≡ Word (codes "drop") ∷ Sign 59 ∷ []
-SpellsStatement (Out es) ls = (w : List ℕ) × (n : ℕ) × (number_of w ≡ Some n) × (es ≡ Number n ∷ []) × (ls ≡ Word (codes "out") ∷ Word w ∷ Sign 59 ∷ [])
-SpellsStatement s ls = ⊥
-
--- the statements are spelled so, one after the other
-abbrev pub SpellsAll : List Statement → List Lexeme → Type 0
-SpellsAll [] ls = ls ≡ []
-SpellsAll (s ∷ ss) ls = (front rest : List Lexeme) × SpellsStatement s front × SpellsAll ss rest × (ls ≡ front ++ rest)
-
--- each statement is a node, and each number
-abbrev pub nodes_of : Statement → ℕ
-nodes_of Drop = 1
-nodes_of (Out es) = 1 + length es
-nodes_of s = 1
-
-abbrev pub nodes_in : List Statement → ℕ
-nodes_in [] = 0
-nodes_in (s ∷ ss) = nodes_of s + nodes_in ss
-
 -- the words and signs of a text
 abbrev pub text_lexemes : List ℕ → List Lexeme
 text_lexemes text = lexemes_of (without_comments false text)
 
--- the text is `policy { .. }` with these statements, in ASCII, of at most 65,536 bytes and 4,096 nodes
-pub record Spells (ss : List Statement) (text : List ℕ) : Type 0 where
+-- a name of a field of the packet, as policies write it
+abbrev pub field_name : Field → List ℕ
+field_name InPort = codes "pkt.in_port"
+field_name DlSrc = codes "pkt.dl_src"
+field_name DlDst = codes "pkt.dl_dst"
+field_name DlVlan = codes "pkt.dl_vlan"
+field_name DlType = codes "pkt.dl_type"
+field_name NwTos = codes "pkt.nw_tos"
+field_name NwProto = codes "pkt.nw_proto"
+field_name NwSrc = codes "pkt.nw_src"
+field_name NwDst = codes "pkt.nw_dst"
+field_name TpSrc = codes "pkt.tp_src"
+field_name TpDst = codes "pkt.tp_dst"
+
+-- what stands in the text of a policy: a word, a sign, a number in any spelling, or what this grammar has no text for
+pub data Mark : Type 0 where
+  Keyword : List ℕ → Mark
+  Brace : ℕ → Mark
+  Numeral : ℕ → Mark
+  Wordless : Mark
+
+-- a lexeme is the text of a mark
+abbrev pub IsTextOfMark : Mark → Lexeme → Type 0
+IsTextOfMark (Keyword text) (Word w) = w ≡ text
+IsTextOfMark (Brace sign) (Sign c) = c ≡ sign
+IsTextOfMark (Numeral n) (Word w) = number_of w ≡ Some n
+IsTextOfMark m l = ⊥
+
+-- the lexemes are the texts of the marks, one of one
+abbrev pub AreTextsOf : List Mark → List Lexeme → Type 0
+AreTextsOf [] [] = Unit {0}
+AreTextsOf (m ∷ ms) (l ∷ ls) = IsTextOfMark m l × AreTextsOf ms ls
+AreTextsOf ms ls = ⊥
+
+-- `N`; other expressions have no text of their own
+abbrev pub number_marks : Expr → List Mark
+number_marks (Number n) = Numeral n ∷ []
+number_marks e = Wordless ∷ []
+
+-- `pkt.FIELD is N`
+abbrev pub test_marks : Expr → List Mark
+test_marks (Is' f p e) = Keyword (field_name f) ∷ Keyword (codes "is") ∷ number_marks e
+test_marks e = Wordless ∷ []
+
+abbrev pub head_marks : Head → List Mark
+head_marks (Test e) = test_marks e
+
+abbrev pub ports_marks : List Expr → List Mark
+ports_marks (e ∷ []) = number_marks e
+ports_marks es = Wordless ∷ []
+
+abbrev pub in_braces : List Mark → List Mark
+in_braces ms = Brace 123 ∷ (ms ++ Brace 125 ∷ [])
+
+-- `drop;`, `out N;` or `if pkt.FIELD is N { .. }`, with what stands in its block
+abbrev pub statement_marks : Statement-F (List Mark) (List Mark) → List Mark
+statement_marks drop = Keyword (codes "drop") ∷ Brace 59 ∷ []
+statement_marks (out es) = Keyword (codes "out") ∷ (ports_marks es ++ Brace 59 ∷ [])
+statement_marks (if_ h block None) = Keyword (codes "if") ∷ (head_marks h ++ in_braces block)
+statement_marks (if_ h block (Some other)) = Wordless ∷ []
+
+abbrev pub joined : List (List Mark) → List Mark
+joined [] = []
+joined (ms ∷ rest) = ms ++ joined rest
+
+abbrev pub block_layer : Block-F (List Mark) (List Mark) → List Mark
+block_layer b = joined b.list.items
+
+-- what stands in the text of a block
+abbrev pub block_marks : Block → List Mark
+block_marks = fold-Block (List Mark) (List Mark) statement_marks block_layer
+
+-- how many nodes a statement has: itself, its expressions, and those of its blocks
+abbrev pub expr_nodes : Expr → ℕ
+expr_nodes (Number n) = 1
+expr_nodes (Is' f p e) = 1 + expr_nodes e
+
+abbrev pub all_nodes : List Expr → ℕ
+all_nodes [] = 0
+all_nodes (e ∷ es) = expr_nodes e + all_nodes es
+
+abbrev pub other_nodes : Option ℕ → ℕ
+other_nodes None = 0
+other_nodes (Some n) = n
+
+abbrev pub head_nodes : Head → ℕ
+head_nodes (Test e) = expr_nodes e
+
+abbrev pub statement_nodes : Statement-F ℕ ℕ → ℕ
+statement_nodes drop = 1
+statement_nodes (out es) = 1 + all_nodes es
+statement_nodes (if_ h block other) = 1 + head_nodes h + block + other_nodes other
+
+abbrev pub nodes_layer : Block-F ℕ ℕ → ℕ
+nodes_layer b = sum b.list.items
+
+abbrev pub block_nodes : Block → ℕ
+block_nodes = fold-Block ℕ ℕ statement_nodes nodes_layer
+
+-- how deep a statement's nodes go, itself counted: an expression of a statement is one deeper than it, a part of an operator one deeper than that
+abbrev pub expr_depth : Expr → ℕ
+expr_depth (Number n) = 1
+expr_depth (Is' f p e) = 1 + expr_depth e
+
+abbrev pub deepest : List Expr → ℕ
+deepest [] = 0
+deepest (e ∷ es) = max (expr_depth e) (deepest es)
+
+abbrev pub head_depth : Head → ℕ
+head_depth (Test e) = expr_depth e
+
+abbrev pub statement_depth : Statement-F ℕ ℕ → ℕ
+statement_depth drop = 1
+statement_depth (out es) = 1 + deepest es
+statement_depth (if_ h block other) = 1 + max (head_depth h) (max block (other_nodes other))
+
+abbrev pub greatest : List ℕ → ℕ
+greatest [] = 0
+greatest (n ∷ ns) = max n (greatest ns)
+
+abbrev pub depth_layer : Block-F ℕ ℕ → ℕ
+depth_layer b = greatest b.list.items
+
+abbrev pub block_depth : Block → ℕ
+block_depth = fold-Block ℕ ℕ statement_depth depth_layer
+
+-- the text is `policy { .. }` with the statements of this block, in ASCII, of at most 65,536 bytes, 4,096 nodes and a nesting of 32
+pub record Spells (body : Block) (text : List ℕ) : Type 0 where
   pub short : length text ≤ 65536
   pub ascii : IsTrue (list_all is_text_byte text)
-  pub few : nodes_in ss ≤ 4096
-  pub body : List Lexeme
-  pub statements : SpellsAll ss body
-  pub whole : text_lexemes text ≡ Word (codes "policy") ∷ Sign 123 ∷ (body ++ Sign 125 ∷ [])
+  pub few : block_nodes body ≤ 4096
+  pub shallow : block_depth body ≤ 32
+  pub texts : AreTextsOf (Keyword (codes "policy") ∷ in_braces (block_marks body)) (text_lexemes text)
 
 -- the text is one of this policy, which names no tables and learns no hosts
 pub record IsTextOf (policy : Policy) (text : List ℕ) : Type 0 where
   pub tables : policy.tables ≡ []
   pub learning : policy.learning ≡ false
-  pub spells : Spells (statements_of policy.body) text
+  pub spells : Spells policy.body text

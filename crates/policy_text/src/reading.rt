@@ -1,15 +1,18 @@
 // The text of a policy.
-ghost use Rattle.std.specs.Prelude.{◌≡◌, ◌-◌, ◌^◌, ◌≤◌, ◌↔◌, ◌++◌, min, if◌then◌else◌, IsTrue, IfOk, IfErr, OnOk};
+ghost use Rattle.std.specs.Prelude.{◌≡◌, ◌+◌, ◌-◌, ◌^◌, ◌<◌, ◌≤◌, ◌↔◌, [], ◌∷◌, ◌++◌, length, map, max, min, sum, if◌then◌else◌, IsTrue, IfOk, IfErr, OnOk};
 ghost use Rattle.std.specs.Option.{option_map};
 ghost use Rattle.std.specs.List.{list_all};
-ghost use Rattle.policy_text.specs.PolicyText.{IsTextOf, is_text_byte, text_lexemes, lexemes_of, nodes_in, nodes_of};
-ghost use Rattle.policy_text.specs.Parsing.{IsRefused, is_word, is_sign, number_in, step, ended, parsed};
+ghost use Rattle.std.specs.Str.{bytes_eq};
+ghost use Rattle.policy_lang.specs.Blocks.{statements_of};
+ghost use Rattle.policy_text.specs.PolicyText.{IsTextOf, Mark, Brace, is_text_byte, text_lexemes, lexemes_of, block_nodes, block_depth, expr_nodes, all_nodes, head_nodes, other_nodes, expr_depth, deepest, head_depth, greatest};
+ghost use Rattle.policy_text.specs.Parsing.{IsRefused, is_word, is_sign, number_in, field_in, named_field, net_field, ports_field, place_of, step, closing, opened, marks_from, body_marks, marks_of, test_text, levels, so_far, ended, blocks_behind, CanLeave, nodes_of, depth_of};
 ghost use Rattle.policy_text.specs.Tokens.{lexeme};
 
 use crate::tokens::{Token, is_text_byte, next_token, without_comments};
-use maple_base::{Names, NoMemory, number_of};
-use policy_lang::{Block, Expr, Exprs, Policy, Statement};
+use maple_base::{Field, Names, NoMemory, number_of};
+use policy_lang::{Block, Expr, Exprs, Head, Policy, Statement};
 use std::alloc::Global;
+use std::mem;
 
 /// Why no policy was read.
 #[derive(Clone, Copy, Debug, PartialEq, Eq)]
@@ -20,14 +23,10 @@ pub enum ReadError {
     NoMemory,
 }
 
-/// Where in a policy's text a reader stands.
+/// Where in a policy's body a reader stands.
 #[derive(Clone, Copy, Debug, PartialEq, Eq)]
 pub enum Place {
-    /// Ahead of `policy`.
-    Start,
-    /// Behind `policy`.
-    Opening,
-    /// Ahead of a statement or of the closing brace.
+    /// Ahead of a statement or of a closing brace.
     Ahead,
     /// Behind `drop`.
     BehindDrop,
@@ -35,8 +34,24 @@ pub enum Place {
     BehindOut,
     /// Behind `out` and this number.
     BehindPort(u64),
-    /// Behind the closing brace.
+    /// Behind `if`.
+    BehindIf,
+    /// Behind `if` and this field.
+    BehindField(Field),
+    /// Behind `if`, this field and `is`.
+    BehindIs(Field),
+    /// Behind `if`, this field, `is` and this number.
+    BehindTest(Field, u64),
+    /// Behind the policy's closing brace.
     Closed,
+}
+
+/// A block that is open: what its `if` tests, and the statements ahead of that `if`.
+#[derive(Drop)]
+pub struct Open {
+    field: Field,
+    number: u64,
+    outer: Vec<Statement>,
 }
 
 const REFUSED: ReadError = ReadError::Refused {
@@ -46,8 +61,8 @@ const REFUSED: ReadError = ReadError::Refused {
 };
 
 /// The policy of a text. It is refused, with line 1, column 1 and kind 3, exactly where no policy
-/// has the text, which is `policy { .. }` with statements `drop;` and `out N;`, in at most 65,536
-/// bytes of ASCII and 4,096 nodes.
+/// has the text, which is `policy { .. }` with statements `drop;`, `out N;` and
+/// `if pkt.FIELD is N { .. }`, in at most 65,536 bytes of ASCII, 4,096 nodes and a nesting of 32.
 pub fn read_policy(alloc: Global, text: &[u8]) -> Result<Policy, ReadError>
     ensures policy { IfOk result (λ policy. IsTextOf policy text.now) }
     ensures refused { IfErr result (IsRefused text.now) }
@@ -61,11 +76,12 @@ pub fn read_policy(alloc: Global, text: &[u8]) -> Result<Policy, ReadError>
     let Some(list) = read else {
         return Err(REFUSED);
     };
-    if !are_few(&list) {
+    let body = Block::new(list);
+    if !are_few(&body) || !is_shallow(&body) {
         return Err(REFUSED);
     }
     let tables = Names::new(Vec::new(alloc));
-    Ok(Policy::new(tables, false, Block::new(list)))
+    Ok(Policy::new(tables, false, body))
 }
 
 fn is_ascii_text(text: &[u8]) -> bool
@@ -74,79 +90,246 @@ fn is_ascii_text(text: &[u8]) -> bool
     text.iter().all(|b| is_text_byte(*b))
 }
 
-fn are_few(list: &[Statement]) -> bool
-    ensures { IsTrue result ↔ (nodes_in list.now ≤ 4096) }
+fn are_few(body: &Block) -> bool
+    ensures { IsTrue result ↔ (block_nodes body.now ≤ 4096) }
 {
-    let mut nodes: usize = 0;
-    for statement in list {
-        nodes = nodes.saturating_add(nodes_of(statement));
-    }
-    nodes <= 4_096
+    nodes_in(body.items()) <= 4_096
 }
 
+fn is_shallow(body: &Block) -> bool
+    ensures { IsTrue result ↔ (block_depth body.now ≤ 32) }
+{
+    depth_in(body.items()) <= 32
+}
+
+fn expr_nodes(expr: &Expr) -> usize
+    ensures { result ≡ min (expr_nodes expr.now) (2 ^ 64 - 1) }
+{
+    match expr {
+        Expr::Number(_) => 1,
+        Expr::Is(_, right) => expr_nodes(right).saturating_add(1),
+    }
+}
+
+fn all_nodes(exprs: &[Expr]) -> usize
+    ensures { result ≡ min (all_nodes exprs.now) (2 ^ 64 - 1) }
+{
+    let mut nodes: usize = 0;
+    for expr in exprs {
+        nodes = nodes.saturating_add(expr_nodes(expr));
+    }
+    nodes
+}
+
+fn head_nodes(head: &Head) -> usize
+    ensures { result ≡ min (head_nodes head.now) (2 ^ 64 - 1) }
+{
+    match head {
+        Head::Test(expr) => expr_nodes(expr),
+    }
+}
+
+#[cycle(nodes)]
 fn nodes_of(statement: &Statement) -> usize
     ensures { result ≡ min (nodes_of statement.now) (2 ^ 64 - 1) }
 {
     match statement {
-        Statement::Drop | Statement::If(..) => 1,
-        Statement::Out(ports) => ports.items().len().saturating_add(1),
+        Statement::Drop => 1,
+        Statement::Out(exprs) => all_nodes(exprs.items()).saturating_add(1),
+        Statement::If(head, block, other) => {
+            let inner = nodes_in(block.items()).saturating_add(other_nodes(other));
+            head_nodes(head).saturating_add(inner).saturating_add(1)
+        }
     }
+}
+
+#[cycle(nodes)]
+fn other_nodes(other: &Option<Block>) -> usize
+    ensures { result ≡ min (other_nodes (option_map block_nodes other.now)) (2 ^ 64 - 1) }
+{
+    match other {
+        None => 0,
+        Some(block) => nodes_in(block.items()),
+    }
+}
+
+#[cycle(nodes)]
+fn nodes_in(statements: &[Statement]) -> usize
+    ensures { result ≡ min (sum (map nodes_of statements.now)) (2 ^ 64 - 1) }
+{
+    let mut nodes: usize = 0;
+    for statement in statements {
+        nodes = nodes.saturating_add(nodes_of(statement));
+    }
+    nodes
+}
+
+fn larger(first: usize, second: usize) -> usize
+    ensures { result ≡ max first second }
+{
+    if first < second { second } else { first }
+}
+
+fn expr_depth(expr: &Expr) -> usize
+    ensures { result ≡ min (expr_depth expr.now) (2 ^ 64 - 1) }
+{
+    match expr {
+        Expr::Number(_) => 1,
+        Expr::Is(_, right) => expr_depth(right).saturating_add(1),
+    }
+}
+
+fn deepest(exprs: &[Expr]) -> usize
+    ensures { result ≡ min (deepest exprs.now) (2 ^ 64 - 1) }
+{
+    let mut depth: usize = 0;
+    for expr in exprs {
+        depth = larger(depth, expr_depth(expr));
+    }
+    depth
+}
+
+fn head_depth(head: &Head) -> usize
+    ensures { result ≡ min (head_depth head.now) (2 ^ 64 - 1) }
+{
+    match head {
+        Head::Test(expr) => expr_depth(expr),
+    }
+}
+
+#[cycle(depth)]
+fn depth_of(statement: &Statement) -> usize
+    ensures { result ≡ min (depth_of statement.now) (2 ^ 64 - 1) }
+{
+    match statement {
+        Statement::Drop => 1,
+        Statement::Out(exprs) => deepest(exprs.items()).saturating_add(1),
+        Statement::If(head, block, other) => {
+            let inner = larger(depth_in(block.items()), other_depth(other));
+            larger(head_depth(head), inner).saturating_add(1)
+        }
+    }
+}
+
+#[cycle(depth)]
+fn other_depth(other: &Option<Block>) -> usize
+    ensures { result ≡ min (other_nodes (option_map block_depth other.now)) (2 ^ 64 - 1) }
+{
+    match other {
+        None => 0,
+        Some(block) => depth_in(block.items()),
+    }
+}
+
+#[cycle(depth)]
+fn depth_in(statements: &[Statement]) -> usize
+    ensures { result ≡ min (greatest (map depth_of statements.now)) (2 ^ 64 - 1) }
+{
+    let mut depth: usize = 0;
+    for statement in statements {
+        depth = larger(depth, depth_of(statement));
+    }
+    depth
 }
 
 // The statements of a text, where it has the form of a policy.
 fn text_statements(alloc: Global, text: &[u8]) -> Result<Option<Vec<Statement>>, NoMemory>
-    ensures { IfOk result (λ read. option_map (λ list. list.items) read ≡ parsed Place.Start (text_lexemes text.now)) }
+    ensures { IfOk result (λ read. option_map (λ list. marks_of list.items ++ Brace 125 ∷ []) read ≡ body_marks (text_lexemes text.now)) }
 {
     let kept = without_comments(alloc, text)?;
-    statements(alloc, &kept)
+    let text: &[u8] = &kept;
+    match opened(text) {
+        Some(body) => statements(alloc, body),
+        None => Ok(None),
+    }
 }
 
-// The statements of a text without comments, where it has the form of a policy.
-fn statements(alloc: Global, text: &[u8]) -> Result<Option<Vec<Statement>>, NoMemory>
-    ensures { IfOk result (λ read. option_map (λ list. list.items) read ≡ parsed Place.Start (lexemes_of text.now)) }
+// What stands behind `policy {`.
+fn opened(text: &[u8]) -> Option<&[u8]>
+    ensures { option_map (λ rest. lexemes_of rest.now) result ≡ opened (lexemes_of text.now) }
 {
+    let (first, rest) = next_token(text)?;
+    if !is_word(first, b"policy") {
+        return None;
+    }
+    let (second, body) = next_token(rest)?;
+    if is_sign(second, b'{') {
+        Some(body)
+    } else {
+        None
+    }
+}
+
+// The statements of a policy's body without comments, where it has the form of one.
+fn statements(alloc: Global, text: &[u8]) -> Result<Option<Vec<Statement>>, NoMemory>
+    ensures { IfOk result (λ read. option_map (λ list. marks_of list.items ++ Brace 125 ∷ []) read ≡ marks_from Place.Ahead 0 (lexemes_of text.now)) }
+{
+    let mut stack = Vec::new(alloc);
     let mut list = Vec::new(alloc);
-    let mut place = Place::Start;
+    let mut place = Place::Ahead;
     let mut rest = text;
     while let Some((token, behind)) = next_token(rest) {
-        let Some(next) = step(place, token) else {
+        let Some(next) = step(place, stack.len(), token) else {
             return Ok(None);
         };
-        push_ended(alloc, place, &mut list)?;
+        leave(alloc, place, next, &mut stack, &mut list)?;
         place = next;
         rest = behind;
     }
     match place {
-        Place::Closed => Ok(Some(list)),
+        Place::Closed if stack.is_empty() => Ok(Some(list)),
         _ => Ok(None),
     }
 }
 
-fn step(place: Place, token: Token<'_>) -> Option<Place>
-    ensures { result ≡ step place (lexeme token.entry) }
+// Where a token leads to, with so many blocks open.
+fn step(place: Place, blocks: usize, token: Token<'_>) -> Option<Place>
+    ensures { result ≡ option_map place_of (step place blocks (lexeme token.entry)) }
 {
     match place {
-        Place::Start => leads(is_word(token, b"policy"), Place::Opening),
-        Place::Opening => leads(is_sign(token, b'{'), Place::Ahead),
-        Place::Ahead => step_ahead(token),
+        Place::Ahead => step_ahead(blocks, token),
         Place::BehindDrop | Place::BehindPort(_) => leads(is_sign(token, b';'), Place::Ahead),
         Place::BehindOut => match number_in(token) {
             Some(number) => Some(Place::BehindPort(number)),
             None => None,
         },
+        Place::BehindIf => match field_in(token) {
+            Some(field) => Some(Place::BehindField(field)),
+            None => None,
+        },
+        Place::BehindField(field) => leads(is_word(token, b"is"), Place::BehindIs(field)),
+        Place::BehindIs(field) => match number_in(token) {
+            Some(number) => Some(Place::BehindTest(field, number)),
+            None => None,
+        },
+        Place::BehindTest(..) => leads(blocks < 30 && is_sign(token, b'{'), Place::Ahead),
         Place::Closed => None,
     }
 }
 
-fn step_ahead(token: Token<'_>) -> Option<Place>
-    ensures { result ≡ step Place.Ahead (lexeme token.entry) }
+fn step_ahead(blocks: usize, token: Token<'_>) -> Option<Place>
+    ensures { result ≡ option_map place_of (step Place.Ahead blocks (lexeme token.entry)) }
 {
     if is_word(token, b"drop") {
         Some(Place::BehindDrop)
     } else if is_word(token, b"out") {
         Some(Place::BehindOut)
+    } else if is_word(token, b"if") {
+        Some(Place::BehindIf)
     } else {
-        leads(is_sign(token, b'}'), Place::Closed)
+        closing(blocks, token)
+    }
+}
+
+// A closing brace is the policy's own where no block is open in it.
+fn closing(blocks: usize, token: Token<'_>) -> Option<Place>
+    ensures { result ≡ option_map place_of (closing blocks (lexeme token.entry)) }
+{
+    let closes = is_sign(token, b'}');
+    if blocks == 0 {
+        leads(closes, Place::Closed)
+    } else {
+        leads(closes, Place::Ahead)
     }
 }
 
@@ -183,18 +366,161 @@ fn number_in(token: Token<'_>) -> Option<u64>
     }
 }
 
-// Adds the statement that ends where this place is left, if one does.
-fn push_ended(alloc: Global, place: Place, list: &mut Vec<Statement>) -> Result<(), NoMemory>
-    ensures { OnOk result (list.new.items ≡ list.old.items ++ ended place) }
+fn field_in(token: Token<'_>) -> Option<Field>
+    ensures { result ≡ field_in (lexeme token.entry) }
+{
+    match token {
+        Token::Word(word) => named_field(word),
+        Token::Sign(_) => None,
+    }
+}
+
+fn is_name(word: &[u8], name: &[u8]) -> bool
+    ensures { result ≡ bytes_eq word.now name.now }
+{
+    word == name
+}
+
+fn named_field(word: &[u8]) -> Option<Field>
+    ensures { result ≡ named_field word.now }
+{
+    if is_name(word, b"pkt.in_port") {
+        Some(Field::InPort)
+    } else if is_name(word, b"pkt.dl_src") {
+        Some(Field::DlSrc)
+    } else if is_name(word, b"pkt.dl_dst") {
+        Some(Field::DlDst)
+    } else if is_name(word, b"pkt.dl_vlan") {
+        Some(Field::DlVlan)
+    } else {
+        net_field(word)
+    }
+}
+
+fn net_field(word: &[u8]) -> Option<Field>
+    ensures { result ≡ net_field word.now }
+{
+    if is_name(word, b"pkt.dl_type") {
+        Some(Field::DlType)
+    } else if is_name(word, b"pkt.nw_tos") {
+        Some(Field::NwTos)
+    } else if is_name(word, b"pkt.nw_proto") {
+        Some(Field::NwProto)
+    } else if is_name(word, b"pkt.nw_src") {
+        Some(Field::NwSrc)
+    } else {
+        ports_field(word)
+    }
+}
+
+fn ports_field(word: &[u8]) -> Option<Field>
+    ensures { result ≡ ports_field word.now }
+{
+    if is_name(word, b"pkt.nw_dst") {
+        Some(Field::NwDst)
+    } else if is_name(word, b"pkt.tp_src") {
+        Some(Field::TpSrc)
+    } else if is_name(word, b"pkt.tp_dst") {
+        Some(Field::TpDst)
+    } else {
+        None
+    }
+}
+
+// Ends a statement, or opens or closes a block, where this place is left for the next.
+fn leave(
+    alloc: Global,
+    place: Place,
+    next: Place,
+    stack: &mut Vec<Open>,
+    list: &mut Vec<Statement>,
+) -> Result<(), NoMemory>
+    requires { CanLeave place next (length stack.old.items) }
+    ensures count { OnOk result (length stack.new.items ≡ blocks_behind place next (length stack.old.items)) }
+    ensures marks { OnOk result (so_far stack.new.items list.new.items ≡ so_far stack.old.items list.old.items ++ ended place next) }
 {
     match place {
-        Place::BehindDrop => list.push(Statement::Drop)?,
-        Place::BehindPort(port) => {
-            let mut ports = Vec::new(alloc);
-            ports.push(Expr::Number(port))?;
-            list.push(Statement::Out(Exprs::new(ports)))?;
-        }
-        _ => {}
+        Place::BehindDrop => push_drop(list),
+        Place::BehindPort(port) => push_out(alloc, port, list),
+        Place::BehindTest(field, number) => open_block(alloc, field, number, stack, list),
+        Place::Ahead => match next {
+            Place::Ahead => close_block(alloc, stack, list),
+            _ => Ok(()),
+        },
+        _ => Ok(()),
     }
+}
+
+fn push_drop(list: &mut Vec<Statement>) -> Result<(), NoMemory>
+    ensures { OnOk result (marks_of list.new.items ≡ marks_of list.old.items ++ ended Place.BehindDrop Place.Ahead) }
+{
+    list.push(Statement::Drop)?;
+    Ok(())
+}
+
+fn push_out(alloc: Global, port: u64, list: &mut Vec<Statement>) -> Result<(), NoMemory>
+    ensures { OnOk result (marks_of list.new.items ≡ marks_of list.old.items ++ ended (Place.BehindPort port) Place.Ahead) }
+{
+    let mut ports = Vec::new(alloc);
+    ports.push(Expr::Number(port))?;
+    list.push(Statement::Out(Exprs::new(ports)))?;
+    Ok(())
+}
+
+fn open_block(
+    alloc: Global,
+    field: Field,
+    number: u64,
+    stack: &mut Vec<Open>,
+    list: &mut Vec<Statement>,
+) -> Result<(), NoMemory>
+    ensures count { OnOk result (length stack.new.items ≡ length stack.old.items + 1) }
+    ensures marks { OnOk result (levels stack.new.items ≡ levels stack.old.items ++ (marks_of list.old.items ++ test_text field number)) }
+    ensures list { OnOk result (list.new.items ≡ []) }
+{
+    let outer = mem::replace(list, Vec::new(alloc));
+    let open = Open {
+        field,
+        number,
+        outer,
+    };
+    stack.push(open)?;
+    Ok(())
+}
+
+// Ends the innermost block that is open: its `if` becomes a statement behind those ahead of it.
+fn close_block(
+    alloc: Global,
+    stack: &mut Vec<Open>,
+    list: &mut Vec<Statement>,
+) -> Result<(), NoMemory>
+    requires { 0 < length stack.old.items }
+    ensures count { OnOk result (length stack.new.items + 1 ≡ length stack.old.items) }
+    ensures marks { OnOk result (so_far stack.new.items list.new.items ≡ so_far stack.old.items list.old.items ++ Brace 125 ∷ []) }
+{
+    let Some(open) = stack.pop() else {
+        return Ok(());
+    };
+    let Open {
+        field,
+        number,
+        outer,
+    } = open;
+    let block = Block::new(mem::replace(list, outer));
+    push_if(alloc, field, number, block, list)?;
+    Ok(())
+}
+
+fn push_if(
+    alloc: Global,
+    field: Field,
+    number: u64,
+    block: Block,
+    list: &mut Vec<Statement>,
+) -> Result<(), NoMemory>
+    ensures { OnOk result (marks_of list.new.items ≡ marks_of list.old.items ++ (test_text field number ++ (marks_of (statements_of block) ++ Brace 125 ∷ []))) }
+{
+    let test = Expr::Is(field, Box::new(alloc, Expr::Number(number))?);
+    list.push(Statement::If(Head::Test(test), block, None))?;
     Ok(())
 }

@@ -1,23 +1,42 @@
-use Rattle.std.proofs.Common.{◌≡◌, ◌≤◌, Some, sym, ap, refl, rules, ◌∙◌, subst}
-use Rattle.policy_text.specs.PolicyText.{nodes_in, text_lexemes}
-use Rattle.policy_text.specs.Parsing.{parsed}
-use Rattle.policy_text.specs.declared.reading.Place.TheVariants.{Start}
-use Rattle.policy_text.proofs.Grammar.{parsed_spells, unread, too_many}
+use Rattle.std.proofs.Common.{◌≡◌, ◌≤◌, [], ◌∷◌, ◌++◌, sym, ap, refl, rules, ◌∙◌}
+use Rattle.std.specs.Prelude.{Some, IsTrue, false}
+use Rattle.policy_lang.specs.Blocks.{statements_of}
+use Rattle.policy_text.specs.PolicyText.{Brace, text_lexemes, block_marks, block_nodes, block_depth}
+use Rattle.policy_text.specs.Parsing.{body_marks, marks_of}
+use Rattle.policy_text.proofs.Marks.{block_is}
+use Rattle.policy_text.proofs.Grammar.{unread, read_spells}
+use Rattle.policy_text.proofs.Values.{too_large}
 use Rattle.policy_text.proofs.reading.read_policy.Goals as goal
+use Rattle.policy_text.proofs.reading.read_policy.Goals.{then-not-are_few-via-then-not-are_few, then-not-are_few-via-else-not-are_few+then-not-is_shallow}
 
 pub returns-in_default-read-clause-refused : goal.returns-in_default-read-clause-refused
 returns-in_default-read-clause-refused c = (unread c.args.text.now (sym (rw c.in_default-read.is at c.in-Ok.ensures)), refl, refl, refl)
 
-pub returns-then-not-are_few-clause-refused : goal.returns-then-not-are_few-clause-refused
-returns-then-not-are_few-clause-refused c =
-    (too_many c.in-Some.list.items c.args.text.now (sym (rw c.in-Some.is at c.in-Ok.ensures)) (let e = c.deref.ensures.value in let f = c.are_few.ensures in search rules), refl, refl, refl)
-
 pub returns-clause-policy : goal.returns-clause-policy
 returns-clause-policy c =
-    let few : nodes_in c.in-Some.list.items ≤ 4096 = search rules in
-    let read : parsed Start (text_lexemes c.args.text.now) ≡ Some c.in-Some.list.items = sym (rw c.in-Some.is at c.in-Ok.ensures) in
+    let body = c.new-body.result in
+    let few : block_nodes body ≤ 4096 = search rules in
+    let shallow : block_depth body ≤ 32 = search rules in
+    let read : body_marks (text_lexemes c.args.text.now) ≡ Some (block_marks body ++ Brace 125 ∷ []) =
+    sym (rw c.in-Some.is at c.in-Ok.ensures)
+    ∙ ap (λ ss. Some (marks_of ss ++ Brace 125 ∷ [])) (sym c.new-body.ensures)
+    ∙ ap (λ ms. Some (ms ++ Brace 125 ∷ [])) (sym (block_is body)) in
     record {
       tables = search rules;
       learning = search rules;
-      spells = rw (c.new-3.ensures.body, c.new-2.ensures) (parsed_spells c.in-Some.list.items c.args.text.now (search rules) (search rules) few read);
+      spells = rw c.new-2.ensures.body (read_spells body c.args.text.now (search rules) (search rules) few shallow read);
     }
+
+pub returns-then-not-are_few-clause-refused : goal.returns-then-not-are_few-clause-refused
+returns-then-not-are_few-clause-refused c =
+    let body = c.new-body.result in
+    let read : body_marks (text_lexemes c.args.text.now) ≡ Some (block_marks body ++ Brace 125 ∷ []) =
+    sym (rw c.in-Some.is at c.in-Ok.ensures)
+    ∙ ap (λ ss. Some (marks_of ss ++ Brace 125 ∷ [])) (sym c.new-body.ensures)
+    ∙ ap (λ ms. Some (ms ++ Brace 125 ∷ [])) (sym (block_is body)) in
+    elim c.then-not-are_few.branch [
+      | then-not-are_few-via-then-not-are_few w ↦
+          (too_large body c.args.text.now read (λ few shallow. let f : IsTrue false = w.if-not-are_few.ensures.1 few in absurd (cc)), refl, refl, refl)
+      | then-not-are_few-via-else-not-are_few+then-not-is_shallow w ↦
+          (too_large body c.args.text.now read (λ few shallow. let f : IsTrue false = w.if-not-is_shallow.ensures.1 shallow in absurd (cc)), refl, refl, refl)
+    ]
