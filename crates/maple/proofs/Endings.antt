@@ -1,10 +1,9 @@
 -- How the ends of parts of a run join.
-use Rattle.std.proofs.Common.{◌≡◌, ℕ, ◌≤◌, List, ◌++◌, Option, refl, sym, ap, ◌∙◌, subst, append_assoc}
+use Rattle.std.proofs.Common.{ℕ, List, ◌++◌, Option, refl, sym, ap, ◌∙◌, append_assoc}
 use Rattle.std.specs.Io.KnownBytes.{Appends}
 use Rattle.std.proofs.KnownBytes.{Appends-trans}
 use Rattle.maple.specs.declared.status.Status.{Status}
 use Rattle.maple.specs.declared.status.Status.TheVariants.{Done, Usage, Policy, Script, ReadFault, WriteFault, NoMemory, TooLong}
-use Rattle.maple.specs.Fronts.{IsFront}
 use Rattle.maple.specs.Ends.{Ends, WritesFront, IsGiven}
 
 pub given_ends : (risen : Type 0) (old new : Option (List ℕ)) (text : List ℕ) (status : Status) → IsGiven status → Appends old new text → Ends risen old new status text status

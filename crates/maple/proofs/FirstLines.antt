@@ -1,5 +1,5 @@
 -- The first line of a text and the others.
-use Rattle.std.proofs.Common.{◌≡◌, ℕ, ◌+◌, ◌<◌, ◌≤◌, Bool, true, false, cond, eqb, List, [], ◌∷◌, ◌++◌, length, take, drop, refl, sym, ap, ◌∙◌, arith, one-add, add-one}
+use Rattle.std.proofs.Common.{◌≡◌, ℕ, ◌+◌, ◌<◌, true, false, cond, eqb, List, [], ◌∷◌, length, take, drop, refl, ap, arith, one-add}
 use Rattle.maple.specs.Lines.{onto_first, ended_lines, line_len}
 
 pub line_len_some : (text : List ℕ) → 0 < length text → 0 < line_len text

@@ -1,6 +1,6 @@
 -- What a packet's lines are, and what is known behind it.
-use Rattle.std.proofs.Common.{◌≡◌, ◌⊎◌, ℕ, ◌+◌, ◌<◌, ◌≤◌, Bool, true, false, cond, List, [], ◌∷◌, ◌++◌, length, Option, Some, None, refl, sym, ap, ◌∙◌, subst, ⊎_elim, arith, append_assoc, length-append}
-use Rattle.std.specs.Prelude.{◌==◌, ◌&&◌, ◌||◌, nat_lt, if◌then◌else◌, Contains, Result, Ok, Err, OnOk}
+use Rattle.std.proofs.Common.{◌≡◌, ℕ, ◌+◌, ◌<◌, ◌≤◌, Bool, true, false, cond, List, [], ◌∷◌, ◌++◌, length, Some, None, refl, sym, ap, ◌∙◌, subst, ⊎_elim, arith, append_assoc}
+use Rattle.std.specs.Prelude.{◌&&◌, ◌||◌, nat_lt, Contains, Result, Ok, Err, OnOk}
 use Rattle.std.specs.List.{AllByRecursion, list_any, list_all}
 use Rattle.std.specs.List.Sorted.{IsPermutation}
 use Rattle.std.proofs.lemmas.Bool.{cases_Bool, eqb-true}
@@ -17,7 +17,6 @@ use Rattle.maple_base.specs.declared.items.Item.TheVariants.{Read, Test}
 use Rattle.maple_base.specs.declared.decision.Rule.{Rule}
 use Rattle.maple_base.specs.declared.decision.Decision.{Decision}
 use Rattle.maple_base.specs.declared.decision.Decision.TheVariants.{Drop, Out, Flood, Path}
-use Rattle.maple_base.specs.declared.decision.Outcome.{Outcome}
 use Rattle.maple_base.specs.declared.decision.Outcome.TheVariants.{Decided, Spent}
 use Rattle.maple_base.specs.Keys.{valid_key, anything, in_domain}
 use Rattle.maple_base.specs.Kinds.{blank_value}
@@ -27,27 +26,25 @@ use Rattle.maple_base.specs.Questions.{meets, clash, asks_once, within_domain}
 use Rattle.policy_lang.specs.declared.Policy.{Policy}
 use Rattle.policy_lang.specs.Courses.{course_of, items_of, outcome_at}
 use Rattle.policy_lang.specs.Laws.{begins_at}
-use Rattle.policy_lang.proofs.Lawful.{same_trace, on_one_path, own_items, ends_as_evaluated, asks_within, asks_once_only, asks_few, begins_here}
+use Rattle.policy_lang.proofs.Lawful.{same_trace, on_one_path, own_items, ends_as_evaluated, asks_within, asks_once_only, begins_here}
 use Rattle.trace_tree.specs.declared.node.Trace.{Trace}
 use Rattle.trace_tree.specs.Shape.{Shape, Branches, Empty, Ends, Reads, Tests, NoBranch, Branch}
 use Rattle.trace_tree.specs.Growth.{found, scratch, insert, leaf_of, admits, leaves_of, leaves_in, IsOrdered, AreAdmitted, AllAskOnce}
-use Rattle.trace_tree.specs.Apart.{AreApart}
 use Rattle.trace_tree.specs.Bounds.{items_within}
 use Rattle.trace_tree.proofs.Growths.{grown_ordered}
 use Rattle.trace_tree.proofs.Apart.{scratch_apart, admitted_scratch, apart_push, grown_push, leaves_grown}
-use Rattle.rule_builder.specs.Rules.{facts_of, barriers_of, fact_actions, first_switch, levels_of, rules_of, rules_needed}
+use Rattle.rule_builder.specs.Rules.{facts_of, barriers_of, fact_actions, rules_of, rules_needed}
 use Rattle.rule_builder.specs.Counts.{count_of, count_in}
 use Rattle.rule_builder.specs.Chosen.{HoldsRules, ChoosesRight}
 use Rattle.rule_builder.proofs.Choice.{choice_law, table_law}
 use Rattle.rule_builder.proofs.Counted.{needed_count}
-use Rattle.rule_builder.proofs.Grows.{few_levels}
 use Rattle.rule_builder.proofs.Spans.{barrier_least, none_in, the_one}
 use Rattle.maple.specs.declared.world.World.{World}
 use Rattle.maple.specs.declared.report.Line.TheVariants.{Hit, Miss, Answer, SpentRun}
 use Rattle.maple.specs.declared.report.Learnt.TheVariants.{Learned, Rows}
 use Rattle.maple.specs.Choosing.{NoneFits, table_of}
 use Rattle.maple.specs.Knowing.{IsOwn, AreOwn, Knows}
-use Rattle.maple.specs.Report.{decided, outcome_actions, plain, run_of, with_run, need, lacks_room, reason, answered, said, learned, after, spelled, text_of}
+use Rattle.maple.specs.Report.{decided, outcome_actions, plain, run_of, with_run, need, reason, answered, said, learned, after, spelled, text_of}
 
 -- no more runs than rules
 mutual

@@ -1,16 +1,15 @@
 -- What follows for each status from the way in which a run goes.
-use Rattle.std.proofs.Common.{◌≡◌, ◌⊎◌, ℕ, ◌<◌, ◌≤◌, Bool, true, false, cond, List, [], ◌∷◌, ◌++◌, length, Option, Some, None, refl, sym, ap, ◌∙◌, subst, inl, inr, ⊎_elim, arith, append-nil}
-use Rattle.std.specs.Prelude.{IfSome, IsTrue}
-use Rattle.std.specs.Io.KnownBytes.{Appends, IsAtEnd}
+use Rattle.std.proofs.Common.{◌≡◌, ℕ, ◌<◌, Bool, true, false, cond, List, [], ◌++◌, length, Option, Some, None, refl, sym, ap, ◌∙◌, subst, inl, inr, ⊎_elim, arith}
+use Rattle.std.specs.Prelude.{IfSome}
+use Rattle.std.specs.Io.KnownBytes.{Appends}
 use Rattle.std.proofs.lemmas.Bool.{cases_Bool}
 use Rattle.policy_lang.specs.declared.Policy.{Policy}
 use Rattle.maple.specs.declared.status.Status.{Status}
 use Rattle.maple.specs.declared.status.Status.TheVariants.{Done, Usage, Policy as PolicyRefused, Script, ReadFault, WriteFault, NoMemory, TooLong}
-use Rattle.maple.specs.Due.{AreSim, IsFit, HasPolicy, IsScript, IsDue, IsOrFails, IsText, IsFrontOfText, Reports, WritesSome, report_text, last_line}
+use Rattle.maple.specs.Due.{AreSim, IsFit, HasPolicy, IsDue, IsOrFails, IsText, Reports, WritesSome, report_text, last_line}
 use Rattle.maple.specs.Ends.{Ends, IsGiven, WritesFront}
 use Rattle.maple.specs.Lines.{script_lines}
-use Rattle.maple.specs.PacketLine.{all_packets, packets_in}
-use Rattle.maple.specs.Report.{report, text_of}
+use Rattle.maple.specs.PacketLine.{all_packets}
 use Rattle.maple.specs.Running.{due_of, told_of}
 use Rattle.maple.specs.Runs.{IsRunOf, RunsText, refused_words, failed_read, read_too_long, lacked_memory, ran}
 

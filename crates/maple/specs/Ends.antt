@@ -1,8 +1,8 @@
 -- How a part of a run ends, with what it wrote.
-use Rattle.std.specs.Prelude.{◌≡◌, ℕ, Bool, true, false, if◌then◌else◌, List, Option}
+use Rattle.std.specs.Prelude.{◌≡◌, ℕ, List, Option}
 use Rattle.std.specs.Io.KnownBytes.{Appends}
 use Rattle.maple.specs.declared.status.Status.{Status}
-use Rattle.maple.specs.declared.status.Status.TheVariants.{Done, Usage, Policy, Script, ReadFault, WriteFault, NoMemory, TooLong}
+use Rattle.maple.specs.declared.status.Status.TheVariants.{WriteFault, NoMemory}
 use Rattle.maple.specs.Fronts.{IsFront}
 
 -- a front of these bytes was written

@@ -1,5 +1,5 @@
 -- What one switch and its controller know behind the packets so far.
-use Rattle.std.specs.Prelude.{◌≡◌, ℕ, ◌≤◌, true, List, [], ◌∷◌}
+use Rattle.std.specs.Prelude.{◌≡◌, ◌≤◌, true, List, [], ◌∷◌}
 use Rattle.std.specs.List.Sorted.{IsPermutation}
 use Rattle.maple_base.specs.declared.key.Key.{Key}
 use Rattle.maple_base.specs.declared.decision.Outcome.TheVariants.{Decided}

@@ -3,7 +3,7 @@ use Rattle.std.specs.Prelude.{◌≡◌, ◌⊎◌, ℕ, ◌<◌, List, [], leng
 use Rattle.std.specs.Io.KnownBytes.{Appends, IsAtEnd}
 use Rattle.policy_lang.specs.declared.Policy.{Policy}
 use Rattle.maple.specs.declared.status.Status.{Status}
-use Rattle.maple.specs.declared.status.Status.TheVariants.{Done, Usage, Policy as PolicyRefused, Script, ReadFault, WriteFault, NoMemory, TooLong}
+use Rattle.maple.specs.declared.status.Status.TheVariants.{Usage, Policy as PolicyRefused, ReadFault, NoMemory, TooLong}
 use Rattle.maple.specs.Due.{AreSim, IsFit, HasPolicy, last_line}
 use Rattle.maple.specs.Ends.{Ends}
 use Rattle.maple.specs.Lines.{script_lines}

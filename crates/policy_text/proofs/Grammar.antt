@@ -1,5 +1,5 @@
 -- What is read of a policy's words and signs is what they are the texts of, and no policy's text is refused.
-use Rattle.std.proofs.Common.{◌≡◌, ℕ, zero, suc, ◌+◌, ◌<◌, ◌≤◌, Bool, true, false, cond, max, List, [], ◌∷◌, ◌++◌, map, length, Option, Some, None, refl, sym, ap, ◌∙◌, subst, arith, add-one, append_assoc, append-nil}
+use Rattle.std.proofs.Common.{◌≡◌, ℕ, zero, suc, ◌+◌, ◌<◌, ◌≤◌, Bool, true, false, cond, max, List, [], ◌∷◌, ◌++◌, map, length, Option, Some, None, refl, sym, ap, ◌∙◌, subst, arith, append_assoc}
 use Rattle.std.specs.Prelude.{codes, nat_lt, IsTrue}
 use Rattle.std.specs.List.{list_all}
 use Rattle.std.specs.Option.{option_map, option_and_then}
@@ -17,9 +17,9 @@ use Rattle.policy_lang.specs.declared.Statement.TheFolds.{fold-roll-Statement, f
 use Rattle.policy_lang.specs.declared.Statement.TheViews.{roll-Statement, roll-Block}
 use Rattle.policy_lang.specs.declared.Block.{Block}
 use Rattle.policy_text.specs.declared.reading.Place.{Place}
-use Rattle.policy_text.specs.declared.reading.Place.TheVariants.{Ahead, BehindDrop, BehindOut, BehindPort, BehindIf, BehindField, BehindIs, BehindTest, Closed}
-use Rattle.policy_text.specs.PolicyText.{Lexeme, Word, Sign, Mark, Keyword, Brace, Numeral, Wordless, AreTextsOf, IsTextOfMark, Spells, IsTextOf, is_text_byte, text_lexemes, field_name, number_marks, test_marks, head_marks, ports_marks, in_braces, statement_marks, block_layer, block_marks, joined, statement_nodes, nodes_layer, block_nodes, statement_depth, depth_layer, block_depth, expr_depth, deepest, head_depth, other_nodes, greatest}
-use Rattle.policy_text.specs.Parsing.{Step, To, is_word, is_sign, step, closing, marks_from, reads_on, at_end, behind, opened, body_marks, text_of, depth_of, by_number, by_field}
+use Rattle.policy_text.specs.declared.reading.Place.TheVariants.{Ahead, BehindOut, BehindPort, BehindIf, BehindField, BehindIs, BehindTest, Closed}
+use Rattle.policy_text.specs.PolicyText.{Lexeme, Word, Sign, Mark, Keyword, Brace, Numeral, Wordless, AreTextsOf, Spells, IsTextOf, is_text_byte, text_lexemes, field_name, in_braces, statement_marks, block_layer, block_marks, joined, block_nodes, statement_depth, depth_layer, block_depth, greatest}
+use Rattle.policy_text.specs.Parsing.{Step, To, is_word, is_sign, step, marks_from, reads_on, at_end, behind, opened, body_marks, text_of, depth_of, by_number, by_field}
 use Rattle.policy_text.proofs.Steps.{step_reads, reads_one, field_read, word_text, sign_text}
 
 -- the texts of marks ahead of others, and of the others

@@ -1,5 +1,5 @@
 -- The marks of a statement put behind others, and of a block opened in others.
-use Rattle.std.proofs.Common.{◌≡◌, ℕ, List, [], ◌∷◌, ◌++◌, map, refl, sym, ap, ◌∙◌, append_assoc, append-nil, Box, Global}
+use Rattle.std.proofs.Common.{◌≡◌, ℕ, List, [], ◌∷◌, ◌++◌, map, sym, ap, ◌∙◌, append_assoc, append-nil, Box, Global}
 use Rattle.std.specs.Prelude.{None, codes}
 use Rattle.std.proofs.lemmas.List.{map-append}
 use Rattle.maple_base.specs.declared.key.Field.{Field}
@@ -10,11 +10,11 @@ use Rattle.policy_lang.specs.declared.Head.TheVariants.{Test}
 use Rattle.policy_lang.specs.declared.Statement.{Statement, fold_out-Statement, fold-roll-Statement, out-Statement}
 use Rattle.policy_lang.specs.declared.Statement.TheVariants.{Drop, Out, If, rolls-If}
 use Rattle.policy_lang.specs.declared.Statement.TheOpen.{Drop as drop, Out as out, If as if_}
-use Rattle.policy_lang.specs.declared.Block.{Block, out-Block, fold_out-Block}
+use Rattle.policy_lang.specs.declared.Block.{Block, fold_out-Block}
 use Rattle.policy_lang.specs.Blocks.{statements_of}
 use Rattle.policy_text.specs.declared.reading.Open.{Open}
-use Rattle.policy_text.specs.PolicyText.{Mark, Keyword, Brace, Numeral, statement_marks, block_layer, block_marks, joined, in_braces, head_marks, number_marks, field_name, statement_nodes, nodes_layer, block_nodes, statement_depth, depth_layer, block_depth, greatest}
-use Rattle.policy_text.specs.Parsing.{text_of, marks_of, open_text, levels, test_text, nodes_of, depth_of}
+use Rattle.policy_text.specs.PolicyText.{Mark, Keyword, Brace, Numeral, statement_marks, block_layer, block_marks, joined, in_braces, head_marks, number_marks, field_name}
+use Rattle.policy_text.specs.Parsing.{text_of, marks_of, open_text, levels, test_text}
 
 joined_push : (ls : List (List Mark)) (m : List Mark) → joined (ls ++ m ∷ []) ≡ joined ls ++ m
 joined_push [] m = append-nil m

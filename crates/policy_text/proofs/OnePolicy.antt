@@ -14,9 +14,9 @@ use Rattle.policy_lang.specs.declared.Statement.TheFolds.{fold-roll-Statement}
 use Rattle.policy_lang.specs.declared.Block.{Block, fold_out-Block}
 use Rattle.policy_lang.specs.Blocks.{statements_of}
 use Rattle.policy_lang.specs.Values.{Truth, number_in, truth_in}
-use Rattle.policy_lang.specs.Evaluation.{Ending, Spends, Given, Running, tested, value_of, chosen, by_statement, in_order, by_block, block_ending}
+use Rattle.policy_lang.specs.Evaluation.{Spends, Given, Running, tested, value_of, chosen, by_statement, in_order, by_block, block_ending}
 use Rattle.policy_lang.specs.Courses.{Stops, Going, Coursing, ask_test, value_course, chosen_course, course_statement, courses, course_block, block_course}
-use Rattle.policy_text.specs.PolicyText.{Mark, Brace, Lexeme, AreTextsOf, IsTextOf, text_lexemes, field_name, block_marks}
+use Rattle.policy_text.specs.PolicyText.{Mark, Brace, IsTextOf, text_lexemes, field_name, block_marks}
 use Rattle.policy_text.specs.Parsing.{named_field}
 use Rattle.policy_text.proofs.Steps.{field_read}
 use Rattle.policy_text.proofs.Grammar.{spelled_read}

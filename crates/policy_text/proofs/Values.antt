@@ -13,7 +13,7 @@ use Rattle.policy_lang.specs.declared.Statement.TheFolds.{fold-roll-Statement, f
 use Rattle.policy_lang.specs.declared.Statement.TheViews.{roll-Statement, roll-Block}
 use Rattle.policy_lang.specs.declared.Block.{Block, fold_out-Block}
 use Rattle.policy_lang.specs.Blocks.{statements_of}
-use Rattle.policy_text.specs.PolicyText.{Lexeme, Mark, Keyword, Brace, Numeral, Wordless, AreTextsOf, field_name, in_braces, statement_marks, block_layer, block_marks, joined, IsTextOf, text_lexemes, statement_nodes, nodes_layer, block_nodes, statement_depth, depth_layer, block_depth, greatest}
+use Rattle.policy_text.specs.PolicyText.{Lexeme, Mark, Keyword, Brace, Numeral, AreTextsOf, field_name, in_braces, statement_marks, block_layer, block_marks, joined, IsTextOf, text_lexemes, statement_nodes, nodes_layer, block_nodes, statement_depth, depth_layer, block_depth, greatest}
 use Rattle.policy_text.specs.Parsing.{text_of, nodes_of, depth_of, body_marks}
 use Rattle.policy_text.proofs.Grammar.{texts_split, word_first, sign_first, wordless_first, braced, if_first, spelled_read, out_wordless, if_wordless, is_wordless}
 

@@ -1,6 +1,5 @@
 -- What follows of two policies that have the same text.
 use Rattle.std.specs.Prelude.{◌≡◌, ℕ, List}
-use Rattle.maple_base.specs.declared.key.Key.{Key}
 use Rattle.policy_lang.specs.declared.Policy.{Policy}
 use Rattle.policy_lang.specs.Evaluation.{block_ending}
 use Rattle.policy_lang.specs.Courses.{block_course}

@@ -1,7 +1,6 @@
 -- The text of a policy of the statements `drop;`, `out N;` and `if pkt.FIELD is N { .. }`.
-use Rattle.std.specs.Prelude.{◌≡◌, ℕ, ◌+◌, ◌≤◌, Bool, true, false, ◌&&◌, ◌||◌, ◌==◌, max, nat_le, nat_lt, if◌then◌else◌, map, sum, List, [], ◌∷◌, ◌++◌, length, Option, Some, None, IsTrue, codes}
-use Rattle.std.specs.List.{list_all, concat}
-use Rattle.std.specs.Str.{bytes_eq}
+use Rattle.std.specs.Prelude.{◌≡◌, ℕ, ◌+◌, ◌≤◌, Bool, true, false, ◌&&◌, ◌||◌, ◌==◌, max, nat_le, nat_lt, if◌then◌else◌, sum, List, [], ◌∷◌, ◌++◌, length, Option, Some, None, IsTrue, codes}
+use Rattle.std.specs.List.{list_all}
 use Rattle.maple_base.specs.Numbers.{number_of}
 use Rattle.maple_base.specs.declared.key.Field.{Field}
 use Rattle.maple_base.specs.declared.key.Field.TheVariants.{InPort, DlSrc, DlDst, DlVlan, DlType, NwTos, NwProto, NwSrc, NwDst, TpSrc, TpDst}

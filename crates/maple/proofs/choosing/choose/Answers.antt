@@ -1,4 +1,4 @@
-use Rattle.std.proofs.Common.{◌≡◌, sym, ap, ◌∙◌, subst, refl}
+use Rattle.std.proofs.Common.{sym, ◌∙◌, refl}
 use Rattle.maple.proofs.Choosings.{none_of_both, fact_of_both, barrier_of_both, not_above, not_both}
 use Rattle.maple.proofs.choosing.choose.Goals as goal
 

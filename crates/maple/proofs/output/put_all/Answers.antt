@@ -1,4 +1,4 @@
-use Rattle.std.proofs.Common.{arith, rules}
+use Rattle.std.proofs.Common.{rules}
 use Rattle.std.proofs.lemmas.List.{take_rest}
 use Rattle.maple.proofs.Pieces.{piece_more, front_kept}
 use Rattle.maple.proofs.output.put_all.Goals as goal

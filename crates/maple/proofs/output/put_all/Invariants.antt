@@ -1,4 +1,4 @@
-use Rattle.std.proofs.Common.{◌≡◌, ◌-◌, ◌≤◌, take, length}
+use Rattle.std.proofs.Common.{◌-◌, ◌≤◌, take, length}
 use Rattle.std.specs.Io.KnownBytes.{Appends}
 use Rattle.maple.proofs.output.put_all.Given as goal
 

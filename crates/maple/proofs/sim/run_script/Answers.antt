@@ -1,5 +1,5 @@
-use Rattle.std.proofs.Common.{◌≡◌, ◌++◌, ◌∷◌, [], Some, None, refl, sym, ap, ◌∙◌, subst, rules, arith}
-use Rattle.std.specs.Prelude.{map, string_bytes}
+use Rattle.std.proofs.Common.{◌≡◌, ◌++◌, [], Some, None, refl, ap, ◌∙◌, subst, rules, arith}
+use Rattle.std.specs.Prelude.{map}
 use Rattle.std.specs.Io.KnownBytes.{Appends}
 use Rattle.std.proofs.lemmas.List.{nil_from_length}
 use Rattle.std.proofs.KnownBytes.{Appends-nil}
@@ -7,7 +7,7 @@ use Rattle.maple.specs.Lines.{ended_lines, without_end}
 use Rattle.maple.specs.PacketLine.{packet_of}
 use Rattle.maple.specs.Report.{said, text_of}
 use Rattle.trace_tree.specs.Growth.{found}
-use Rattle.maple.proofs.Runs.{Stands, ends_after, ends_at_bad, stands_further, ends_within, lacks_memory}
+use Rattle.maple.proofs.Runs.{ends_after, ends_at_bad, stands_further, ends_within}
 use Rattle.maple.proofs.sim.run_script.Goals as goal
 
 pub loop-rest-init : goal.loop-rest-init

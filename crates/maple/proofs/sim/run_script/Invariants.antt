@@ -1,4 +1,4 @@
-use Rattle.std.proofs.Common.{◌≡◌, ◌≤◌, ◌++◌, ℕ, List, [], length}
+use Rattle.std.proofs.Common.{ℕ, List, length}
 use Rattle.std.specs.Prelude.{map}
 use Rattle.trace_tree.specs.declared.node.Trace.{Trace}
 use Rattle.maple.specs.Lines.{ended_lines, without_end}

@@ -1,4 +1,3 @@
-use Rattle.std.proofs.Common.{◌≡◌, subst}
 use Rattle.maple.proofs.Tops.{policy_due, script_due, script_told, done_due, done_told, exact, fault_front, memory_front}
 use Rattle.maple.proofs.top.maple.Goals as goal
 

@@ -1,5 +1,4 @@
-use Rattle.std.proofs.Common.{inl, inr, rules, ap, sym, subst}
-use Rattle.std.specs.Prelude.{map}
+use Rattle.std.proofs.Common.{inl, inr}
 use Rattle.maple.proofs.top.run_text.Goals as goal
 
 pub returns-in-Ok : goal.returns-in-Ok

@@ -1,4 +1,4 @@
-use Rattle.std.proofs.Common.{rules, arith}
+use Rattle.std.proofs.Common.{rules}
 use Rattle.maple.specs.Runs.{ran}
 use Rattle.maple.proofs.top.run_words.Goals as goal
 

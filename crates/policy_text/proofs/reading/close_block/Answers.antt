@@ -1,4 +1,4 @@
-use Rattle.std.proofs.Common.{◌≡◌, [], ◌∷◌, ap, ◌∙◌, ◌++◌, sym}
+use Rattle.std.proofs.Common.{[], ◌∷◌, ap, ◌∙◌, ◌++◌, sym}
 use Rattle.policy_lang.specs.Blocks.{statements_of}
 use Rattle.policy_text.specs.PolicyText.{Brace}
 use Rattle.policy_text.specs.Parsing.{marks_of, levels, test_text}

@@ -1,4 +1,4 @@
-use Rattle.std.proofs.Common.{◌≡◌, [], ◌∷◌, ap, ◌∙◌, ◌++◌, rules}
+use Rattle.std.proofs.Common.{◌≡◌, ap, ◌∙◌, ◌++◌, rules}
 use Rattle.std.specs.Prelude.{None}
 use Rattle.policy_lang.specs.declared.Expr.TheVariants.{Number, Is}
 use Rattle.policy_lang.specs.declared.Head.TheVariants.{Test}

@@ -1,6 +1,5 @@
 use Rattle.std.proofs.Common.{◌≡◌, ◌≤◌, [], ◌∷◌, ◌++◌, sym, ap, refl, rules, ◌∙◌}
 use Rattle.std.specs.Prelude.{Some, IsTrue, false}
-use Rattle.policy_lang.specs.Blocks.{statements_of}
 use Rattle.policy_text.specs.PolicyText.{Brace, text_lexemes, block_marks, block_nodes, block_depth}
 use Rattle.policy_text.specs.Parsing.{body_marks, marks_of}
 use Rattle.policy_text.proofs.Marks.{block_is}

@@ -1,4 +1,4 @@
-use Rattle.std.proofs.Common.{rules, sym, ◌∙◌, ap}
+use Rattle.std.proofs.Common.{rules}
 use Rattle.policy_text.proofs.FirstWords.{word_first, begins_at}
 use Rattle.policy_text.proofs.tokens.next_token.Goals as goal
 

@@ -1,8 +1,7 @@
-use Rattle.std.proofs.Common.{◌≡◌, ◌+◌, ◌≤◌, ◌++◌, ℕ, [], false, true, sym, ap, ◌∙◌, subst, arith}
+use Rattle.std.proofs.Common.{◌≡◌, ◌+◌, true, sym, ap, ◌∙◌, subst, arith}
 use Rattle.maple_base.specs.declared.decision.Outcome.TheVariants.{Decided, Spent}
 use Rattle.maple_base.specs.Kinds.{blank_value}
-use Rattle.maple_base.specs.Questions.{asks_once}
-use Rattle.policy_lang.specs.Courses.{course_of, items_of, outcome_at}
+use Rattle.policy_lang.specs.Courses.{course_of, outcome_at}
 use Rattle.policy_lang.proofs.Lawful.{ends_as_evaluated}
 use Rattle.trace_record.specs.Runs.{Gives}
 use Rattle.trace_tree.specs.Bounds.{items_within}
@@ -10,8 +9,8 @@ use Rattle.trace_tree.specs.Growth.{admits, insert, leaf_of}
 use Rattle.trace_tree.proofs.Puts.{OnOk_map}
 use Rattle.rule_builder.specs.Rules.{rules_needed}
 use Rattle.rule_builder.proofs.Grows.{few_levels}
-use Rattle.maple.specs.Report.{decided, plain, need, run_of, spelled}
-use Rattle.maple.proofs.Learnings.{next, ordered, leaves_few, leaves_are, next_within, next_once, next_admitted, grows, spent_step, full_step, learned_step, is_more, is_no_more, on_three, trace_of, trace_same}
+use Rattle.maple.specs.Report.{decided, plain, need}
+use Rattle.maple.proofs.Learnings.{next, ordered, leaves_few, leaves_are, next_within, next_admitted, grows, spent_step, full_step, learned_step, is_more, is_no_more, on_three, trace_of, trace_same}
 use Rattle.maple.proofs.world.World.answer.Goals as goal
 
 pub returns-in-Spent : goal.returns-in-Spent

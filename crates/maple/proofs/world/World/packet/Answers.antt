@@ -1,4 +1,4 @@
-use Rattle.std.proofs.Common.{◌≡◌, ℕ, None, sym, ap, ◌∙◌, subst}
+use Rattle.std.proofs.Common.{◌≡◌, None, ◌∙◌}
 use Rattle.trace_tree.specs.Growth.{found}
 use Rattle.trace_tree.proofs.Puts.{OnOk_map}
 use Rattle.maple.specs.Report.{reason}
