@@ -2,5 +2,6 @@ pub mod FirstWords
 pub mod Grammar
 pub mod Marks
 pub mod OnePolicy
+pub mod Spending
 pub mod Steps
 pub mod Values

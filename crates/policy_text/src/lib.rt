@@ -7,5 +7,5 @@ pub mod reading;
 mod tests;
 pub mod tokens;
 
-pub use laws::one_policy;
+pub use laws::{one_policy, steps_law};
 pub use reading::{ReadError, read_policy};
