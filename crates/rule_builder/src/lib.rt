@@ -6,3 +6,6 @@ pub mod building;
 pub use building::{
     choice_law, levels, rules, rules_law, rules_needed, rules_needed_with, rules_rows,
 };
+
+#[cfg(test)]
+mod tests;
