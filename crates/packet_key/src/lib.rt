@@ -1,0 +1,8 @@
+//! The key of a frame.
+#![tactic(auto)]
+
+mod frames;
+mod malformed;
+
+pub use frames::key_of;
+pub use malformed::Malformed;
