@@ -1,7 +1,10 @@
 //! The key of a frame.
 #![tactic(auto)]
 
+mod bytes;
 mod frames;
+mod ip;
+mod link;
 mod malformed;
 
 pub use frames::key_of;
