@@ -1,8 +1,9 @@
 -- A number behind others stands in the whole at the sum of their widths.
-use Rattle.std.proofs.Common.{◌≡◌, ℕ, ◌+◌, ◌∙◌, Bool, true, false, cond, List, take, drop, ap, refl}
+use Rattle.std.proofs.Common.{◌≡◌, ℕ, ◌+◌, ◌∙◌, Bool, true, false, cond, nat_eq, List, take, drop, ap, refl}
 use Rattle.std.proofs.lemmas.List.{drop-drop}
 use Rattle.std.specs.Slice.Scan.{big_endian}
 use Rattle.maple_base.specs.NetworkOrder.{number_at}
+use Rattle.packet_key.specs.Frames.{is_tagged, type_of, payload}
 use Rattle.packet_key.specs.Readings.{IsRead}
 
 -- what is read behind n bytes of a whole, and what is left
@@ -35,3 +36,9 @@ ip_places {packet} version tos total identification flags time proto checksum sr
     let at_12 = rest_behind 10 2 packet _ _ _ at_10 checksum in
     let at_16 = rest_behind 12 4 packet _ _ _ at_12 src in
     (number_behind 6 2 packet _ _ _ at_6 flags, number_behind 9 1 packet _ _ _ at_9 proto, number_behind 12 4 packet _ _ _ at_12 src, number_behind 16 4 packet _ _ _ at_16 dst)
+
+-- the type and the payload, from the first 14 bytes and a tag
+pub behind_tag : (frame : List ℕ) {rest payload_is : List ℕ} {first second : ℕ} → first ≡ number_at 12 2 frame → rest ≡ drop 14 frame → second ≡ cond (nat_eq first 0x8100) (number_at 2 2 rest) first
+    → payload_is ≡ cond (nat_eq first 0x8100) (drop 4 rest) rest → (second ≡ type_of frame) × (payload_is ≡ payload frame)
+behind_tag frame first rest second behind =
+    ((rw (first, rest) at second) ∙ type_by (is_tagged frame) frame, (rw (first, rest) at behind) ∙ payload_by (is_tagged frame) frame)
