@@ -27,7 +27,9 @@ struct IpHeader<'a> {
 
 // The key with the numbers of an IP header and with the ports.
 pub(crate) fn with_packet(key: Key, packet: &[u8]) -> Result<Key, Malformed>
+    requires { (link_valid key ≡ true) × (key.dl_type ≡ 0x0800) }
     ensures key { result ≡ ip_key key packet.now }
+    ensures valid { IfOk result (λ k. valid_key k ≡ true) }
 {
     let header = ip_header(packet).ok_or(Malformed::Ip)?;
     let (tp_src, tp_dst) = if header.is_fragment {
