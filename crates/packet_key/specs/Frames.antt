@@ -39,13 +39,19 @@ packet_in frame = if has_snap frame then drop 8 (payload frame) else payload fra
 -- the numbers of the Ethernet header and the tag; a frame without a tag has the VLAN id 0xffff
 abbrev pub link_key : ℕ → List ℕ → Key
 link_key port frame = record {
-    in_port = port;
-    dl_src = number_at 6 6 frame;
-    dl_dst = number_at 0 6 frame;
-    dl_vlan = if is_tagged frame then number_at 14 2 frame % 2 ^ 12 else 0xffff;
-    dl_pcp = if is_tagged frame then number_at 14 2 frame / 2 ^ 13 else 0;
-    dl_type = dl_type_of frame;
-    nw_tos = 0; nw_proto = 0; nw_src = 0; nw_dst = 0; tp_src = 0; tp_dst = 0 }
+  in_port = port;
+  dl_src = number_at 6 6 frame;
+  dl_dst = number_at 0 6 frame;
+  dl_vlan = if is_tagged frame then number_at 14 2 frame % 2 ^ 12 else 0xffff;
+  dl_pcp = if is_tagged frame then number_at 14 2 frame / 2 ^ 13 else 0;
+  dl_type = dl_type_of frame;
+  nw_tos = 0;
+  nw_proto = 0;
+  nw_src = 0;
+  nw_dst = 0;
+  tp_src = 0;
+  tp_dst = 0;
+}
 
 -- the length of an IP header in bytes; the header has it in words of four (RFC 791, 3.1, IHL)
 abbrev pub header_length : List ℕ → ℕ
@@ -75,12 +81,13 @@ segment packet = drop (header_length packet) packet
 -- the key with the numbers of the IP header, the type of service without its low two bits, and with the ports
 abbrev pub with_packet : Key → List ℕ → Key
 with_packet k packet = record k {
-    nw_tos = 4 * (number_at 1 1 packet / 4);
-    nw_proto = number_at 9 1 packet;
-    nw_src = number_at 12 4 packet;
-    nw_dst = number_at 16 4 packet;
-    tp_src = number_at 0 (width_in packet) (segment packet);
-    tp_dst = number_at (width_in packet) (width_in packet) (segment packet) }
+  nw_tos = 4 * (number_at 1 1 packet / 4);
+  nw_proto = number_at 9 1 packet;
+  nw_src = number_at 12 4 packet;
+  nw_dst = number_at 16 4 packet;
+  tp_src = number_at 0 (width_in packet) (segment packet);
+  tp_dst = number_at (width_in packet) (width_in packet) (segment packet);
+}
 
 abbrev pub ip_key : Key → List ℕ → Result Key Malformed
 ip_key k packet =

@@ -1,5 +1,5 @@
 -- What the parts of a key are read from: a number and what stands behind it, and each header by itself.
-use Rattle.std.specs.Prelude.{◌≡◌, ℕ, ◌+◌, ◌*◌, ◌^◌, ◌<◌, Bool, ◌&&◌, ◌==◌, nat_lt, nat_le, if◌then◌else◌, List, length, drop, Option, Some, None}
+use Rattle.std.specs.Prelude.{◌≡◌, ℕ, ◌+◌, ◌*◌, Bool, ◌&&◌, ◌==◌, nat_lt, nat_le, if◌then◌else◌, List, length, drop, Option, Some, None}
 use Rattle.maple_base.specs.NetworkOrder.{number_at}
 use Rattle.packet_key.specs.Frames.{is_tagged}
 use Rattle.packet_key.specs.declared.malformed.Malformed.{Malformed}

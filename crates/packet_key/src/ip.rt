@@ -12,7 +12,9 @@ use maple_base::Key;
 
 // The protocol numbers (RFC 790).
 const ICMP: u8 = 1;
+
 const TCP: u8 = 6;
+
 const UDP: u8 = 17;
 
 #[derive(Drop)]
@@ -68,14 +70,14 @@ fn ip_header(packet: &[u8]) -> Option<IpHeader<'_>>
     let (_checksum, rest) = read_u16(rest)?;
     let (src, rest) = read_u32(rest)?;
     let (dst, _) = read_u32(rest)?;
-    let length = 4 * (version_and_length % 16) as usize;
-    if version_and_length / 16 != 4 || length < 20 {
+    let length = 4 * usize::from(version_and_length & 0x0f);
+    if version_and_length >> 4 != 4 || length < 20 {
         return None;
     }
     let segment = packet.get(length..)?;
     Some(IpHeader {
-        tos: tos / 4 * 4,
-        is_fragment: flags_and_offset % (1 << 14) != 0,
+        tos: tos & 0xfc,
+        is_fragment: flags_and_offset & 0x3fff != 0,
         proto,
         src,
         dst,
@@ -96,7 +98,7 @@ fn ports(proto: u8, segment: &[u8]) -> Option<(u16, u16)>
         ICMP => {
             let (kind, rest) = read_u8(segment)?;
             let (code, _) = read_u8(rest)?;
-            Some((kind as u16, code as u16))
+            Some((u16::from(kind), u16::from(code)))
         }
         _ => Some((0, 0)),
     }

@@ -16,6 +16,7 @@ const TAGGED: u16 = 0x8100;
 
 // The VLAN id of a frame without a tag, and the type of one without a type (OpenFlow 1.0, 3.4).
 const NO_VLAN: u16 = 0xffff;
+
 const NO_TYPE: u16 = 0x05ff;
 
 // A number below it is no type but a length (IEEE 802.3, 3.2.6).
@@ -106,7 +107,7 @@ fn vlan(type_or_length: u16, rest: &[u8]) -> Option<VlanHeader<'_>>
     let (control, rest) = read_u16(rest)?;
     let (type_or_length, payload) = read_u16(rest)?;
     Some(VlanHeader {
-        id: control % (1 << 12),
+        id: control & 0x0fff,
         priority: (control >> 13) as u8,
         type_or_length,
         payload,

@@ -45,71 +45,122 @@ const LINKS: [(&str, Key); 15] = [
     // a length, and three bytes
     (
         "ffffffffffff 020000000001 0026 424203",
-        Key { dl_type: 0x05ff, ..BROADCAST },
+        Key {
+            dl_type: 0x05ff,
+            ..BROADCAST
+        },
     ),
     (
         "ffffffffffff 020000000001 0026 aaaa03 000000 88cc",
-        Key { dl_type: 0x88cc, ..BROADCAST },
+        Key {
+            dl_type: 0x88cc,
+            ..BROADCAST
+        },
     ),
     (
         "ffffffffffff 020000000001 8100 2064 0806",
-        Key { dl_vlan: 100, dl_pcp: 1, dl_type: 0x0806, ..BROADCAST },
+        Key {
+            dl_vlan: 100,
+            dl_pcp: 1,
+            dl_type: 0x0806,
+            ..BROADCAST
+        },
     ),
     // SNAP with a number that is no type
     (
         "ffffffffffff 020000000001 0008 aaaa03 000000 05ff",
-        Key { dl_type: 0x05ff, ..BROADCAST },
+        Key {
+            dl_type: 0x05ff,
+            ..BROADCAST
+        },
     ),
     (
         "ffffffffffff 020000000001 0008 aaaa03 000000 0500",
-        Key { dl_type: 0x05ff, ..BROADCAST },
+        Key {
+            dl_type: 0x05ff,
+            ..BROADCAST
+        },
     ),
     (
         "ffffffffffff 020000000001 0008 aaaa03 000000 0600",
-        Key { dl_type: 0x0600, ..BROADCAST },
+        Key {
+            dl_type: 0x0600,
+            ..BROADCAST
+        },
     ),
     // SNAP of another organization, and SNAP cut short
     (
         "ffffffffffff 020000000001 0008 aaaa03 00000c 2000",
-        Key { dl_type: 0x05ff, ..BROADCAST },
+        Key {
+            dl_type: 0x05ff,
+            ..BROADCAST
+        },
     ),
     (
         "ffffffffffff 020000000001 0007 aaaa03 000000 88",
-        Key { dl_type: 0x05ff, ..BROADCAST },
+        Key {
+            dl_type: 0x05ff,
+            ..BROADCAST
+        },
     ),
     // the greatest length, and the least type
     (
         "ffffffffffff 020000000001 05ff",
-        Key { dl_type: 0x05ff, ..BROADCAST },
+        Key {
+            dl_type: 0x05ff,
+            ..BROADCAST
+        },
     ),
     (
         "ffffffffffff 020000000001 0600 aaaa03 000000 88cc",
-        Key { dl_type: 0x0600, ..BROADCAST },
+        Key {
+            dl_type: 0x0600,
+            ..BROADCAST
+        },
     ),
     // SNAP behind a tag of the greatest priority and VLAN id
     (
         "ffffffffffff 020000000001 8100 efff 0008 aaaa03 000000 88cc",
-        Key { dl_vlan: 0x0fff, dl_pcp: 7, dl_type: 0x88cc, ..BROADCAST },
+        Key {
+            dl_vlan: 0x0fff,
+            dl_pcp: 7,
+            dl_type: 0x88cc,
+            ..BROADCAST
+        },
     ),
     // a tag with the bit between priority and VLAN id
     (
         "ffffffffffff 020000000001 8100 1000 0806",
-        Key { dl_vlan: 0, dl_type: 0x0806, ..BROADCAST },
+        Key {
+            dl_vlan: 0,
+            dl_type: 0x0806,
+            ..BROADCAST
+        },
     ),
     // a second tag ahead of IP
     (
         "ffffffffffff 020000000001 8100 0064 8100 0065 0800 4500",
-        Key { dl_vlan: 100, dl_type: 0x8100, ..BROADCAST },
+        Key {
+            dl_vlan: 100,
+            dl_type: 0x8100,
+            ..BROADCAST
+        },
     ),
     // an ARP request of 10.0.0.1 for 10.0.0.2
     (
         "ffffffffffff 020000000001 0806 0001 0800 06 04 0001 020000000001 0a000001 000000000000 0a000002",
-        Key { dl_type: 0x0806, ..BROADCAST },
+        Key {
+            dl_type: 0x0806,
+            ..BROADCAST
+        },
     ),
     // IPv6 with no next header, from fe80::1 to ff02::1
     (
         "ffffffffffff 020000000001 86dd 60000000 0000 3b ff fe800000000000000000000000000001 ff020000000000000000000000000001",
-        Key { dl_type: 0x86dd, ..BROADCAST },
+        Key {
+            dl_type: 0x86dd,
+            ..BROADCAST
+        },
     ),
 ];
 
@@ -136,9 +187,9 @@ const PACKETS: [(&str, Key); 16] = [
         "020000000002 020000000001 0800 45000014 00002000 40060000 0a000001 0a000002",
         NO_PORTS,
     ),
-    // that may not be divided
+    // that opens a connection (RFC 793), not to be divided
     (
-        "020000000002 020000000001 0800 45000028 00004000 40060000 0a000001 0a000002 04d2 0016",
+        "020000000002 020000000001 0800 45000028 00014000 400626cd 0a000001 0a000002 04d2 0016 00000001 00000000 5002 2000 76f7 0000",
         TCP,
     ),
     // a total length of no byte
@@ -149,7 +200,10 @@ const PACKETS: [(&str, Key); 16] = [
     // every bit of the type of service
     (
         "020000000002 020000000001 0800 45ff0028 00000000 40060000 0a000001 0a000002 04d2 0016",
-        Key { nw_tos: 0xfc, ..TCP },
+        Key {
+            nw_tos: 0xfc,
+            ..TCP
+        },
     ),
     // one word of options, four times no operation
     (
@@ -163,30 +217,54 @@ const PACKETS: [(&str, Key); 16] = [
     ),
     (
         "020000000002 020000000001 8100 2064 0800 45000028 00000000 40060000 0a000001 0a000002 04d2 0016",
-        Key { dl_vlan: 100, dl_pcp: 1, ..TCP },
+        Key {
+            dl_vlan: 100,
+            dl_pcp: 1,
+            ..TCP
+        },
     ),
     // a UDP datagram of four bytes without a checksum (RFC 768)
     (
         "020000000002 020000000001 0800 45000020 00020000 401166c9 0a000001 0a000002 14e9 0035 000c 0000 deadbeef",
-        Key { nw_proto: 17, tp_src: 5353, tp_dst: 53, ..PACKET },
+        Key {
+            nw_proto: 17,
+            tp_src: 5353,
+            tp_dst: 53,
+            ..PACKET
+        },
     ),
     // an ICMP echo request, and a host that cannot be reached (RFC 792)
     (
         "020000000002 020000000001 0800 4500001c 00010000 400166de 0a000001 0a000002 08 00 f7fd 0001 0001",
-        Key { nw_proto: 1, tp_src: 8, ..PACKET },
+        Key {
+            nw_proto: 1,
+            tp_src: 8,
+            ..PACKET
+        },
     ),
     (
-        "020000000002 020000000001 0800 45000020 00010000 400166da 0a000001 0a000002 03 01 fcfe 00000000 00000000",
-        Key { nw_proto: 1, tp_src: 3, tp_dst: 1, ..PACKET },
+        "020000000002 020000000001 0800 45000038 00010000 400166c2 0a000001 0a000002 03 01 e7d4 00000000 45000020 00020000 401166c1 0a000002 0a000009 14e9 0035 000c 0000",
+        Key {
+            nw_proto: 1,
+            tp_src: 3,
+            tp_dst: 1,
+            ..PACKET
+        },
     ),
     // GRE with nothing behind the header, and with four bytes
     (
         "020000000002 020000000001 0800 45000014 00000000 402f0000 0a000001 0a000002",
-        Key { nw_proto: 47, ..PACKET },
+        Key {
+            nw_proto: 47,
+            ..PACKET
+        },
     ),
     (
         "020000000002 020000000001 0800 45000018 00000000 402f0000 0a000001 0a000002 04d2 0016",
-        Key { nw_proto: 47, ..PACKET },
+        Key {
+            nw_proto: 47,
+            ..PACKET
+        },
     ),
 ];
 

@@ -1,5 +1,4 @@
 -- The type stands behind twelve bytes, and the rest behind fourteen.
-use Rattle.std.proofs.Common.{◌≡◌, drop}
 use Rattle.packet_key.proofs.Places.{number_behind, rest_behind}
 use Rattle.packet_key.proofs.link.ethernet.Goals as goal
 

@@ -1,5 +1,5 @@
 -- The numbers of both headers stand at their places in the frame.
-use Rattle.std.proofs.Common.{◌≡◌, ℕ, ◌%◌, ◌/◌, ◌^◌, ◌∙◌, cond, nat_eq, List, drop, ap, arith}
+use Rattle.std.proofs.Common.{◌≡◌, ◌%◌, ◌/◌, ◌^◌, ◌∙◌, cond, nat_eq, drop, arith}
 use Rattle.std.proofs.lemmas.Grind.{common_steps}
 use Rattle.maple_base.specs.NetworkOrder.{number_at}
 use Rattle.packet_key.specs.Readings.{type_in, behind_snap}
