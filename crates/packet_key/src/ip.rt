@@ -1,8 +1,8 @@
 // The headers of an IPv4 packet: its own (RFC 791, 3.1), and the ports of TCP, UDP and ICMP.
-ghost use Rattle.std.specs.Prelude.{◌≡◌, ◌+◌, ◌*◌, ◌<◌, ◌^◌, ◌/◌, ◌%◌, true, false, IfOk};
-ghost use Rattle.std.specs.Option.{MatchOption, IfSome, IfNone};
+ghost use Rattle.std.specs.Prelude.{◌≡◌, ◌*◌, ◌/◌, true, false, IfOk};
+ghost use Rattle.std.specs.Option.{IfSome, IfNone};
 ghost use Rattle.maple_base.specs.NetworkOrder.{number_at};
-ghost use Rattle.maple_base.specs.Keys.{link_valid, net_valid, transport_valid, valid_key};
+ghost use Rattle.maple_base.specs.Keys.{link_valid, valid_key};
 ghost use Rattle.packet_key.specs.Frames.{has_header, is_fragment, segment, ip_key, port_width};
 ghost use Rattle.packet_key.specs.Readings.{ports_of};
 

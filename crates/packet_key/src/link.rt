@@ -1,6 +1,6 @@
 // The headers ahead of a packet: Ethernet, an 802.1Q tag and SNAP.
-ghost use Rattle.std.specs.Prelude.{◌≡◌, ◌+◌, ◌*◌, ◌<◌, ◌^◌, ◌/◌, ◌%◌, true, false, nat_lt, length, drop, if◌then◌else◌, ◌==◌, IfOk};
-ghost use Rattle.std.specs.Option.{MatchOption, IfSome, IfNone};
+ghost use Rattle.std.specs.Prelude.{◌≡◌, ◌+◌, ◌<◌, ◌^◌, ◌/◌, ◌%◌, true, false, length, drop, if◌then◌else◌, ◌==◌, IfOk};
+ghost use Rattle.std.specs.Option.{IfSome, IfNone};
 ghost use Rattle.std.specs.Result.{result_err};
 ghost use Rattle.maple_base.specs.NetworkOrder.{number_at};
 ghost use Rattle.maple_base.specs.Keys.{link_valid};
