@@ -3,7 +3,11 @@
 #![tactic(auto)]
 
 mod applied;
+mod change;
+mod lookup;
 mod table;
+#[cfg(test)]
+mod tests;
 
 pub use applied::Applied;
 pub use table::Table;

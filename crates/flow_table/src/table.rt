@@ -6,6 +6,8 @@ ghost use Rattle.flow_table.specs.declared.applied.Applied.TheVariants.{Added, N
 ghost use Rattle.flow_table.specs.Effects.{answer_of};
 ghost use Rattle.flow_table.specs.Tables.{Differ, Leaves};
 
+use crate::change::{add, delete_all, delete_strict};
+use crate::lookup::first_fit;
 use crate::Applied;
 use maple_base::{Key, Rule, TableMod};
 use std::alloc::Global;
@@ -20,10 +22,13 @@ pub struct Table {
 
 impl Model for Table {
     ghost use Rattle.flow_table.specs.Tables.{Entries};
+    ghost use Rattle.flow_table.specs.Orders.{IsKept};
 
     ghost Value = { Entries };
 
     ghost view = { λ a. record { rules = a.rules.items; capacity = a.capacity } };
+
+    ghost invariant = { λ a. IsKept a.rules.items a.capacity };
 }
 
 impl Table {
@@ -46,7 +51,13 @@ impl Table {
         ensures effect { Leaves result change.now self.old self.new }
         ensures capacity { self.new.capacity ≡ self.old.capacity }
     {
-        Applied::NoMemory
+        match change {
+            TableMod::Add(rule) => add(&mut self.rules, self.capacity, rule),
+            TableMod::DeleteStrict { of, priority } => {
+                delete_strict(&mut self.rules, of, *priority, self.capacity)
+            }
+            TableMod::DeleteAll => delete_all(&mut self.rules, self.capacity),
+        }
     }
 
     /// A rule that a switch may choose for a packet: one that fits, so that no other that fits
@@ -55,7 +66,7 @@ impl Table {
         ensures found { IfSome result (λ rule. MayChoose self.now.rules key.now rule.now) }
         ensures none { IfNone result ((rule : Rule) → Contains self.now.rules rule → fits rule key.now ≡ false) }
     {
-        None
+        first_fit(&self.rules, key)
     }
 
     /// How many rules the table has.
@@ -64,6 +75,6 @@ impl Table {
         ensures room { result ≤ self.now.capacity }
         ensures distinct { AllPairs Differ self.now.rules }
     {
-        0
+        self.rules.len() as u32
     }
 }

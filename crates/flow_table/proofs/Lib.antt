@@ -1,0 +1,4 @@
+pub mod Matches
+pub mod Standing
+pub mod Places
+pub mod Keeping

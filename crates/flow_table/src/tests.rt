@@ -1,0 +1,1 @@
+// A table's answers and choices, worked by hand.
