@@ -2,3 +2,4 @@ pub mod Matches
 pub mod Standing
 pub mod Places
 pub mod Keeping
+pub mod Changing

@@ -1,6 +1,7 @@
 -- Equal matches, and rules of one match and priority.
-use Rattle.std.proofs.Common.{◌≡◌, ℕ, true, Option, Some, None, refl, sym, ap, ◌∙◌}
+use Rattle.std.proofs.Common.{◌≡◌, ℕ, Bool, true, false, eqb, Option, Some, None, refl, sym, ap, ◌∙◌}
 use Rattle.std.specs.Prelude.{◌&&◌, ◌==◌}
+use Rattle.std.specs.Option.{option_eq}
 use Rattle.std.proofs.lemmas.Bool.{and_parts, and_from, eqb-true, eq-eqb}
 use Rattle.maple_base.specs.declared.key.Match.{Match}
 use Rattle.maple_base.specs.declared.decision.Rule.{Rule}
@@ -100,3 +101,30 @@ at_is of priority r h =
 
 pub at_of : (of : Match) (priority : ℕ) (r : Rule) → r.of ≡ of → r.priority ≡ priority → is_at of priority r ≡ true
 at_of of priority r e p = and_from _ _ (same_of r.of of e) (eq-eqb r.priority priority p)
+
+-- the derived test of two matches, field by field
+equal_option : (o p : Option ℕ) → option_eq eqb o p ≡ alike o p
+equal_option None None = refl
+equal_option (Some v) (Some w) = refl
+equal_option None (Some w) = refl
+equal_option (Some v) None = refl
+
+regrouped : (a b c d e f g h i j k l : Bool) → (a && (b && (c && (d && (e && (f && (g && (h && (i && (j && (k && l))))))))))) ≡ ((a && b && c && d && e && f) && (g && h && i && j) && (k && l))
+regrouped false b c d e f g h i j k l = refl
+regrouped true false c d e f g h i j k l = refl
+regrouped true true false d e f g h i j k l = refl
+regrouped true true true false e f g h i j k l = refl
+regrouped true true true true false f g h i j k l = refl
+regrouped true true true true true false g h i j k l = refl
+regrouped true true true true true true false h i j k l = refl
+regrouped true true true true true true true false i j k l = refl
+regrouped true true true true true true true true false j k l = refl
+regrouped true true true true true true true true true false k l = refl
+regrouped true true true true true true true true true true false l = refl
+regrouped true true true true true true true true true true true false = refl
+regrouped true true true true true true true true true true true true = refl
+
+pub equal_is : (m n : Match) → (option_eq eqb m.in_port n.in_port && (option_eq eqb m.dl_src n.dl_src && (option_eq eqb m.dl_dst n.dl_dst && (option_eq eqb m.dl_vlan n.dl_vlan && (option_eq eqb m.dl_pcp n.dl_pcp && (option_eq eqb m.dl_type n.dl_type && (option_eq eqb m.nw_tos n.nw_tos && (option_eq eqb m.nw_proto n.nw_proto && (option_eq eqb m.nw_src n.nw_src && (option_eq eqb m.nw_dst n.nw_dst && (option_eq eqb m.tp_src n.tp_src && option_eq eqb m.tp_dst n.tp_dst))))))))))) ≡ same_match m n
+equal_is m n =
+    simp equal_option
+    (regrouped (alike m.in_port n.in_port) (alike m.dl_src n.dl_src) (alike m.dl_dst n.dl_dst) (alike m.dl_vlan n.dl_vlan) (alike m.dl_pcp n.dl_pcp) (alike m.dl_type n.dl_type) (alike m.nw_tos n.nw_tos) (alike m.nw_proto n.nw_proto) (alike m.nw_src n.nw_src) (alike m.nw_dst n.nw_dst) (alike m.tp_src n.tp_src) (alike m.tp_dst n.tp_dst))

@@ -1,7 +1,7 @@
 -- Which rule stands above which, and the first that fits.
-use Rattle.std.proofs.Common.{◌≡◌, ℕ, ◌<◌, Bool, true, false, not, List, length, get_or, refl, sym, ap, ◌∙◌, ⊎_elim, arith}
+use Rattle.std.proofs.Common.{◌≡◌, ℕ, ◌+◌, ◌<◌, Bool, true, false, not, List, length, get_or, refl, sym, ap, ◌∙◌, subst, ⊎_elim, arith}
 use Rattle.std.specs.Prelude.{◌&&◌, ◌||◌, nat_lt, Contains}
-use Rattle.std.proofs.lemmas.Bool.{cases_order}
+use Rattle.std.proofs.lemmas.Bool.{cases_order, cases_eq}
 use Rattle.std.proofs.lemmas.Bool.Decides.{nat_tests}
 use Rattle.std.proofs.lemmas.List.{get_or_read}
 use Rattle.maple_base.specs.declared.key.Key.{Key}
@@ -30,6 +30,14 @@ not_above q p r a b = lower (match_exact q.of) (match_exact p.of) (match_exact r
 
 pub not_both : (p r : Rule) → stands_above p r ≡ true → stands_above r p ≡ false
 not_both p r a = other_way (match_exact p.of) (match_exact r.of) p.priority r.priority a
+
+-- what holds of each rule before a place, and of the one there
+pub one_more : (P : Rule → Type 0) (rules : List Rule) (i : ℕ) (x : Rule) → i < length rules → x ≡ get_or rules i x → ((k : ℕ) (d : Rule) → k < i → P (get_or rules k d)) → P x → (k : ℕ) (d : Rule) → k < i + 1 → P (get_or rules k d)
+one_more P rules i x within read before here k d lt =
+    ⊎_elim
+    (λ e. subst (λ n. P (get_or rules n d)) (sym e) (subst P (get_or_read rules i x within read d) here))
+    (λ ne. before k d (omega arith))
+    (cases_eq k i)
 
 pub first_is : (rules : List Rule) (k : Key) (i : ℕ) (r : Rule) → AreOrdered rules → i < length rules → r ≡ get_or rules i r → fits r k ≡ true → ((j : ℕ) (d : Rule) → j < i → fits (get_or rules j d) k ≡ false) → MayChoose rules k r
 first_is rules k i r ordered within read f before =
