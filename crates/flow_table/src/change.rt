@@ -1,13 +1,14 @@
 // What changes do to the rules of a table.
-ghost use Rattle.std.specs.Prelude.{◌≡◌, ◌⊎◌, length};
+ghost use Rattle.std.specs.Prelude.{◌≡◌, ◌⊎◌, ℕ, ◌<◌, ◌^◌, length};
+ghost use Rattle.std.specs.List.{AllPairs};
 ghost use Rattle.maple_base.specs.declared.decision.TableMod.TheVariants.{Add, DeleteStrict, DeleteAll};
 ghost use Rattle.flow_table.specs.declared.applied.Applied.TheVariants.{Added, NoMemory};
 ghost use Rattle.flow_table.specs.Effects.{answer_of};
-ghost use Rattle.flow_table.specs.Tables.{Leaves};
+ghost use Rattle.flow_table.specs.Tables.{Differ, Leaves};
 ghost use Rattle.flow_table.specs.Orders.{IsKept, entries};
 
-use crate::lookup::{place_for, place_of};
 use crate::Applied;
+use crate::lookup::{place_for, place_of};
 use maple_base::{Match, Rule};
 
 /// Puts a rule in, in the place of one of equal match and priority.
@@ -33,11 +34,11 @@ pub fn add(rules: &mut Vec<Rule>, capacity: u32, rule: &Rule) -> Applied
 }
 
 /// Removes the rule of this match and this priority.
-pub fn delete_strict(rules: &mut Vec<Rule>, of: &Match, priority: u16, capacity: u32) -> Applied
-    requires { IsKept rules.old.items capacity }
-    ensures answer { result ≡ answer_of (DeleteStrict of.now priority) rules.old.items capacity }
-    ensures effect { Leaves result (DeleteStrict of.now priority) (entries rules.old.items capacity) (entries rules.new.items capacity) }
-    ensures kept { IsKept rules.new.items capacity }
+pub fn delete_strict(rules: &mut Vec<Rule>, of: &Match, priority: u16) -> Applied
+    requires { AllPairs Differ rules.old.items }
+    ensures answer { (capacity : ℕ) → result ≡ answer_of (DeleteStrict of.now priority) rules.old.items capacity }
+    ensures effect { (capacity : ℕ) → Leaves result (DeleteStrict of.now priority) (entries rules.old.items capacity) (entries rules.new.items capacity) }
+    ensures kept { (capacity : ℕ) → IsKept rules.old.items capacity → IsKept rules.new.items capacity }
 {
     match place_of(rules, of, priority) {
         Some(place) => {
@@ -49,11 +50,11 @@ pub fn delete_strict(rules: &mut Vec<Rule>, of: &Match, priority: u16, capacity:
 }
 
 /// Removes all rules.
-pub fn delete_all(rules: &mut Vec<Rule>, capacity: u32) -> Applied
-    requires { IsKept rules.old.items capacity }
-    ensures answer { result ≡ answer_of DeleteAll rules.old.items capacity }
-    ensures effect { Leaves result DeleteAll (entries rules.old.items capacity) (entries rules.new.items capacity) }
-    ensures kept { IsKept rules.new.items capacity }
+pub fn delete_all(rules: &mut Vec<Rule>) -> Applied
+    requires { length rules.old.items < 2 ^ 32 }
+    ensures answer { (capacity : ℕ) → result ≡ answer_of DeleteAll rules.old.items capacity }
+    ensures effect { (capacity : ℕ) → Leaves result DeleteAll (entries rules.old.items capacity) (entries rules.new.items capacity) }
+    ensures kept { (capacity : ℕ) → IsKept rules.old.items capacity → IsKept rules.new.items capacity }
 {
     let count = rules.len() as u32;
     rules.clear();

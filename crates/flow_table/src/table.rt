@@ -6,9 +6,9 @@ ghost use Rattle.flow_table.specs.declared.applied.Applied.TheVariants.{Added, N
 ghost use Rattle.flow_table.specs.Effects.{answer_of};
 ghost use Rattle.flow_table.specs.Tables.{Differ, Leaves};
 
+use crate::Applied;
 use crate::change::{add, delete_all, delete_strict};
 use crate::lookup::first_fit;
-use crate::Applied;
 use maple_base::{Key, Rule, TableMod};
 use std::alloc::Global;
 use std::marker::Model;
@@ -54,9 +54,9 @@ impl Table {
         match change {
             TableMod::Add(rule) => add(&mut self.rules, self.capacity, rule),
             TableMod::DeleteStrict { of, priority } => {
-                delete_strict(&mut self.rules, of, *priority, self.capacity)
+                delete_strict(&mut self.rules, of, *priority)
             }
-            TableMod::DeleteAll => delete_all(&mut self.rules, self.capacity),
+            TableMod::DeleteAll => delete_all(&mut self.rules),
         }
     }
 
