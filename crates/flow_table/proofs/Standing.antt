@@ -1,9 +1,9 @@
 -- Which rule stands above which, and the first that fits.
-use Rattle.std.proofs.Common.{◌≡◌, ℕ, ◌+◌, ◌<◌, Bool, true, false, not, List, length, get_or, refl, sym, ap, ◌∙◌, subst, ⊎_elim, arith}
-use Rattle.std.specs.Prelude.{◌&&◌, ◌||◌, nat_lt, Contains}
-use Rattle.std.proofs.lemmas.Bool.{cases_order, cases_eq}
+use Rattle.std.proofs.Common.{◌≡◌, ℕ, ◌<◌, Bool, true, false, not, List, length, get_or, Option, Some, None, Bor, refl, sym, ap, ◌∙◌, ⊎_elim, arith}
+use Rattle.std.specs.List.{HoldsAt, AllWithin}
+use Rattle.std.specs.Prelude.{IfSome, MatchOption, ◌&&◌, ◌||◌, nat_lt, Contains}
+use Rattle.std.proofs.lemmas.Bool.{cases_order}
 use Rattle.std.proofs.lemmas.Bool.Decides.{nat_tests}
-use Rattle.std.proofs.lemmas.List.{get_or_read}
 use Rattle.maple_base.specs.declared.key.Key.{Key}
 use Rattle.maple_base.specs.declared.decision.Rule.{Rule}
 use Rattle.maple_base.specs.Choice.{fits, stands_above, MayChoose}
@@ -31,42 +31,38 @@ not_above q p r a b = lower (match_exact q.of) (match_exact p.of) (match_exact r
 pub not_both : (p r : Rule) → stands_above p r ≡ true → stands_above r p ≡ false
 not_both p r a = other_way (match_exact p.of) (match_exact r.of) p.priority r.priority a
 
--- what holds of each rule before a place, and of the one there
-pub one_more : (P : Rule → Type 0) (rules : List Rule) (i : ℕ) (x : Rule) → i < length rules → x ≡ get_or rules i x → ((k : ℕ) (d : Rule) → k < i → P (get_or rules k d)) → P x → (k : ℕ) (d : Rule) → k < i + 1 → P (get_or rules k d)
-one_more P rules i x within read before here k d lt =
-    ⊎_elim
-    (λ e. subst (λ n. P (get_or rules n d)) (sym e) (subst P (get_or_read rules i x within read d) here))
-    (λ ne. before k d (omega arith))
-    (cases_eq k i)
-
-pub first_is : (rules : List Rule) (k : Key) (i : ℕ) (r : Rule) → AreOrdered rules → i < length rules → r ≡ get_or rules i r → fits r k ≡ true → ((j : ℕ) (d : Rule) → j < i → fits (get_or rules j d) k ≡ false) → MayChoose rules k r
-first_is rules k i r ordered within read f before =
+first_is : (rules : List Rule) (k : Key) (i : ℕ) (r : Rule) → AreOrdered rules → i < length rules → HoldsAt (λ x. x ≡ r) rules i → fits r k ≡ true → AllWithin (λ x. fits x k ≡ false) rules 0 i → MayChoose rules k r
+first_is rules k i r ordered within here f before =
     record {
-      there = (i, within, sym read);
+      there = (i, within, here r);
       fitting = f;
       top = λ q c g. ⊎_elim
-          (λ e. let same : q ≡ r = sym c.2 ∙ ap (λ j. get_or rules j q) e ∙ sym (get_or_read rules i r within read q) in ap (λ x. stands_above x r) same ∙ never_itself r)
+          (λ e. let same : q ≡ r = sym c.2 ∙ ap (λ j. get_or rules j q) e ∙ here q in ap (λ x. stands_above x r) same ∙ never_itself r)
           (λ h. ⊎_elim
-          (λ lt. let n : fits q k ≡ false = ap (λ x. fits x k) (sym c.2) ∙ before c.0 q lt in let t = sym g ∙ n in absurd (cc))
-          (λ gt. ap (λ x. stands_above q x) (get_or_read rules i r within read q) ∙ ap (λ x. stands_above x (get_or rules i q)) (sym c.2) ∙ ordered i c.0 q gt c.1)
+          (λ lt. let n : fits q k ≡ false = ap (λ x. fits x k) (sym c.2) ∙ before c.0 q (omega arith) lt in let t = sym g ∙ n in absurd (cc))
+          (λ gt. ap (λ x. stands_above q x) (sym (here q)) ∙ ap (λ x. stands_above x (get_or rules i q)) (sym c.2) ∙ ordered i c.0 q gt c.1)
           h)
           (cases_order c.0 i);
     }
 
+-- the first that fits is one that no other that fits stands above
+pub found_is : (rules : List Rule) (k : Key) (o : Option (Bor Rule)) → AreOrdered rules → MatchOption o (AllWithin (λ x. fits x k ≡ false) rules 0 (length rules)) (λ x. (fits x.now k ≡ true) × (i : ℕ) × (i < length rules) × HoldsAt (λ y. y ≡ x.now) rules i × AllWithin (λ y. fits y k ≡ false) rules 0 i) → IfSome o (λ r. MayChoose rules k r.now)
+found_is rules k None ordered h = tt
+found_is rules k (Some x) ordered h = first_is rules k h.1 x.now ordered h.2 h.3 h.0 h.4
+
 -- the place of a rule is that of the first which it stands above
-pub place_at : (r : Rule) (rules : List Rule) (i : ℕ) (x : Rule) → AreOrdered rules → i < length rules → x ≡ get_or rules i x → stands_above r x ≡ true → ((j : ℕ) (d : Rule) → j < i → stands_above r (get_or rules j d) ≡ false) → IsPlaceFor r rules i
-place_at r rules i x ordered within read above before =
+pub place_at : (r : Rule) (rules : List Rule) (i : ℕ) → AreOrdered rules → (i < length rules) × HoldsAt (λ x. stands_above r x ≡ true) rules i × AllWithin (λ x. stands_above r x ≡ false) rules 0 i → IsPlaceFor r rules i
+place_at r rules i ordered first =
     record {
-      within = omega arith;
-      before = before;
+      within = omega (arith, first.0);
+      before = λ k d lt. first.2 k d (omega arith) lt;
       behind = λ k d le lt.
-          let here : (d : Rule) → x ≡ get_or rules i d = get_or_read rules i x within read in
-          let low : stands_above x r ≡ false = not_both r x above in
+          let low : stands_above (get_or rules i d) r ≡ false = not_both r (get_or rules i d) (first.1 d) in
           ⊎_elim
-          (λ e. ap (λ j. stands_above (get_or rules j d) r) e ∙ ap (λ y. stands_above y r) (sym (here d)) ∙ low)
+          (λ e. ap (λ j. stands_above (get_or rules j d) r) e ∙ low)
           (λ h. ⊎_elim
           (λ less. absurd (omega arith))
-          (λ more. not_above (get_or rules k d) x r (ap (λ y. stands_above (get_or rules k d) y) (here d) ∙ ordered i k d more lt) low)
+          (λ more. not_above (get_or rules k d) (get_or rules i d) r (ordered i k d more lt) low)
           h)
           (cases_order k i);
     }

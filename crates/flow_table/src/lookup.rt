@@ -13,24 +13,14 @@ pub fn first_fit<'a>(rules: &'a [Rule], key: &Key) -> Option<&'a Rule>
     ensures found { IfSome result (λ rule. MayChoose rules.now key.now rule.now) }
     ensures none { IfNone result ((rule : Rule) → Contains rules.now rule → fits rule key.now ≡ false) }
 {
-    for rule in rules {
-        if rule.of.fits(key) {
-            return Some(rule);
-        }
-    }
-    None
+    rules.iter().find(|rule| rule.of.fits(key))
 }
 
 /// Where a rule of this match and this priority stands.
 pub fn place_of(rules: &[Rule], of: &Match, priority: u16) -> Option<usize>
     ensures { MatchOption result (NoneAt of.now priority rules.now) (λ place. StandsAt of.now priority rules.now place) }
 {
-    for (place, rule) in rules.iter().enumerate() {
-        if is_at(rule, of, priority) {
-            return Some(place);
-        }
-    }
-    None
+    rules.iter().position(|rule| is_at(rule, of, priority))
 }
 
 /// The place for a further rule: behind all rules that it does not stand above.
@@ -38,12 +28,10 @@ pub fn place_for(rules: &[Rule], rule: &Rule) -> usize
     requires { AreOrdered rules.now }
     ensures { IsPlaceFor rule.now rules.now result }
 {
-    for (place, other) in rules.iter().enumerate() {
-        if stands_above(rule, other) {
-            return place;
-        }
+    match rules.iter().position(|other| stands_above(rule, other)) {
+        Some(place) => place,
+        None => rules.len(),
     }
-    rules.len()
 }
 
 fn is_at(rule: &Rule, of: &Match, priority: u16) -> bool
