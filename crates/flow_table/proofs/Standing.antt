@@ -1,7 +1,7 @@
 -- Which rule stands above which, and the first that fits.
 use Rattle.std.proofs.Common.{◌≡◌, ℕ, ◌<◌, Bool, true, false, not, List, length, get_or, Option, Some, None, Bor, refl, sym, ap, ◌∙◌, ⊎_elim, arith}
 use Rattle.std.specs.List.{HoldsAt, AllWithin}
-use Rattle.std.specs.Prelude.{IfSome, MatchOption, ◌&&◌, ◌||◌, nat_lt, Contains}
+use Rattle.std.specs.Prelude.{IfSome, MatchOption, unwrap_or, ◌&&◌, ◌||◌, nat_lt}
 use Rattle.std.proofs.lemmas.Bool.{cases_order}
 use Rattle.std.proofs.lemmas.Bool.Decides.{nat_tests}
 use Rattle.maple_base.specs.declared.key.Key.{Key}
@@ -51,7 +51,7 @@ found_is rules k None ordered h = tt
 found_is rules k (Some x) ordered h = first_is rules k h.1 x.now ordered h.2 h.3 h.0 h.4
 
 -- the place of a rule is that of the first which it stands above
-pub place_at : (r : Rule) (rules : List Rule) (i : ℕ) → AreOrdered rules → (i < length rules) × HoldsAt (λ x. stands_above r x ≡ true) rules i × AllWithin (λ x. stands_above r x ≡ false) rules 0 i → IsPlaceFor r rules i
+place_at : (r : Rule) (rules : List Rule) (i : ℕ) → AreOrdered rules → (i < length rules) × HoldsAt (λ x. stands_above r x ≡ true) rules i × AllWithin (λ x. stands_above r x ≡ false) rules 0 i → IsPlaceFor r rules i
 place_at r rules i ordered first =
     record {
       within = omega (arith, first.0);
@@ -66,3 +66,7 @@ place_at r rules i ordered first =
           h)
           (cases_order k i);
     }
+
+pub place_or_end : (r : Rule) (rules : List Rule) (o : Option ℕ) → AreOrdered rules → MatchOption o (AllWithin (λ x. stands_above r x ≡ false) rules 0 (length rules)) (λ i. (i < length rules) × HoldsAt (λ x. stands_above r x ≡ true) rules i × AllWithin (λ x. stands_above r x ≡ false) rules 0 i) → IsPlaceFor r rules (unwrap_or o (length rules))
+place_or_end r rules None ordered none = record { within = omega arith; before = λ k d lt. none k d (omega arith) lt; behind = λ k d le lt. absurd (omega arith) }
+place_or_end r rules (Some i) ordered first = place_at r rules i ordered first

@@ -1,11 +1,11 @@
 -- A flow table, as contracts see it.
-use Rattle.std.specs.Prelude.{◌≡◌, ℕ, List, ◌⊎◌}
+use Rattle.std.specs.Prelude.{◌≡◌, ℕ, List}
 use Rattle.std.specs.List.Sorted.{IsPermutation}
 use Rattle.maple_base.specs.declared.decision.Rule.{Rule}
 use Rattle.maple_base.specs.declared.decision.TableMod.{TableMod}
 use Rattle.flow_table.specs.declared.applied.Applied.{Applied}
-use Rattle.flow_table.specs.declared.applied.Applied.TheVariants.{Added, Replaced, Deleted, Full, NoMemory}
-use Rattle.flow_table.specs.Effects.{effect, answer_of}
+use Rattle.flow_table.specs.declared.applied.Applied.TheVariants.{Full, NoMemory}
+use Rattle.flow_table.specs.Effects.{effect}
 
 -- the rules of a table, in whatever order, and how many it has room for
 pub record Entries : Type 0 where

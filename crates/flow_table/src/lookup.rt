@@ -28,10 +28,10 @@ pub fn place_for(rules: &[Rule], rule: &Rule) -> usize
     requires { AreOrdered rules.now }
     ensures { IsPlaceFor rule.now rules.now result }
 {
-    match rules.iter().position(|other| stands_above(rule, other)) {
-        Some(place) => place,
-        None => rules.len(),
-    }
+    rules
+        .iter()
+        .position(|other| stands_above(rule, other))
+        .unwrap_or(rules.len())
 }
 
 fn is_at(rule: &Rule, of: &Match, priority: u16) -> bool

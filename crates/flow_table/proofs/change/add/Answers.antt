@@ -1,4 +1,4 @@
-use Rattle.std.proofs.Common.{◌≡◌, get_or, sym, ◌∙◌, subst, inr, rules}
+use Rattle.std.proofs.Common.{get_or, sym, inr, rules}
 use Rattle.flow_table.specs.Orders.{NoneAt, StandsAt, IsPlaceFor}
 use Rattle.flow_table.proofs.Keeping.{kept_set, kept_insert}
 use Rattle.flow_table.proofs.Matches.{at_is}

@@ -1,4 +1,3 @@
-use Rattle.std.proofs.Common.{◌≡◌, sym, ◌∙◌, rules}
 use Rattle.flow_table.specs.Orders.{NoneAt, StandsAt}
 use Rattle.flow_table.proofs.Keeping.{kept_remove}
 use Rattle.flow_table.proofs.Changing.{removed_effect, kept_effect, kept_answer}
