@@ -1,0 +1,12 @@
+pub mod Fine
+pub mod Given
+pub mod Lengths
+pub mod ListBack
+pub mod MatchBack
+pub mod NumberBack
+pub mod Outputs
+pub mod PortLists
+pub mod Shown
+pub mod Spelling
+pub mod Steps
+pub mod Wild

@@ -1,0 +1,6 @@
+use Rattle.std.proofs.Common.{append_assoc}
+use Rattle.of10_codec.proofs.encoding.bodies.append_flow_mod_front.Goals as goal
+
+pub returns-clause-items : goal.returns-clause-items
+returns-clause-items c =
+    rw (c.append_u16-3.ensures.items, c.append_u16-2.ensures.items, c.append_u16.ensures.items, c.append_u64.ensures.items, c.append.ensures.items, c.bytes_of.ensures.value) (simp append_assoc)

@@ -1,0 +1,9 @@
+pub mod Answers
+pub mod Faults
+pub mod Laws
+pub mod Lent
+pub mod Matches
+pub mod Messages
+pub mod Reading
+pub mod Types
+pub mod Written

@@ -1,0 +1,99 @@
+// Writing messages.
+ghost use Rattle.std.specs.Prelude.{◌≡◌, ◌+◌, ◌≤◌, ◌++◌, true, length, vec_len, vec_capacity, OnOk, OnErr, IfErr};
+ghost use Rattle.of10_codec.specs.Types.{type_of};
+ghost use Rattle.of10_codec.specs.Laws.{has_bits};
+ghost use Rattle.of10_codec.specs.Written.{number, written, written_match, sent, match_fits_fields, fits_fields};
+ghost use Rattle.of10_codec.specs.Messages.{Spelled};
+ghost use Rattle.of10_codec.specs.Answers.{IsTooLong};
+
+mod append;
+mod bodies;
+mod matches;
+mod outputs;
+mod ports;
+#[cfg(test)]
+mod tests;
+
+use crate::{Body, EncodeError, Message};
+use append::{append_u8, append_u16, append_u32};
+use bodies::{append_body, len_of};
+use maple_base::Match;
+use matches::bytes_of;
+
+// The version of OpenFlow, and how many bytes a header has.
+const VERSION: u8 = 1;
+
+const HEADER: u128 = 8;
+
+/// Appends the bytes of a message. Each number fits its field: the Ethernet addresses of a match are
+/// below 2^48, and the reason of a port status is at most 2; and the type of an `Other` is none that
+/// `Body` names.
+///
+/// # Errors
+///
+/// `TooLong` with the number of bytes, where the message has more than 65,535. After an error `out`
+/// has what it had.
+pub fn encode(message: &Message, out: &mut Vec<u8>) -> Result<(), EncodeError>
+    requires { fits_fields message.now.body ≡ true }
+    ensures ok { OnOk result (out.new.items ≡ out.old.items ++ written message.now) }
+    ensures short { OnOk result (length (written message.now) ≤ 65535) }
+    ensures spelled { OnOk result (Spelled (sent message.now) (written message.now)) }
+    ensures error { IfErr result (λ error. IsTooLong error message.now) }
+    ensures kept { OnErr result (out.new.items ≡ out.old.items) }
+{
+    let len = HEADER + len_of(&message.body);
+    if len > u16::MAX as u128 {
+        return Err(EncodeError::TooLong(len));
+    }
+    // All room at once, so that nothing fails once `out` has changed.
+    if out.reserve(len as usize).is_err() {
+        return Err(EncodeError::NoMemory);
+    }
+    append_header(kind_of(&message.body), len as u16, message.xid, out);
+    append_body(&message.body, out);
+    Ok(())
+}
+
+fn kind_of(body: &Body) -> u8
+    ensures { result ≡ type_of body.now }
+{
+    match body {
+        Body::Hello { .. } => 0,
+        Body::Error { .. } => 1,
+        Body::EchoRequest(_) => 2,
+        Body::EchoReply(_) => 3,
+        Body::FeaturesRequest => 5,
+        Body::FeaturesReply { .. } => 6,
+        Body::SetConfig { .. } => 9,
+        Body::PacketIn { .. } => 10,
+        Body::FlowRemoved { .. } => 11,
+        Body::PortStatus { .. } => 12,
+        Body::PacketOut { .. } => 13,
+        Body::FlowMod { .. } => 14,
+        Body::BarrierRequest => 18,
+        Body::BarrierReply => 19,
+        Body::Other { kind } => *kind,
+    }
+}
+
+// OpenFlow 1.0, 5.1, ofp_header.
+fn append_header(kind: u8, len: u16, xid: u32, out: &mut Vec<u8>)
+    requires { vec_len out.old + 8 ≤ vec_capacity out.old }
+    ensures items { out.new.items ≡ out.old.items ++ (number 1 1 ++ number 1 kind ++ number 2 len ++ number 4 xid) }
+    ensures len { vec_len out.new ≡ vec_len out.old + 8 }
+    ensures capacity { vec_capacity out.old ≤ vec_capacity out.new }
+    ensures bits { has_bits 32 xid ≡ true }
+{
+    append_u8(VERSION, out);
+    append_u8(kind, out);
+    append_u16(len, out);
+    append_u32(xid, out);
+}
+
+/// The 40 bytes of a match (OpenFlow 1.0, 5.2.3). Its Ethernet addresses are below 2^48.
+pub fn match_bytes(of: &Match) -> [u8; 40]
+    requires { match_fits_fields of.now ≡ true }
+    ensures { result ≡ written_match of.now }
+{
+    bytes_of(of)
+}
