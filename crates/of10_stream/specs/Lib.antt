@@ -1,0 +1,4 @@
+pub mod Cut
+pub mod Front
+pub mod Laws
+pub mod Steps
