@@ -168,7 +168,7 @@ module _ (policy : Policy) (runs : List Trace) (world : World) (knows : Knows po
   holds = table_law (scratch runs) world.rules.facts world.rules.barriers knows.facts knows.barriers
 
   evaluated : outcome_at (course_of policy 4096) k ≡ plain policy k
-  evaluated = ends_as_evaluated policy 4096 blank_value 1 k valid
+  evaluated = ends_as_evaluated policy 4096 blank_value 1 k knows.plainly valid
 
   -- a fact that is chosen does what plain evaluation decides
   pub hit_step : (r : Rule) (actions : List ℕ) (old new : List ℕ) → Contains world.rules.facts r → MayChoose (table_of world.rules) k r → r.actions ≡ actions → new ≡ old ++ spelled (Hit k.in_port actions)
@@ -254,6 +254,7 @@ module _ (policy : Policy) (runs : List Trace) (world : World) (knows : Knows po
           (subst (λ b. (new ≡ old ++ text_of (Answer k.in_port d (cond b (Rows (need policy runs k) 1024) Learned) ∷ [])) × Knows policy (cond b runs (with_run policy runs k)) world') (sym fits_in) (
             e ∙ ap (λ t. old ++ t) (sym (append-nil (spelled (Answer k.in_port d Learned)))),
             record {
+              plainly = knows.plainly;
               own = own_push policy runs next knows.own (record { key = k; valid = valid; items = refl; decided = evaluated ∙ o ∙ ap Decided (sym same) });
               apart = apart_push runs next knows.apart (clashes_none policy runs k knows.own unfound);
               tree = is ∙ grows;

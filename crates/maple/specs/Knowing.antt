@@ -5,6 +5,7 @@ use Rattle.maple_base.specs.declared.key.Key.{Key}
 use Rattle.maple_base.specs.declared.decision.Outcome.TheVariants.{Decided}
 use Rattle.maple_base.specs.Keys.{valid_key, anything}
 use Rattle.policy_lang.specs.declared.Policy.{Policy}
+use Rattle.policy_lang.specs.Plain.{is_plain}
 use Rattle.policy_lang.specs.Courses.{course_of, items_of, outcome_at}
 use Rattle.trace_tree.specs.declared.node.Trace.{Trace}
 use Rattle.trace_tree.specs.Growth.{scratch}
@@ -23,8 +24,9 @@ abbrev pub AreOwn : Policy → List Trace → Type 0
 AreOwn policy [] = Unit {0}
 AreOwn policy (run ∷ runs) = IsOwn policy run × AreOwn policy runs
 
--- these runs were learned: they are the policy's own and no two clash, the tree is theirs, and the rules are the tree's, not more than the switch has room for
+-- the policy is plain, and these runs were learned: they are the policy's own and no two clash, the tree is theirs, and the rules are the tree's, not more than the switch has room for
 pub record Knows (policy : Policy) (runs : List Trace) (world : World) : Type 0 where
+  pub plainly : is_plain policy ≡ true
   pub own : AreOwn policy runs
   pub apart : AreApart runs
   pub tree : world.tree ≡ scratch runs

@@ -1,6 +1,7 @@
 // A run of a policy and a script.
-ghost use Rattle.std.specs.Prelude.{◌≡◌, ◌++◌, ◌≤◌, [], IsTrue, map};
+ghost use Rattle.std.specs.Prelude.{◌≡◌, true, ◌++◌, ◌≤◌, [], IsTrue, map};
 ghost use Rattle.maple_io.specs.Counts.{HasRisen};
+ghost use Rattle.policy_lang.specs.Plain.{is_plain};
 ghost use Rattle.maple.specs.Due.{last_line, IsScript};
 ghost use Rattle.maple.specs.Ends.{Ends};
 ghost use Rattle.maple.specs.Lines.{ended_lines, without_end};
@@ -17,8 +18,9 @@ use maple_io::Sink;
 use policy_lang::Policy;
 use std::alloc::Global;
 
-/// Runs the packet lines of a script, and writes the report and the last line.
+/// Runs the packet lines of a script under a plain policy, and writes the report and the last line.
 pub fn run_script<O: Sink>(alloc: Global, policy: &Policy, script: &[u8], output: &mut O) -> Status
+    requires plain { is_plain policy.now ≡ true }
     ensures { Ends (HasRisen (O.failed output.old) (O.failed output.new)) (O.taken output.old) (O.taken output.new) (due_of (map without_end (ended_lines script.now))) (told_of policy.now [] (map without_end (ended_lines script.now))) result }
 {
     let mut rest = script;

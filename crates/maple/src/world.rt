@@ -1,8 +1,9 @@
 // One switch and its controller.
-ghost use Rattle.std.specs.Prelude.{◌≡◌, ◌++◌, ◌+◌, ◌<◌, ◌≤◌, ◌^◌, ◌∷◌, [], List, None, length, OnOk, IsTrue, string_bytes};
+ghost use Rattle.std.specs.Prelude.{◌≡◌, true, ◌++◌, ◌+◌, ◌<◌, ◌≤◌, ◌^◌, ◌∷◌, [], List, None, length, OnOk, IsTrue, string_bytes};
 ghost use Rattle.std.specs.List.Sorted.{IsPermutation};
 ghost use Rattle.maple_base.specs.Keys.{anything, valid_key};
 ghost use Rattle.maple_base.specs.Questions.{asks_once};
+ghost use Rattle.policy_lang.specs.Plain.{is_plain};
 ghost use Rattle.policy_lang.specs.declared.Policy.{Policy as PolicyData};
 ghost use Rattle.trace_tree.specs.declared.node.Trace.{Trace as TraceData};
 ghost use Rattle.trace_tree.specs.Bounds.{items_within};
@@ -34,9 +35,9 @@ pub struct World {
 }
 
 impl World {
-    /// A switch and a controller that know no run.
+    /// A switch and a controller that know no run, for any plain policy.
     pub fn new(alloc: Global) -> World
-        ensures { (policy : PolicyData) → Knows policy [] result }
+        ensures { (policy : PolicyData) → is_plain policy ≡ true → Knows policy [] result }
     {
         World {
             tree: Tree::new(alloc),

@@ -1,2 +1,7 @@
+pub mod PortLists
+pub mod Names
+pub mod SameNames
 pub mod Numbers
-pub mod Ports
+pub mod Ways
+pub mod Rounds
+pub mod Runs

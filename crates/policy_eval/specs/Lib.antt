@@ -1,1 +1,6 @@
-pub mod Evaluated
+pub mod Data
+pub mod Scopes
+pub mod Answers
+pub mod Endings
+pub mod HeadAnswers
+pub mod Arrivals

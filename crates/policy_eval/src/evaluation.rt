@@ -1,220 +1,320 @@
 // Plain evaluation of a policy.
-ghost use Rattle.std.specs.Prelude.{◌≡◌, ◌≤◌, ◌==◌, IfOk, IsTrue, map, length};
-ghost use Rattle.std.specs.List.{list_any};
+ghost use Rattle.std.specs.Prelude.{◌≡◌, ◌≤◌, ◌<◌, suc, length, IfOk, IsTrue, OnOk};
 ghost use Rattle.std.specs.Option.{option_map};
 ghost use Rattle.maple_base.specs.Keys.{valid_key};
-ghost use Rattle.policy_lang.specs.Values.{number_in, truth_in, is_port, ports_among, sent_out};
-ghost use Rattle.policy_lang.specs.Evaluation.{eval_of, value_of, numbers_of, out_ending, in_order, head_of, otherwise, block_ending, outcome_of};
-ghost use Rattle.policy_eval.specs.Evaluated.{IsBudget, AreNumbers, datum_of, given_of, all_given, end_of, statement_ending};
+ghost use Rattle.policy_lang.specs.Evaluation.{value_of, from_two, both_hold, one_holds, port_is_up, numbers_of, out_ending, way_to, route_ending, head_of, chosen, rounds, block_ending, eval_of};
+ghost use Rattle.policy_eval.specs.Data.{applied};
+ghost use Rattle.policy_eval.specs.Answers.{IsBudget, given_of};
+ghost use Rattle.policy_eval.specs.Arrivals.{arrival_of};
+ghost use Rattle.policy_eval.specs.HeadAnswers.{IsHead};
+ghost use Rattle.policy_eval.specs.Endings.{EndsAs, OnGoes, DecidesAs, AreNumbers, IsWay, statement_ending};
 
-use maple_base::{Actions, Decision, EnvNow, Key, NoMemory, Outcome};
+use crate::datum::Operator::{Difference, Equal, Less, LessEqual, NotEqual, Sum};
+use crate::heads::{bind, flag_in, number_in_table, place_of_host, port_of_hop};
+use crate::{Datum, Fault, Flow, Operator, Scope, Spent, Steps, is_port, sent_out};
+use maple_base::{Cell, Decision, EnvNow, Key, NoMemory, Outcome, Path, Place, Value};
 use policy_lang::{Block, Expr, Head, Policy, Statement};
 use std::alloc::Global;
 
-/// What an expression gives.
-#[derive(Clone, Copy)]
-pub enum Datum {
-    Numeral(u64),
-    Truth(bool),
-}
-
-/// How a part of a policy ends: no step was left for it, with a decision, or with so many steps
-/// left for what follows.
-#[derive(Drop)]
-pub enum Ending {
-    Spends,
-    Decides(Decision),
-    Goes(u32),
-}
-
-impl Datum {
-    pub fn number(self) -> u64
-        ensures { result ≡ number_in (datum_of self) }
-    {
-        match self {
-            Datum::Numeral(n) => n,
-            Datum::Truth(_) => 0,
-        }
-    }
-
-    pub fn truth(self) -> bool
-        ensures { result ≡ truth_in (datum_of self) }
-    {
-        match self {
-            Datum::Numeral(_) => false,
-            Datum::Truth(b) => b,
-        }
-    }
-}
-
-// What an expression gives, and how many steps are left, or `None` where no step was left for it.
-fn value_of(expr: &Expr, key: &Key, left: u32) -> Option<(Datum, u32)>
-    ensures { given_of result ≡ value_of expr.now key.now left }
-{
-    if left == 0 {
-        return None;
-    }
-    match expr {
-        Expr::Number(n) => Some((Datum::Numeral(*n), left - 1)),
-        Expr::Is(field, right) => {
-            let (datum, left) = value_of(right, key, left - 1)?;
-            Some((Datum::Truth(key.get(*field) == datum.number()), left))
-        }
-    }
-}
-
-// The numbers of expressions, from left to right, and how many steps are left.
-fn numbers_of(
+// Evaluates a policy for a packet that came to a switch.
+struct Evaluator<'a, E: EnvNow> {
     alloc: Global,
-    exprs: &[Expr],
-    key: &Key,
-    steps: u32,
-) -> Result<Option<(Vec<u64>, u32)>, NoMemory>
-    ensures { IfOk result (λ given. AreNumbers exprs.now (all_given given) (numbers_of exprs.now key.now steps)) }
-{
-    let mut numbers = Vec::new(alloc);
-    let mut left = steps;
-    for expr in exprs {
-        let Some((datum, rest)) = value_of(expr, key, left) else {
+    env: &'a E,
+    switch: u64,
+    key: &'a Key,
+}
+
+impl<'a, E: EnvNow> Evaluator<'a, E> {
+    // What an expression gives.
+    #[cycle(expressions)]
+    fn value(&self, expr: &Expr, scope: &Scope, steps: &mut Steps) -> Result<Datum, Spent>
+        ensures given { given_of result steps.new ≡ value_of expr.now (arrival_of E.has self.now) scope.now steps.old }
+        ensures fewer { OnOk result (steps.new < steps.old) }
+    {
+        steps.count()?;
+        match expr {
+            Expr::Number(number) => Ok(Datum::Number(*number)),
+            Expr::Var(name) => Ok(scope.named(name)),
+            Expr::SwitchOf(name) => Ok(Datum::Number(scope.named(name).place().switch)),
+            Expr::PortOf(name) => Ok(Datum::Number(scope.named(name).place().port)),
+            Expr::PacketSwitch => Ok(Datum::Number(self.switch)),
+            Expr::Packet(field) => Ok(Datum::Number(self.key.get(*field))),
+            Expr::Up(switch, port) => self.is_up(switch, port, scope, steps),
+            Expr::At(left, right) => self.operation(Operator::Place, left, right, scope, steps),
+            Expr::Is(field, right) => {
+                let datum = self.value(right, scope, steps)?;
+                Ok(Datum::Truth(self.key.get(*field) == datum.number()))
+            }
+            Expr::Not(right) => Ok(Datum::Truth(!self.value(right, scope, steps)?.truth())),
+            Expr::And(left, right) => self.both(left, right, scope, steps),
+            Expr::Or(left, right) => self.either(left, right, scope, steps),
+            Expr::Add(left, right) => self.operation(Sum, left, right, scope, steps),
+            Expr::Sub(left, right) => self.operation(Difference, left, right, scope, steps),
+            Expr::Equal(left, right) => self.operation(Equal, left, right, scope, steps),
+            Expr::NotEqual(left, right) => self.operation(NotEqual, left, right, scope, steps),
+            Expr::Less(left, right) => self.operation(Less, left, right, scope, steps),
+            Expr::LessEqual(left, right) => self.operation(LessEqual, left, right, scope, steps),
+        }
+    }
+
+    // What an operator makes of two expressions.
+    #[cycle(expressions)]
+    fn operation(
+        &self,
+        operator: Operator,
+        left: &Expr,
+        right: &Expr,
+        scope: &Scope,
+        steps: &mut Steps,
+    ) -> Result<Datum, Spent>
+        ensures given { given_of result steps.new ≡ from_two (applied operator) (value_of left.now (arrival_of E.has self.now) scope.now steps.old) (value_of right.now (arrival_of E.has self.now) scope.now) }
+        ensures fewer { OnOk result (steps.new < steps.old) }
+    {
+        let left = self.value(left, scope, steps)?;
+        let right = self.value(right, scope, steps)?;
+        Ok(operator.apply(left, right))
+    }
+
+    // Whether a port of a switch is up.
+    #[cycle(expressions)]
+    fn is_up(
+        &self,
+        switch: &Expr,
+        port: &Expr,
+        scope: &Scope,
+        steps: &mut Steps,
+    ) -> Result<Datum, Spent>
+        ensures given { given_of result steps.new ≡ from_two (port_is_up (E.has self.now.env.now)) (value_of switch.now (arrival_of E.has self.now) scope.now steps.old) (value_of port.now (arrival_of E.has self.now) scope.now) }
+        ensures fewer { OnOk result (steps.new < steps.old) }
+    {
+        let switch = self.value(switch, scope, steps)?.number();
+        let port = self.value(port, scope, steps)?.number();
+        Ok(Datum::Truth(flag_in(self.env.cell(Cell::Up { switch, port }))))
+    }
+
+    // Whether both hold; the second is evaluated only where the first holds.
+    #[cycle(expressions)]
+    fn both(
+        &self,
+        left: &Expr,
+        right: &Expr,
+        scope: &Scope,
+        steps: &mut Steps,
+    ) -> Result<Datum, Spent>
+        ensures given { given_of result steps.new ≡ both_hold (value_of left.now (arrival_of E.has self.now) scope.now steps.old) (value_of right.now (arrival_of E.has self.now) scope.now) }
+        ensures fewer { OnOk result (steps.new < steps.old) }
+    {
+        if self.value(left, scope, steps)?.truth() {
+            self.value(right, scope, steps)
+        } else {
+            Ok(Datum::Truth(false))
+        }
+    }
+
+    // Whether one holds; the second is evaluated only where the first does not hold.
+    #[cycle(expressions)]
+    fn either(
+        &self,
+        left: &Expr,
+        right: &Expr,
+        scope: &Scope,
+        steps: &mut Steps,
+    ) -> Result<Datum, Spent>
+        ensures given { given_of result steps.new ≡ one_holds (value_of left.now (arrival_of E.has self.now) scope.now steps.old) (value_of right.now (arrival_of E.has self.now) scope.now) }
+        ensures fewer { OnOk result (steps.new < steps.old) }
+    {
+        if self.value(left, scope, steps)?.truth() {
+            Ok(Datum::Truth(true))
+        } else {
+            self.value(right, scope, steps)
+        }
+    }
+
+    // The numbers of expressions, from left to right.
+    fn numbers(&self, exprs: &[Expr], scope: &Scope, steps: &mut Steps) -> Result<Vec<u64>, Fault>
+        ensures { AreNumbers exprs.now result steps.new (numbers_of exprs.now (arrival_of E.has self.now) scope.now steps.old) }
+    {
+        let mut numbers = Vec::new(self.alloc);
+        for expr in exprs {
+            let datum = self.value(expr, scope, steps)?;
+            numbers.push(datum.number())?;
+        }
+        Ok(numbers)
+    }
+
+    // What an `out` decides.
+    fn out(&self, exprs: &[Expr], scope: &Scope, steps: &mut Steps) -> Result<Decision, Fault>
+        requires { length exprs.now ≤ 16 }
+        ensures { DecidesAs result (out_ending (numbers_of exprs.now (arrival_of E.has self.now) scope.now steps.old)) }
+    {
+        let numbers = self.numbers(exprs, scope, steps)?;
+        Ok(sent_out(self.alloc, &numbers)?)
+    }
+
+    // The way to a place, of at most 63 next hops, or `None` where there is none.
+    fn way(&self, to: Place, steps: &mut Steps) -> Result<Option<Path>, Fault>
+        ensures { IsWay result (way_to (arrival_of E.has self.now) to steps.old) }
+    {
+        if !is_port(to.port) {
             return Ok(None);
-        };
-        numbers.push(datum.number())?;
-        left = rest;
-    }
-    Ok(Some((numbers, left)))
-}
-
-fn is_among(ports: &[u16], port: u16) -> bool
-    ensures { result ≡ list_any (λ p. p == port) ports.now }
-{
-    ports.iter().any(|p| *p == port)
-}
-
-fn is_port(number: u64) -> bool
-    ensures { result ≡ is_port number }
-{
-    1 <= number && number <= 65280
-}
-
-// The ports among these numbers, without repeats.
-fn ports_among(alloc: Global, numbers: &[u64]) -> Result<Vec<u16>, NoMemory>
-    ensures { IfOk result (λ ports. ports.items ≡ ports_among numbers.now) }
-{
-    let mut ports = Vec::new(alloc);
-    for number in numbers {
-        if is_port(*number) {
-            let port = *number as u16;
-            if !is_among(&ports, port) {
-                ports.push(port)?;
+        }
+        let mut hops = Vec::new(self.alloc);
+        let mut from = self.switch;
+        while from != to.switch {
+            if hops.len() == 63 {
+                return Ok(None);
             }
+            steps.count()?;
+            let cell = Cell::Hop {
+                from,
+                to: to.switch,
+            };
+            let Value::At(hop) = self.env.cell(cell) else {
+                return Ok(None);
+            };
+            hops.push(Place {
+                switch: from,
+                port: hop.port,
+            })?;
+            from = hop.switch;
+        }
+        hops.push(to)?;
+        Ok(Some(Path::new(hops)))
+    }
+
+    // What a `route` decides.
+    fn route(&self, expr: &Expr, scope: &Scope, steps: &mut Steps) -> Result<Decision, Fault>
+        ensures { DecidesAs result (route_ending (arrival_of E.has self.now) (value_of expr.now (arrival_of E.has self.now) scope.now steps.old)) }
+    {
+        let to = self.value(expr, scope, steps)?.place();
+        match self.way(to, steps)? {
+            None => Ok(Decision::Drop),
+            Some(path) => Ok(Decision::Path(path)),
         }
     }
-    Ok(ports)
-}
 
-// What is decided by an `out` of these numbers.
-pub fn sent_out(alloc: Global, numbers: &[u64]) -> Result<Decision, NoMemory>
-    requires { length numbers.now ≤ 16 }
-    ensures { IfOk result (λ decision. decision ≡ sent_out (ports_among numbers.now)) }
-{
-    let ports = ports_among(alloc, numbers)?;
-    if ports.is_empty() {
-        Ok(Decision::Drop)
-    } else {
-        Ok(Decision::Out(Actions::new(&ports)))
-    }
-}
-
-fn head_of(head: &Head, key: &Key, left: u32) -> Option<(Datum, u32)>
-    ensures { given_of result ≡ head_of head.now key.now left }
-{
-    match head {
-        Head::Test(expr) => value_of(expr, key, left),
-    }
-}
-
-fn out_ending(alloc: Global, exprs: &[Expr], key: &Key, left: u32) -> Result<Ending, NoMemory>
-    requires { length exprs.now ≤ 16 }
-    ensures { IfOk result (λ ending. end_of ending ≡ out_ending (numbers_of exprs.now key.now left)) }
-{
-    match numbers_of(alloc, exprs, key, left)? {
-        None => Ok(Ending::Spends),
-        Some((numbers, _)) => Ok(Ending::Decides(sent_out(alloc, &numbers)?)),
-    }
-}
-
-#[cycle(evaluation)]
-fn run_statement(
-    alloc: Global,
-    statement: &Statement,
-    key: &Key,
-    left: u32,
-) -> Result<Ending, NoMemory>
-    ensures { IfOk result (λ ending. end_of ending ≡ statement_ending statement.now key.now left) }
-{
-    if left == 0 {
-        return Ok(Ending::Spends);
-    }
-    match statement {
-        Statement::Drop => Ok(Ending::Decides(Decision::Drop)),
-        Statement::Out(exprs) => out_ending(alloc, exprs.items(), key, left - 1),
-        Statement::If(head, block, other) => match head_of(head, key, left - 1) {
-            None => Ok(Ending::Spends),
-            Some((datum, left)) => {
-                if datum.truth() {
-                    run_block(alloc, block.items(), key, left)
-                } else {
-                    run_other(alloc, other, key, left)
-                }
+    // Whether a head holds; a name that it binds is then in force.
+    fn head(&self, head: &Head, scope: &mut Scope, steps: &mut Steps) -> Result<bool, Fault>
+        ensures head { IsHead result scope.old scope.new steps.new (head_of head.now (arrival_of E.has self.now) scope.old steps.old) }
+        ensures fewer { OnOk result (steps.new < steps.old) }
+    {
+        match head {
+            Head::Host(expr, name) => {
+                steps.count()?;
+                let address = self.value(expr, scope, steps)?.number();
+                let value = self.env.cell(Cell::Host(address));
+                Ok(bind(name, place_of_host(value), scope)?)
             }
-        },
-    }
-}
-
-#[cycle(evaluation)]
-fn run_other(alloc: Global, other: &Option<Block>, key: &Key, left: u32) -> Result<Ending, NoMemory>
-    ensures { IfOk result (λ ending. end_of ending ≡ otherwise (option_map block_ending other.now) key.now left) }
-{
-    match other {
-        None => Ok(Ending::Goes(left)),
-        Some(block) => run_block(alloc, block.items(), key, left),
-    }
-}
-
-#[cycle(evaluation)]
-fn run_block(
-    alloc: Global,
-    statements: &[Statement],
-    key: &Key,
-    steps: u32,
-) -> Result<Ending, NoMemory>
-    ensures { IfOk result (λ ending. end_of ending ≡ in_order (map statement_ending statements.now) key.now steps) }
-{
-    let mut left = steps;
-    for statement in statements {
-        match run_statement(alloc, statement, key, left)? {
-            Ending::Spends => return Ok(Ending::Spends),
-            Ending::Decides(decision) => return Ok(Ending::Decides(decision)),
-            Ending::Goes(rest) => left = rest,
+            Head::Hop(expr, name) => {
+                steps.count()?;
+                let to = self.value(expr, scope, steps)?.number();
+                let from = self.switch;
+                let value = self.env.cell(Cell::Hop { from, to });
+                Ok(bind(name, port_of_hop(value), scope)?)
+            }
+            Head::Lookup(table, expr, name) => {
+                steps.count()?;
+                let key = self.value(expr, scope, steps)?.number();
+                let table = *table;
+                let value = self.env.cell(Cell::Num { table, key });
+                Ok(bind(name, number_in_table(value), scope)?)
+            }
+            Head::Test(expr) => Ok(self.value(expr, scope, steps)?.truth()),
         }
     }
-    Ok(Ending::Goes(left))
-}
 
-fn run_policy(alloc: Global, body: &Block, key: &Key, budget: u32) -> Result<Ending, NoMemory>
-    ensures { IfOk result (λ ending. end_of ending ≡ block_ending body.now key.now budget) }
-{
-    run_block(alloc, body.items(), key, budget)
-}
+    // Runs a statement.
+    #[cycle(statements)]
+    fn statement(
+        &self,
+        statement: &Statement,
+        scope: &mut Scope,
+        steps: &mut Steps,
+    ) -> Result<Flow, Fault>
+        ensures ending { EndsAs result scope.new steps.new (statement_ending statement.now (arrival_of E.has self.now) scope.old steps.old) }
+        ensures fewer { OnGoes result (steps.new < steps.old) }
+    {
+        steps.count()?;
+        match statement {
+            Statement::Drop => Ok(Flow::Decides(Decision::Drop)),
+            Statement::Flood => Ok(Flow::Decides(Decision::Flood)),
+            Statement::Out(exprs) => Ok(Flow::Decides(self.out(exprs.items(), scope, steps)?)),
+            Statement::Route(expr) => Ok(Flow::Decides(self.route(expr, scope, steps)?)),
+            Statement::Let(name, expr) => {
+                let datum = self.value(expr, scope, steps)?;
+                scope.declare(*name, datum)?;
+                Ok(Flow::Goes)
+            }
+            Statement::Assign(name, expr) => {
+                let datum = self.value(expr, scope, steps)?;
+                scope.assign(name, datum);
+                Ok(Flow::Goes)
+            }
+            Statement::If(head, first, second) => self.branch(head, first, second, scope, steps),
+            Statement::While(test, body) => self.repeat(test, body, scope, steps),
+        }
+    }
 
-// The end of a policy without a decision is a drop.
-pub fn outcome_of(ending: Ending) -> Outcome
-    ensures { result ≡ outcome_of (end_of ending) }
-{
-    match ending {
-        Ending::Spends => Outcome::Spent,
-        Ending::Decides(decision) => Outcome::Decided(decision),
-        Ending::Goes(_) => Outcome::Decided(Decision::Drop),
+    // Runs the first block where a head holds, and else the second, if there is one.
+    #[cycle(statements)]
+    fn branch(
+        &self,
+        head: &Head,
+        first: &Block,
+        second: &Option<Block>,
+        scope: &mut Scope,
+        steps: &mut Steps,
+    ) -> Result<Flow, Fault>
+        ensures ending { EndsAs result scope.new steps.new (chosen (head_of head.now (arrival_of E.has self.now) scope.old steps.old) (block_ending first.now) (option_map block_ending second.now) (arrival_of E.has self.now) scope.old) }
+        ensures fewer { OnGoes result (steps.new ≤ steps.old) }
+    {
+        let outer = scope.len();
+        if self.head(head, scope, steps)? {
+            let flow = self.block(first, scope, steps)?;
+            scope.truncate(outer);
+            return Ok(flow);
+        }
+        match second {
+            None => Ok(Flow::Goes),
+            Some(second) => self.block(second, scope, steps),
+        }
+    }
+
+    // Runs a block as long as an expression is true.
+    #[cycle(statements)]
+    fn repeat(
+        &self,
+        test: &Expr,
+        body: &Block,
+        scope: &mut Scope,
+        steps: &mut Steps,
+    ) -> Result<Flow, Fault>
+        ensures ending { EndsAs result scope.new steps.new (rounds (suc steps.old) test.now (block_ending body.now) (arrival_of E.has self.now) scope.old steps.old) }
+        ensures fewer { OnGoes result (steps.new ≤ steps.old) }
+    {
+        while self.value(test, scope, steps)?.truth() {
+            if let Flow::Decides(decision) = self.block(body, scope, steps)? {
+                return Ok(Flow::Decides(decision));
+            }
+        }
+        Ok(Flow::Goes)
+    }
+
+    // Runs statements, one after the other, up to the first that decides; names that they declare
+    // are in force up to their end.
+    #[cycle(statements)]
+    fn block(&self, block: &Block, scope: &mut Scope, steps: &mut Steps) -> Result<Flow, Fault>
+        ensures ending { EndsAs result scope.new steps.new (block_ending block.now (arrival_of E.has self.now) scope.old steps.old) }
+        ensures fewer { OnGoes result (steps.new ≤ steps.old) }
+    {
+        let outer = scope.len();
+        for statement in block.items() {
+            if let Flow::Decides(decision) = self.statement(statement, scope, steps)? {
+                return Ok(Flow::Decides(decision));
+            }
+        }
+        scope.truncate(outer);
+        Ok(Flow::Goes)
     }
 }
 
@@ -232,6 +332,25 @@ pub fn eval<E: EnvNow>(
     requires budget { IsBudget budget }
     ensures { IfOk result (λ outcome. outcome ≡ eval_of policy.now budget (E.has env.now) switch key.now) }
 {
-    let ending = run_policy(alloc, policy.body(), key, budget)?;
-    Ok(outcome_of(ending))
+    let evaluator = Evaluator {
+        alloc,
+        env,
+        switch,
+        key,
+    };
+    let mut scope = Scope::new(alloc);
+    let mut steps = Steps::new(budget);
+    let ending = evaluator.block(policy.body(), &mut scope, &mut steps);
+    let Evaluator {
+        alloc: _,
+        env: _,
+        switch: _,
+        key: _,
+    } = evaluator;
+    match ending {
+        Ok(Flow::Decides(decision)) => Ok(Outcome::Decided(decision)),
+        Ok(Flow::Goes) => Ok(Outcome::Decided(Decision::Drop)),
+        Err(Fault::Spent) => Ok(Outcome::Spent),
+        Err(Fault::NoMemory) => Err(NoMemory),
+    }
 }

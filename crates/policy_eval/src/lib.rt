@@ -1,6 +1,19 @@
 //! Plain evaluation of policies.
 #![tactic(auto)]
 
+pub mod datum;
+pub mod ending;
 pub mod evaluation;
+pub mod heads;
+pub mod ports;
+pub mod scope;
+pub mod steps;
+#[cfg(test)]
+mod tests;
 
-pub use evaluation::{Datum, Ending, eval, outcome_of, sent_out};
+pub use datum::{Datum, Operator};
+pub use ending::{Fault, Flow};
+pub use evaluation::eval;
+pub use ports::{is_port, sent_out};
+pub use scope::Scope;
+pub use steps::{Spent, Steps};

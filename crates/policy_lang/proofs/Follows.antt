@@ -12,27 +12,25 @@ use Rattle.maple_base.specs.declared.decision.Outcome.{Outcome}
 use Rattle.maple_base.specs.Keys.{field_of, in_domain, has_ports, valid_key}
 use Rattle.maple_base.specs.Questions.{meets, known, excluded, within_domain}
 use Rattle.policy_lang.specs.Courses.{Course, Stops, Asks, Tests, items_of, outcome_at, Onward, settled_net, ask_net, settled_ports, no_ports, ask_proto, ask_ports, ask_header, settled_test, ask_value, ask_test}
-use Rattle.policy_lang.specs.Laws.{begins_at}
 use Rattle.policy_lang.proofs.Courses.{both, same_bool_own}
 use Rattle.policy_lang.proofs.Answers.{known_is, excluded_is, meets_more, asks_anew, has_header, domain_of, lacks}
 
--- the key's course ends with this outcome and asks at most so many items, each within its domain and none of a field that is known by then; a path begins at the switch
+-- the key's course ends with this outcome and asks at most so many items, each within its domain and none of a field that is known by then
 pub record Follows (k : Key) (seen : List Item) (n : ℕ) (o : Outcome) (c : Course) : Type 0 where
   pub answer : outcome_at c k ≡ o
   pub few : length (items_of c k) ≤ n
   pub within : list_all within_domain (items_of c k) ≡ true
   pub anew : asks_anew seen (items_of c k) ≡ true
-  pub begins : (switch : ℕ) → begins_at switch o ≡ true
 
 -- what follows a truth does so where the truth is the key's
 abbrev pub FollowsOn : Key → Bool → ℕ → Outcome → Onward → Type 0
 FollowsOn k truth n o next = (seen : List Item) → meets k seen ≡ true → Follows k seen n o (next truth seen)
 
 pub follows_more : (k : Key) (seen : List Item) (m n : ℕ) (o : Outcome) (c : Course) → m ≤ n → Follows k seen m o c → Follows k seen n o c
-follows_more k seen m n o c h f = record { answer = f.answer; few = omega (arith, f.few, h); within = f.within; anew = f.anew; begins = f.begins }
+follows_more k seen m n o c h f = record { answer = f.answer; few = omega (arith, f.few, h); within = f.within; anew = f.anew }
 
-pub follows_stop : (k : Key) (seen : List Item) (n : ℕ) (o : Outcome) → ((switch : ℕ) → begins_at switch o ≡ true) → Follows k seen n o (Stops o)
-follows_stop k seen n o begins = record { answer = refl; few = omega arith; within = refl; anew = refl; begins = begins }
+pub follows_stop : (k : Key) (seen : List Item) (n : ℕ) (o : Outcome) → Follows k seen n o (Stops o)
+follows_stop k seen n o = record { answer = refl; few = omega arith; within = refl; anew = refl }
 
 none_known : (o : Option ℕ) (b : Bool) → o ≡ None → (is_none o && b) ≡ b
 none_known o b h = ap (λ x. is_none x && b) h
@@ -44,7 +42,6 @@ follows_ask k seen n o f next valid new h = record {
   few = omega (arith, h.few);
   within = ap (λ x. x && list_all within_domain (items_of (next (field_of k f)) k)) (domain_of k f valid) ∙ h.within;
   anew = none_known (known f seen) (asks_anew (seen ++ Read f (field_of k f) ∷ []) (items_of (next (field_of k f)) k)) new ∙ h.anew;
-  begins = h.begins;
 }
 
 follows_test : (k : Key) (seen : List Item) (n : ℕ) (o : Outcome) (f : Field) (v : ℕ) (next : Bool → Course)
@@ -54,7 +51,6 @@ follows_test k seen n o f v next inside new h = record {
   few = omega (arith, h.few);
   within = ap (λ x. x && list_all within_domain (items_of (next (field_of k f == v)) k)) inside ∙ h.within;
   anew = none_known (known f seen) (asks_anew (seen ++ Tested f v (field_of k f == v) ∷ []) (items_of (next (field_of k f == v)) k)) new ∙ h.anew;
-  begins = h.begins;
 }
 
 -- the question for a field's value, which stands in the items from then on

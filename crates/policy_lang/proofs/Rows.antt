@@ -20,12 +20,13 @@ use Rattle.policy_lang.specs.declared.Statement.TheFolds.{fold-roll-Statement, f
 use Rattle.policy_lang.specs.declared.Block.{Block}
 use Rattle.policy_lang.specs.declared.Policy.{Policy}
 use Rattle.policy_lang.specs.Blocks.{statements_of}
-use Rattle.policy_lang.specs.Evaluation.{Running, by_statement, in_order, by_block, block_ending, outcome_of, eval_of}
+use Rattle.policy_lang.specs.Evaluation.{Arrival, Running, by_statement, leaving, in_order, by_block, block_ending, outcome_of, eval_of}
 use Rattle.policy_lang.specs.Courses.{Course, Coursing, Stops, course_statement, courses, course_block, block_course, course_of, items_of, outcome_at}
-use Rattle.policy_lang.proofs.Agreement.{statement_running, statement_coursing}
+use Rattle.policy_lang.proofs.Agreement.{statement_coursing}
+use Rattle.policy_lang.proofs.Plainly.{statement_running}
 
 -- a packet of TCP to a port
-abbrev tcp : ℕ → Key
+abbrev pub tcp : ℕ → Key
 tcp port = record { in_port = 1; dl_src = 2; dl_dst = 3; dl_vlan = 0xffff; dl_pcp = 0; dl_type = 0x0800; nw_tos = 0; nw_proto = 6; nw_src = 4; nw_dst = 5; tp_src = 1024; tp_dst = port }
 
 abbrev arp : Key
@@ -38,7 +39,7 @@ arp_valid : valid_key arp ≡ true
 arp_valid = refl
 
 -- a box of the number that a test names, of which a tree keeps all but the number
-abbrev NumberBox : Type 0
+abbrev pub NumberBox : Type 0
 NumberBox = Box (Unit {0}) Global
 
 -- the test of a port
@@ -53,11 +54,14 @@ pub record IsSsh (policy : Policy) (b : Block) (p : NumberBox) : Type 0 where
   pub inner : statements_of b ≡ Drop ∷ []
   pub body : statements_of policy.body ≡ If (Test (port_is_22 p)) b None ∷ Out to_2 ∷ []
 
+abbrev pub in_block : List Running → Running
+in_block runs a s left = leaving s (in_order runs a s left)
+
 abbrev drop_run : Running
-drop_run = in_order (by_statement drop ∷ [])
+drop_run = in_block (by_statement drop ∷ [])
 
 abbrev ssh_run : NumberBox → Running
-ssh_run p = in_order (by_statement (if_ (Test (port_is_22 p)) drop_run None) ∷ by_statement (out to_2) ∷ [])
+ssh_run p = in_block (by_statement (if_ (Test (port_is_22 p)) drop_run None) ∷ by_statement (out to_2) ∷ [])
 
 abbrev drop_course : Coursing
 drop_course = courses (course_statement drop ∷ [])
@@ -65,8 +69,8 @@ drop_course = courses (course_statement drop ∷ [])
 abbrev ssh_course : NumberBox → Coursing
 ssh_course p = courses (course_statement (if_ (Test (port_is_22 p)) drop_course None) ∷ course_statement (out to_2) ∷ [])
 
-block_runs : (b : Block) (ss : List Statement) → statements_of b ≡ ss → block_ending b ≡ in_order (map statement_running ss)
-block_runs b ss h = fold_out-Block Running Running by_statement by_block b ∙ ap (λ xs. in_order (map statement_running xs)) h
+block_runs : (b : Block) (ss : List Statement) → statements_of b ≡ ss → block_ending b ≡ in_block (map statement_running ss)
+block_runs b ss h = fold_out-Block Running Running by_statement by_block b ∙ ap (λ xs. in_block (map statement_running xs)) h
 
 block_courses : (b : Block) (ss : List Statement) → statements_of b ≡ ss → block_course b ≡ courses (map statement_coursing ss)
 block_courses b ss h = fold_out-Block Coursing Coursing course_statement course_block b ∙ ap (λ xs. courses (map statement_coursing xs)) h
@@ -81,14 +85,14 @@ runs_if : (h : Head) (b : Block) → statement_running (If h b None) ≡ by_stat
 runs_if h b = ap statement_running (sym (rolls-If h b None)) ∙ fold-roll-Statement Running Running by_statement by_block (if_ h b None)
 
 drop_runs : (b : Block) → statements_of b ≡ Drop ∷ [] → block_ending b ≡ drop_run
-drop_runs b h = block_runs b (Drop ∷ []) h ∙ ap (λ r. in_order (r ∷ [])) runs_drop
+drop_runs b h = block_runs b (Drop ∷ []) h ∙ ap (λ r. in_block (r ∷ [])) runs_drop
 
 ssh_runs : (policy : Policy) (b : Block) (p : NumberBox) → IsSsh policy b p → block_ending policy.body ≡ ssh_run p
 ssh_runs policy b p h =
     block_runs policy.body (If (Test (port_is_22 p)) b None ∷ Out to_2 ∷ []) h.body
-    ∙ ap (λ r. in_order (statement_running (If (Test (port_is_22 p)) b None) ∷ r ∷ [])) (runs_out to_2)
-    ∙ ap (λ r. in_order (r ∷ by_statement (out to_2) ∷ [])) (runs_if (Test (port_is_22 p)) b)
-    ∙ ap (λ r. in_order (by_statement (if_ (Test (port_is_22 p)) r None) ∷ by_statement (out to_2) ∷ [])) (drop_runs b h.inner)
+    ∙ ap (λ r. in_block (statement_running (If (Test (port_is_22 p)) b None) ∷ r ∷ [])) (runs_out to_2)
+    ∙ ap (λ r. in_block (r ∷ by_statement (out to_2) ∷ [])) (runs_if (Test (port_is_22 p)) b)
+    ∙ ap (λ r. in_block (by_statement (if_ (Test (port_is_22 p)) r None) ∷ by_statement (out to_2) ∷ [])) (drop_runs b h.inner)
 
 courses_drop : statement_coursing Drop ≡ course_statement drop
 courses_drop = ap statement_coursing (sym rolls-Drop) ∙ fold-roll-Statement Coursing Coursing course_statement course_block drop
@@ -109,18 +113,22 @@ ssh_courses policy b p h =
     ∙ ap (λ r. courses (r ∷ course_statement (out to_2) ∷ [])) (courses_if (Test (port_is_22 p)) b)
     ∙ ap (λ r. courses (course_statement (if_ (Test (port_is_22 p)) r None) ∷ course_statement (out to_2) ∷ [])) (drop_courses b h.inner)
 
+-- a packet with this key, at a switch in an environment
+abbrev pub came : (Cell → Value) → ℕ → Key → Arrival
+came env switch k = record { env = env; switch = switch; key = k }
+
 -- how the run ends, and what it asks, by computation
-port_80_at_5 : (p : NumberBox) → outcome_of (ssh_run p (tcp 80) 5) ≡ Decided (SentOut (2 ∷ []))
-port_80_at_5 p = refl
+port_80_at_5 : (p : NumberBox) (env : Cell → Value) (switch : ℕ) → outcome_of (ssh_run p (came env switch (tcp 80)) [] 5) ≡ Decided (SentOut (2 ∷ []))
+port_80_at_5 p env switch = refl
 
-port_80_at_4 : (p : NumberBox) → outcome_of (ssh_run p (tcp 80) 4) ≡ Spent
-port_80_at_4 p = refl
+port_80_at_4 : (p : NumberBox) (env : Cell → Value) (switch : ℕ) → outcome_of (ssh_run p (came env switch (tcp 80)) [] 4) ≡ Spent
+port_80_at_4 p env switch = refl
 
-port_22_at_4 : (p : NumberBox) → outcome_of (ssh_run p (tcp 22) 4) ≡ Decided Dropped
-port_22_at_4 p = refl
+port_22_at_4 : (p : NumberBox) (env : Cell → Value) (switch : ℕ) → outcome_of (ssh_run p (came env switch (tcp 22)) [] 4) ≡ Decided Dropped
+port_22_at_4 p env switch = refl
 
-arp_at_5 : (p : NumberBox) → outcome_of (ssh_run p arp 5) ≡ Decided (SentOut (2 ∷ []))
-arp_at_5 p = refl
+arp_at_5 : (p : NumberBox) (env : Cell → Value) (switch : ℕ) → outcome_of (ssh_run p (came env switch arp) [] 5) ≡ Decided (SentOut (2 ∷ []))
+arp_at_5 p env switch = refl
 
 abbrev ssh_asks : NumberBox → ℕ → Course
 ssh_asks p budget = ssh_course p [] budget (λ seen left. Stops (Decided Dropped))
@@ -136,16 +144,16 @@ arp_ends p = refl
 
 -- the same of each policy that reads so
 pub ssh_port_80 : (policy : Policy) (b : Block) (p : NumberBox) (env : Cell → Value) (switch : ℕ) → IsSsh policy b p → eval_of policy 5 env switch (tcp 80) ≡ Decided (SentOut (2 ∷ []))
-ssh_port_80 policy b p env switch h = ap (λ run. outcome_of (run (tcp 80) 5)) (ssh_runs policy b p h) ∙ port_80_at_5 p
+ssh_port_80 policy b p env switch h = ap (λ run. outcome_of (run (came env switch (tcp 80)) [] 5)) (ssh_runs policy b p h) ∙ port_80_at_5 p env switch
 
 pub ssh_port_80_spent : (policy : Policy) (b : Block) (p : NumberBox) (env : Cell → Value) (switch : ℕ) → IsSsh policy b p → eval_of policy 4 env switch (tcp 80) ≡ Spent
-ssh_port_80_spent policy b p env switch h = ap (λ run. outcome_of (run (tcp 80) 4)) (ssh_runs policy b p h) ∙ port_80_at_4 p
+ssh_port_80_spent policy b p env switch h = ap (λ run. outcome_of (run (came env switch (tcp 80)) [] 4)) (ssh_runs policy b p h) ∙ port_80_at_4 p env switch
 
 pub ssh_port_22 : (policy : Policy) (b : Block) (p : NumberBox) (env : Cell → Value) (switch : ℕ) → IsSsh policy b p → eval_of policy 4 env switch (tcp 22) ≡ Decided Dropped
-ssh_port_22 policy b p env switch h = ap (λ run. outcome_of (run (tcp 22) 4)) (ssh_runs policy b p h) ∙ port_22_at_4 p
+ssh_port_22 policy b p env switch h = ap (λ run. outcome_of (run (came env switch (tcp 22)) [] 4)) (ssh_runs policy b p h) ∙ port_22_at_4 p env switch
 
 pub ssh_arp : (policy : Policy) (b : Block) (p : NumberBox) (env : Cell → Value) (switch : ℕ) → IsSsh policy b p → eval_of policy 5 env switch arp ≡ Decided (SentOut (2 ∷ []))
-ssh_arp policy b p env switch h = ap (λ run. outcome_of (run arp 5)) (ssh_runs policy b p h) ∙ arp_at_5 p
+ssh_arp policy b p env switch h = ap (λ run. outcome_of (run (came env switch arp) [] 5)) (ssh_runs policy b p h) ∙ arp_at_5 p env switch
 
 pub ssh_port_80_items : (policy : Policy) (b : Block) (p : NumberBox) → IsSsh policy b p → items_of (course_of policy 5) (tcp 80) ≡ Read DlType 0x0800 ∷ Read NwProto 6 ∷ Tested TpDst 22 false ∷ []
 ssh_port_80_items policy b p h = ap (λ c. items_of (c [] 5 (λ seen left. Stops (Decided Dropped))) (tcp 80)) (ssh_courses policy b p h) ∙ port_80_asks p

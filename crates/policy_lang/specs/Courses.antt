@@ -1,4 +1,4 @@
--- What a run of a policy asks of its packet. Each question is determined by the answers so far.
+-- What a run of a plain policy asks of its packet. Each question is determined by the answers so far. A part that no plain policy has stops the course.
 use Rattle.std.specs.Prelude.{ℕ, zero, suc, Bool, true, false, ◌&&◌, ◌==◌, if◌then◌else◌, List, [], ◌∷◌, ◌++◌, Option, Some, None}
 use Rattle.maple_base.specs.declared.key.Field.{Field}
 use Rattle.maple_base.specs.declared.key.Field.TheVariants.{DlType, NwTos, NwProto, NwSrc, NwDst, TpSrc, TpDst}
@@ -99,6 +99,7 @@ value_course e seen zero next = Stops Spent
 value_course (Number n) seen (suc left) next = next (Numeral n) seen left
 value_course (Is' f p e) seen (suc left) next =
     value_course e seen left (λ d seen left. ask_test f (number_in d) seen (λ answer seen. next (Truth answer) seen left))
+value_course e seen (suc left) next = Stops Spent
 
 abbrev pub numbers_course : List Expr → List Item → ℕ → (List ℕ → Going) → Course
 numbers_course [] seen left next = next [] seen left
@@ -119,6 +120,7 @@ chosen_course false first second seen left next = otherwise_course second seen l
 
 abbrev pub head_course : Head → List Item → ℕ → (Datum → Going) → Course
 head_course (Test e) seen left next = value_course e seen left next
+head_course h seen left next = Stops Spent
 
 abbrev pub course_statement : Statement-F Coursing Coursing → Coursing
 course_statement s seen zero next = Stops Spent
@@ -126,6 +128,7 @@ course_statement drop seen (suc left) next = Stops (Decided Dropped)
 course_statement (out es) seen (suc left) next = numbers_course es seen left (λ ns seen left. Stops (Decided (sent_out (ports_among ns))))
 course_statement (if_ h first second) seen (suc left) next =
     head_course h seen left (λ d seen left. chosen_course (truth_in d) first second seen left next)
+course_statement s seen (suc left) next = Stops Spent
 
 abbrev pub courses : List Coursing → Coursing
 courses [] seen left next = next seen left

@@ -1,9 +1,10 @@
 -- What holds of each course, and of the course of each policy.
-use Rattle.std.specs.Prelude.{◌≡◌, ℕ, ◌*◌, ◌≤◌, Bool, true, false, ◌==◌, [], ◌∷◌, length}
-use Rattle.std.specs.List.{list_all}
+use Rattle.std.specs.Prelude.{◌≡◌, ℕ, ◌+◌, ◌*◌, ◌≤◌, Bool, true, false, ◌==◌, [], ◌∷◌, length}
+use Rattle.std.specs.List.{list_all, All}
 use Rattle.maple_base.specs.declared.key.Key.{Key}
 use Rattle.maple_base.specs.declared.cells.Cell.{Cell}
 use Rattle.maple_base.specs.declared.cells.Value.{Value}
+use Rattle.maple_base.specs.declared.decision.Decision.{Decision}
 use Rattle.maple_base.specs.declared.decision.Decision.TheVariants.{Path}
 use Rattle.maple_base.specs.declared.decision.Outcome.{Outcome}
 use Rattle.maple_base.specs.declared.decision.Outcome.TheVariants.{Decided}
@@ -11,6 +12,8 @@ use Rattle.maple_base.specs.Keys.{valid_key}
 use Rattle.maple_base.specs.Questions.{meets, clash, within_domain, asks_once}
 use Rattle.policy_lang.specs.declared.Policy.{Policy}
 use Rattle.policy_lang.specs.Evaluation.{eval_of}
+use Rattle.policy_lang.specs.Plain.{is_plain}
+use Rattle.policy_lang.specs.Reads.{reads_of}
 use Rattle.policy_lang.specs.Courses.{Course, items_of, outcome_at, course_of}
 
 -- a key meets what was asked of it
@@ -29,10 +32,10 @@ SameTrace = (c : Course) (k l : Key) → meets k (items_of c l) ≡ true → GoA
 abbrev pub OnePath : Type 0
 OnePath = (c : Course) (k l : Key) → clash (items_of c k) (items_of c l) ≡ true → GoAlike c k l
 
--- the course of a policy ends as plain evaluation does, in each environment and at each switch
+-- the course of a plain policy ends as plain evaluation does, in each environment and at each switch
 abbrev pub EndsAsEvaluated : Type 0
 EndsAsEvaluated =
-    (policy : Policy) (budget : ℕ) (env : Cell → Value) (switch : ℕ) (k : Key) → valid_key k ≡ true → outcome_at (course_of policy budget) k ≡ eval_of policy budget env switch k
+    (policy : Policy) (budget : ℕ) (env : Cell → Value) (switch : ℕ) (k : Key) → is_plain policy ≡ true → valid_key k ≡ true → outcome_at (course_of policy budget) k ≡ eval_of policy budget env switch k
 
 -- each value that is asked of, or read, is in its field's domain
 abbrev pub AsksWithin : Type 0
@@ -55,3 +58,13 @@ begins_at switch o = true
 -- a path that a policy decides begins at its own switch
 abbrev pub BeginsHere : Type 0
 BeginsHere = (policy : Policy) (budget : ℕ) (env : Cell → Value) (switch : ℕ) (k : Key) → valid_key k ≡ true → begins_at switch (eval_of policy budget env switch k) ≡ true
+
+-- with a larger budget a decided outcome stays the same
+abbrev pub KeepsDecisions : Type 0
+KeepsDecisions =
+    (policy : Policy) (budget more : ℕ) (env : Cell → Value) (switch : ℕ) (k : Key) (d : Decision) → eval_of policy budget env switch k ≡ Decided d → eval_of policy (budget + more) env switch k ≡ Decided d
+
+-- two environments that have the same in the cells that a run reads give the same outcome
+abbrev pub ReadsNothingElse : Type 0
+ReadsNothingElse =
+    (policy : Policy) (budget : ℕ) (env other : Cell → Value) (switch : ℕ) (k : Key) → All (λ c. env c ≡ other c) (reads_of policy budget env switch k) → eval_of policy budget env switch k ≡ eval_of policy budget other switch k

@@ -1,5 +1,14 @@
 pub mod Blocks
+pub mod Built
 pub mod Courses
 pub mod Evaluation
+pub mod Faults
+pub mod Found
 pub mod Laws
+pub mod Limits
+pub mod Plain
+pub mod PlainParts
+pub mod Reads
+pub mod Scopes
 pub mod Values
+pub mod Walks

@@ -1,5 +1,5 @@
 // What holds of each run of a policy.
-ghost use Rattle.policy_lang.specs.Laws.{OwnItems, SameTrace, OnePath, EndsAsEvaluated, AsksWithin, AsksOnce, AsksFew, BeginsHere};
+ghost use Rattle.policy_lang.specs.Laws.{OwnItems, SameTrace, OnePath, EndsAsEvaluated, AsksWithin, AsksOnce, AsksFew, BeginsHere, KeepsDecisions, ReadsNothingElse};
 
 /// What holds of each course: a key meets what was asked of it, keys that meet the same are asked
 /// the same, and two traces are equal or do not clash.
@@ -18,4 +18,11 @@ pub fn policy_laws()
     ensures once { AsksOnce }
     ensures few { AsksFew }
     ensures begins { BeginsHere }
+{}
+
+/// What holds of plain evaluation: with more steps a decision stays the same, and two environments
+/// that have the same in the cells that a run reads give the same outcome.
+pub fn evaluation_laws()
+    ensures budget { KeepsDecisions }
+    ensures cells { ReadsNothingElse }
 {}

@@ -4,23 +4,69 @@
 ghost use Rattle.std.specs.Prelude.{◌≡◌, List};
 ghost use Rattle.policy_lang.specs.Blocks.{statements_of, IsOutList};
 
+pub mod build;
+mod faults;
 pub mod laws;
+mod limits;
+mod names;
+pub mod plain;
+#[cfg(test)]
+mod tests;
+mod types;
 
-use maple_base::{Field, Names};
+pub use build::BuildError;
+use maple_base::{Field, Name, Names};
 use std::marker::Model;
 
-/// An expression.
+/// An expression. It gives a number, a truth or a place.
 #[derive(Drop)]
 pub enum Expr {
     /// A number.
     Number(u64),
+    /// What a name stands for.
+    Var(Name),
+    /// The switch of a place that a name stands for.
+    SwitchOf(Name),
+    /// The port of a place that a name stands for.
+    PortOf(Name),
+    /// The datapath id of the switch that the packet came to.
+    PacketSwitch,
+    /// A header field of the packet.
+    Packet(Field),
+    /// Whether a port of a switch is up: the switch, and the port.
+    Up(Box<Expr>, Box<Expr>),
+    /// The place of a switch and a port.
+    At(Box<Expr>, Box<Expr>),
     /// Whether a field of the packet has the value of an expression.
     Is(Field, Box<Expr>),
+    /// The contrary of a truth.
+    Not(Box<Expr>),
+    /// Whether both hold; the second is evaluated only where the first holds.
+    And(Box<Expr>, Box<Expr>),
+    /// Whether one holds; the second is evaluated only where the first does not hold.
+    Or(Box<Expr>, Box<Expr>),
+    /// The sum, at most 2^64 - 1.
+    Add(Box<Expr>, Box<Expr>),
+    /// The difference, at least 0.
+    Sub(Box<Expr>, Box<Expr>),
+    Equal(Box<Expr>, Box<Expr>),
+    NotEqual(Box<Expr>, Box<Expr>),
+    Less(Box<Expr>, Box<Expr>),
+    LessEqual(Box<Expr>, Box<Expr>),
 }
 
-/// What an `if` asks.
+/// What an `if` asks. A name that it binds is in force in the first block.
 #[derive(Drop)]
 pub enum Head {
+    /// Where the host of an Ethernet address is: binds the place. It fails where the host is not
+    /// known.
+    Host(Expr, Name),
+    /// By which port a shortest way to a switch begins: binds the port. It fails where there is no
+    /// way, and at that switch itself.
+    Hop(Expr, Name),
+    /// What a table has at a number: the table, the number, and the name that it binds. It fails
+    /// where the table has nothing there.
+    Lookup(Name, Expr, Name),
     /// Whether an expression is true.
     Test(Expr),
 }
@@ -31,10 +77,20 @@ pub enum Head {
 pub enum Statement {
     /// Decides that the packet is sent nowhere.
     Drop,
+    /// Decides that the packet is flooded.
+    Flood,
     /// Decides that the packet is sent out of the ports that these expressions give, 1 to 16.
     Out(Exprs),
+    /// Decides that the packet is sent along a shortest way to a place.
+    Route(Expr),
+    /// Declares a name for a value, in force up to the end of the block.
+    Let(Name, Expr),
+    /// Gives a name another value.
+    Assign(Name, Expr),
     /// Runs the first block where the head holds, and else the second, if there is one.
     If(Head, Block, Option<Block>),
+    /// Runs a block as long as an expression is true.
+    While(Expr, Block),
 }
 
 /// Expressions, in order, 1 to 16.

@@ -1,5 +1,5 @@
 -- What is read of a policy's words and signs is what they are the texts of, and no policy's text is refused.
-use Rattle.std.proofs.Common.{◌≡◌, ℕ, zero, suc, ◌+◌, ◌<◌, ◌≤◌, Bool, true, false, cond, max, List, [], ◌∷◌, ◌++◌, map, length, Option, Some, None, refl, sym, ap, ◌∙◌, subst, arith, append_assoc}
+use Rattle.std.proofs.Common.{◌≡◌, ℕ, zero, suc, ◌+◌, ◌<◌, ◌≤◌, Bool, true, false, cond, max, List, [], ◌∷◌, ◌++◌, map, length, Option, Some, None, refl, sym, ap, ◌∙◌, subst, arith, append_assoc, ◌⊎◌, inl, inr, ⊎_elim, Box, Global}
 use Rattle.std.specs.Prelude.{codes, nat_lt, IsTrue}
 use Rattle.std.specs.List.{list_all}
 use Rattle.std.specs.Option.{option_map, option_and_then}
@@ -7,18 +7,18 @@ use Rattle.std.proofs.lemmas.Bool.Decides.{nat_tests}
 use Rattle.maple_base.specs.Numbers.{number_of}
 use Rattle.maple_base.specs.declared.key.Field.{Field}
 use Rattle.policy_lang.specs.declared.Expr.{Expr}
-use Rattle.policy_lang.specs.declared.Expr.TheVariants.{Number, Is'}
+use Rattle.policy_lang.specs.declared.Expr.TheVariants.{Number, Var, SwitchOf, PortOf, PacketSwitch, Packet, Up', At', Is', Not', And', Or', Add', Sub', Equal', NotEqual', Less', LessEqual'}
 use Rattle.policy_lang.specs.declared.Head.{Head}
-use Rattle.policy_lang.specs.declared.Head.TheVariants.{Test}
+use Rattle.policy_lang.specs.declared.Head.TheVariants.{Host, Hop, Lookup, Test}
 use Rattle.policy_lang.specs.declared.Policy.{Policy}
 use Rattle.policy_lang.specs.declared.Statement.{Statement}
-use Rattle.policy_lang.specs.declared.Statement.TheOpen.{Statement-F, Block-F, Drop as drop, Out as out, If as if_}
+use Rattle.policy_lang.specs.declared.Statement.TheOpen.{Statement-F, Block-F, Drop as drop, Flood as flood, Out as out, Route as route, Let as let_, Assign as assign, If as if_, While as while_}
 use Rattle.policy_lang.specs.declared.Statement.TheFolds.{fold-roll-Statement, fold-roll-Block, map-Statement, ind-Block}
 use Rattle.policy_lang.specs.declared.Statement.TheViews.{roll-Statement, roll-Block}
 use Rattle.policy_lang.specs.declared.Block.{Block}
 use Rattle.policy_text.specs.declared.reading.Place.{Place}
 use Rattle.policy_text.specs.declared.reading.Place.TheVariants.{Ahead, BehindOut, BehindPort, BehindIf, BehindField, BehindIs, BehindTest, Closed}
-use Rattle.policy_text.specs.PolicyText.{Lexeme, Word, Sign, Mark, Keyword, Brace, Numeral, Wordless, AreTextsOf, Spells, IsTextOf, is_text_byte, text_lexemes, field_name, in_braces, statement_marks, block_layer, block_marks, joined, block_nodes, statement_depth, depth_layer, block_depth, greatest}
+use Rattle.policy_text.specs.PolicyText.{Lexeme, Word, Sign, Mark, Keyword, Brace, Numeral, Wordless, AreTextsOf, Spells, IsTextOf, is_text_byte, text_lexemes, field_name, number_marks, test_marks, in_braces, statement_marks, block_layer, block_marks, joined, block_nodes, statement_depth, depth_layer, block_depth, greatest}
 use Rattle.policy_text.specs.Parsing.{Step, To, is_word, is_sign, step, marks_from, reads_on, at_end, behind, opened, body_marks, text_of, depth_of, by_number, by_field}
 use Rattle.policy_text.proofs.Steps.{step_reads, reads_one, field_read, word_text, sign_text}
 
@@ -157,36 +157,107 @@ if_read f n b ms inner ls rest d h room =
 wordless_read : (ms : List Mark) (n : ℕ) → ReadAs (Wordless ∷ ms) n
 wordless_read ms n ls rest d h room = absurd (wordless_first ms ls h)
 
-pub out_wordless : (ls : List Lexeme) → AreTextsOf (Keyword (codes "out") ∷ Wordless ∷ Brace 59 ∷ []) ls → ⊥
+out_wordless : (ls : List Lexeme) → AreTextsOf (Keyword (codes "out") ∷ Wordless ∷ Brace 59 ∷ []) ls → ⊥
 out_wordless ls h = let (ls1, e1, h1) = word_first (codes "out") (Wordless ∷ Brace 59 ∷ []) ls h in wordless_first (Brace 59 ∷ []) ls1 h1
 
-pub if_wordless : (ms : List Mark) (ls : List Lexeme) → AreTextsOf (Keyword (codes "if") ∷ Wordless ∷ ms) ls → ⊥
+if_wordless : (ms : List Mark) (ls : List Lexeme) → AreTextsOf (Keyword (codes "if") ∷ Wordless ∷ ms) ls → ⊥
 if_wordless ms ls h = let (ls1, e1, h1) = word_first (codes "if") (Wordless ∷ ms) ls h in wordless_first ms ls1 h1
 
-pub is_wordless : (f : Field) (ms : List Mark) (ls : List Lexeme) → AreTextsOf (Keyword (codes "if") ∷ Keyword (field_name f) ∷ Keyword (codes "is") ∷ Wordless ∷ ms) ls → ⊥
+is_wordless : (f : Field) (ms : List Mark) (ls : List Lexeme) → AreTextsOf (Keyword (codes "if") ∷ Keyword (field_name f) ∷ Keyword (codes "is") ∷ Wordless ∷ ms) ls → ⊥
 is_wordless f ms ls h =
     let (ls1, e1, h1) = word_first (codes "if") (Keyword (field_name f) ∷ Keyword (codes "is") ∷ Wordless ∷ ms) ls h in
     let (ls2, e2, h2) = word_first (field_name f) (Keyword (codes "is") ∷ Wordless ∷ ms) ls1 h1 in
     let (ls3, e3, h3) = word_first (codes "is") (Wordless ∷ ms) ls2 h2 in
     wordless_first ms ls3 h3
 
+abbrev IsNumber : Expr → Type 0
+IsNumber e = (n : ℕ) × (e ≡ Number n)
+
+-- an expression is a number, or has no text
+number_or_not : (e : Expr) → IsNumber e ⊎ (number_marks e ≡ Wordless ∷ [])
+number_or_not (Number n) = inl (n, refl)
+number_or_not (Var x) = inr refl
+number_or_not (SwitchOf x) = inr refl
+number_or_not (PortOf x) = inr refl
+number_or_not PacketSwitch = inr refl
+number_or_not (Packet f) = inr refl
+number_or_not (Up' p l q r) = inr refl
+number_or_not (At' p l q r) = inr refl
+number_or_not (Not' p e) = inr refl
+number_or_not (And' p l q r) = inr refl
+number_or_not (Or' p l q r) = inr refl
+number_or_not (Add' p l q r) = inr refl
+number_or_not (Sub' p l q r) = inr refl
+number_or_not (Equal' p l q r) = inr refl
+number_or_not (NotEqual' p l q r) = inr refl
+number_or_not (Less' p l q r) = inr refl
+number_or_not (LessEqual' p l q r) = inr refl
+number_or_not (Is' f p e) = inr refl
+
+abbrev IsFieldTest : Expr → Type 0
+IsFieldTest e = (f : Field) × (p : Box (Unit {0}) Global) × (g : Expr) × (e ≡ Is' f p g)
+
+test_or_not : (e : Expr) → IsFieldTest e ⊎ (test_marks e ≡ Wordless ∷ [])
+test_or_not (Is' f p g) = inl (f, p, g, refl)
+test_or_not (Number n) = inr refl
+test_or_not (Var x) = inr refl
+test_or_not (SwitchOf x) = inr refl
+test_or_not (PortOf x) = inr refl
+test_or_not PacketSwitch = inr refl
+test_or_not (Packet f) = inr refl
+test_or_not (Up' p l q r) = inr refl
+test_or_not (At' p l q r) = inr refl
+test_or_not (Not' p e) = inr refl
+test_or_not (And' p l q r) = inr refl
+test_or_not (Or' p l q r) = inr refl
+test_or_not (Add' p l q r) = inr refl
+test_or_not (Sub' p l q r) = inr refl
+test_or_not (Equal' p l q r) = inr refl
+test_or_not (NotEqual' p l q r) = inr refl
+test_or_not (Less' p l q r) = inr refl
+test_or_not (LessEqual' p l q r) = inr refl
+
 -- an `out` with a text has one number
 pub out_worded : (es : List Expr) (ls : List Lexeme) → AreTextsOf (statement_marks (out es)) ls → (n : ℕ) × (es ≡ Number n ∷ [])
 out_worded [] ls h = absurd (out_wordless ls h)
-out_worded (Number n ∷ []) ls h = (n, refl)
-out_worded (Is' f p e ∷ []) ls h = absurd (out_wordless ls h)
+out_worded (e ∷ []) ls h =
+    ⊎_elim
+    (λ (n, is). (n, ap (λ x. x ∷ []) is))
+    (λ is. absurd (out_wordless ls (subst (λ ms. AreTextsOf (Keyword (codes "out") ∷ (ms ++ Brace 59 ∷ [])) ls) is h)))
+    (number_or_not e)
 out_worded (e ∷ g ∷ es) ls h = absurd (out_wordless ls h)
 
 out_any : (es : List Expr) → ReadAs (statement_marks (out es)) (statement_depth (out es))
-out_any [] ls rest d h room = absurd (out_wordless ls h)
-out_any (Number n ∷ []) ls rest d h room = out_read n ls rest d h room
-out_any (Is' f p e ∷ []) ls rest d h room = absurd (out_wordless ls h)
-out_any (e ∷ g ∷ es) ls rest d h room = absurd (out_wordless ls h)
+out_any es ls rest d h room =
+    let (n, is) = out_worded es ls h in
+    subst (λ x. ReadAs (statement_marks (out x)) (statement_depth (out x))) (sym is) (out_read n) ls rest d h room
+
+abbrev IsTestHead : Head → Type 0
+IsTestHead h = (f : Field) × (p : Box (Unit {0}) Global) × (n : ℕ) × (h ≡ Test (Is' f p (Number n)))
+
+test_worded : (e : Expr) (ms : List Mark) (ls : List Lexeme) → AreTextsOf (statement_marks (if_ (Test e) ms None)) ls → IsTestHead (Test e)
+test_worded e ms ls t =
+    ⊎_elim
+    (λ (f, p, g, is).
+    let u : AreTextsOf (statement_marks (if_ (Test (Is' f p g)) ms None)) ls = subst (λ x. AreTextsOf (statement_marks (if_ (Test x) ms None)) ls) is t in
+    ⊎_elim
+    (λ (n, same). (f, p, n, ap (λ x. Test x) is ∙ ap (λ x. Test (Is' f p x)) same))
+    (λ none. absurd (is_wordless f (in_braces ms) ls (subst (λ xs. AreTextsOf (Keyword (codes "if") ∷ Keyword (field_name f) ∷ Keyword (codes "is") ∷ (xs ++ in_braces ms)) ls) none u)))
+    (number_or_not g))
+    (λ is. absurd (if_wordless (in_braces ms) ls (subst (λ xs. AreTextsOf (Keyword (codes "if") ∷ (xs ++ in_braces ms)) ls) is t)))
+    (test_or_not e)
+
+-- an `if` with a text tests a field for a number
+pub if_worded : (h : Head) (ms : List Mark) (ls : List Lexeme) → AreTextsOf (statement_marks (if_ h ms None)) ls → IsTestHead h
+if_worded (Test e) ms ls t = test_worded e ms ls t
+if_worded (Host e x) ms ls t = absurd (if_wordless (in_braces ms) ls t)
+if_worded (Hop e x) ms ls t = absurd (if_wordless (in_braces ms) ls t)
+if_worded (Lookup y e x) ms ls t = absurd (if_wordless (in_braces ms) ls t)
 
 if_any : (h : Head) (b : ℕ) (ms : List Mark) → ReadAs ms b → ReadAs (statement_marks (if_ h ms None)) (statement_depth (if_ h b None))
-if_any (Test (Is' f p (Number n))) b ms inner ls rest d h room = if_read f n b ms inner ls rest d h room
-if_any (Test (Is' f p (Is' g q e))) b ms inner ls rest d h room = absurd (is_wordless f (in_braces ms) ls h)
-if_any (Test (Number n)) b ms inner ls rest d h room = absurd (if_wordless (in_braces ms) ls h)
+if_any h b ms inner ls rest d t room =
+    let (f, p, n, is) = if_worded h ms ls t in
+    subst (λ x. ReadAs (statement_marks (if_ x ms None)) (statement_depth (if_ x b None))) (sym is) (if_read f n b ms inner) ls rest d t room
 
 abbrev StatementRead : Statement → Type 0
 StatementRead s = ReadAs (text_of s) (depth_of s)
@@ -230,6 +301,11 @@ layer_read drop = drop_read
 layer_read (out es) = out_any es
 layer_read (if_ h b None) = if_any h (block_depth b.0) (block_marks b.0) b.1
 layer_read (if_ h b (Some c)) = wordless_read [] (deep_layer (if_ h b.0 (Some c.0)))
+layer_read flood = wordless_read [] (deep_layer flood)
+layer_read (route e) = wordless_read [] (deep_layer (route e))
+layer_read (let_ x e) = wordless_read [] (deep_layer (let_ x e))
+layer_read (assign x e) = wordless_read [] (deep_layer (assign x e))
+layer_read (while_ e b) = wordless_read [] (deep_layer (while_ e b.0))
 
 read_by : (m k : List Mark) (a b : ℕ) → m ≡ k → a ≡ b → ReadAs k b → ReadAs m a
 read_by m k a b p q h = subst (λ x. ReadAs x a) (sym p) (subst (λ x. ReadAs k x) (sym q) h)

@@ -1,6 +1,5 @@
 -- Policies that have the same text end the same, and ask the same.
 use Rattle.std.proofs.Common.{◌≡◌, ℕ, zero, suc, List, [], ◌∷◌, ◌++◌, map, Option, Some, None, refl, sym, ap, ◌∙◌, Box, Global}
-use Rattle.maple_base.specs.declared.key.Key.{Key}
 use Rattle.maple_base.specs.declared.key.Field.{Field}
 use Rattle.maple_base.specs.declared.items.Item.{Item}
 use Rattle.maple_base.specs.declared.decision.Outcome.TheVariants.{Spent}
@@ -13,8 +12,8 @@ use Rattle.policy_lang.specs.declared.Statement.TheOpen.{Drop as drop, Out as ou
 use Rattle.policy_lang.specs.declared.Statement.TheFolds.{fold-roll-Statement}
 use Rattle.policy_lang.specs.declared.Block.{Block, fold_out-Block}
 use Rattle.policy_lang.specs.Blocks.{statements_of}
-use Rattle.policy_lang.specs.Values.{Truth, number_in, truth_in}
-use Rattle.policy_lang.specs.Evaluation.{Spends, Given, Running, tested, value_of, chosen, by_statement, in_order, by_block, block_ending}
+use Rattle.policy_lang.specs.Values.{Scope, Truth, number_in, truth_in}
+use Rattle.policy_lang.specs.Evaluation.{Arrival, Spends, Given, Running, from_one, has_value, value_of, by_truth, chosen, leaving, by_statement, in_order, by_block, block_ending}
 use Rattle.policy_lang.specs.Courses.{Stops, Going, Coursing, ask_test, value_course, chosen_course, course_statement, courses, course_block, block_course}
 use Rattle.policy_text.specs.PolicyText.{Mark, Brace, IsTextOf, text_lexemes, field_name, block_marks}
 use Rattle.policy_text.specs.Parsing.{named_field}
@@ -31,29 +30,32 @@ running = fold-Statement Running Running by_statement by_block
 abbrev coursing : Statement → Coursing
 coursing = fold-Statement Coursing Coursing course_statement course_block
 
-ending_is : (b : Block) → block_ending b ≡ in_order (map running (statements_of b))
+abbrev in_block : List Running → Running
+in_block runs a s left = leaving s (in_order runs a s left)
+
+ending_is : (b : Block) → block_ending b ≡ in_block (map running (statements_of b))
 ending_is b = fold_out-Block Running Running by_statement by_block b
 
 course_is : (b : Block) → block_course b ≡ courses (map coursing (statements_of b))
 course_is b = fold_out-Block Coursing Coursing course_statement course_block b
 
-abbrev given_test : Field → ℕ → Key → ℕ → Given
-given_test f n k zero = None
-given_test f n k (suc left) = tested (field_of k f) (value_of (Number n) k left)
+abbrev given_test : Field → ℕ → Arrival → Scope → ℕ → Given
+given_test f n a s zero = None
+given_test f n a s (suc left) = from_one (has_value (field_of a.key f)) (value_of (Number n) a s left)
 
 -- how a test of a field ends, by the field's name
 abbrev by_test : Option Field → ℕ → Running → Running
-by_test None n r k left = Spends
-by_test (Some f) n r k zero = Spends
-by_test (Some f) n r k (suc left) = chosen (given_test f n k left) r None k
+by_test None n r a s left = Spends
+by_test (Some f) n r a s zero = Spends
+by_test (Some f) n r a s (suc left) = chosen (by_truth s (given_test f n a s left)) r None a s
 
 by_test_is : (f : Field) (p : Box (Unit {0}) Global) (n : ℕ) (r : Running) → by_statement (if_ (Test (Is' f p (Number n))) r None) ≡ by_test (named_field (field_name f)) n r
-by_test_is f p n r = ext (λ k. ext (same k)) ∙ ap (λ o. by_test o n r) (sym (field_read f))
+by_test_is f p n r = ext (λ a. ext (λ s. ext (same a s))) ∙ ap (λ o. by_test o n r) (sym (field_read f))
   where
-    same : (k : Key) (left : ℕ) → by_statement (if_ (Test (Is' f p (Number n))) r None) k left ≡ by_test (Some f) n r k left
-    same k zero = refl
-    same k (suc zero) = refl
-    same k (suc (suc left)) = refl
+    same : (a : Arrival) (s : Scope) (left : ℕ) → by_statement (if_ (Test (Is' f p (Number n))) r None) a s left ≡ by_test (Some f) n r a s left
+    same a s zero = refl
+    same a s (suc zero) = refl
+    same a s (suc (suc left)) = refl
 
 -- what a test of a field asks, by the field's name
 abbrev ask_field : Option Field → ℕ → Coursing → Coursing
@@ -77,7 +79,7 @@ endings =
       value = running;
       drops = by_statement drop;
       outs = λ n. by_statement (out (Number n ∷ []));
-      tests = λ name n rs. by_test (named_field name) n (in_order rs);
+      tests = λ name n rs. by_test (named_field name) n (in_block rs);
       at_drop = fold-roll-Statement Running Running by_statement by_block drop;
       at_out = λ n. fold-roll-Statement Running Running by_statement by_block (out (Number n ∷ []));
       at_test = λ f p n b.
@@ -125,7 +127,7 @@ one_value : {A : Type 0} (r : Reading A) (text : List ℕ) (p q : Policy) → Is
 one_value r text p q h i = let (rest, t) = body_text (block_marks p.body) (text_lexemes text) h.spells.texts in same_values r p.body q.body rest t (closed_same text p q h i)
 
 pub one_ending : (text : List ℕ) (p q : Policy) → IsTextOf p text → IsTextOf q text → block_ending p.body ≡ block_ending q.body
-one_ending text p q h i = ending_is p.body ∙ ap in_order (one_value endings text p q h i) ∙ sym (ending_is q.body)
+one_ending text p q h i = ending_is p.body ∙ ap in_block (one_value endings text p q h i) ∙ sym (ending_is q.body)
 
 pub one_course : (text : List ℕ) (p q : Policy) → IsTextOf p text → IsTextOf q text → block_course p.body ≡ block_course q.body
 one_course text p q h i = course_is p.body ∙ ap courses (one_value questions text p q h i) ∙ sym (course_is q.body)

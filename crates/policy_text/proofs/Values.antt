@@ -8,14 +8,14 @@ use Rattle.policy_lang.specs.declared.Head.{Head}
 use Rattle.policy_lang.specs.declared.Head.TheVariants.{Test}
 use Rattle.policy_lang.specs.declared.Statement.{Statement}
 use Rattle.policy_lang.specs.declared.Policy.{Policy}
-use Rattle.policy_lang.specs.declared.Statement.TheOpen.{Statement-F, Block-F, Drop as drop, Out as out, If as if_}
+use Rattle.policy_lang.specs.declared.Statement.TheOpen.{Statement-F, Block-F, Drop as drop, Flood as flood, Out as out, Route as route, Let as let_, Assign as assign, If as if_, While as while_}
 use Rattle.policy_lang.specs.declared.Statement.TheFolds.{fold-roll-Statement, fold-roll-Block, map-Statement, ind-Block}
 use Rattle.policy_lang.specs.declared.Statement.TheViews.{roll-Statement, roll-Block}
 use Rattle.policy_lang.specs.declared.Block.{Block, fold_out-Block}
 use Rattle.policy_lang.specs.Blocks.{statements_of}
 use Rattle.policy_text.specs.PolicyText.{Lexeme, Mark, Keyword, Brace, Numeral, AreTextsOf, field_name, in_braces, statement_marks, block_layer, block_marks, joined, IsTextOf, text_lexemes, statement_nodes, nodes_layer, block_nodes, statement_depth, depth_layer, block_depth, greatest}
 use Rattle.policy_text.specs.Parsing.{text_of, nodes_of, depth_of, body_marks}
-use Rattle.policy_text.proofs.Grammar.{texts_split, word_first, sign_first, wordless_first, braced, if_first, spelled_read, out_wordless, if_wordless, is_wordless}
+use Rattle.policy_text.proofs.Grammar.{texts_split, word_first, sign_first, wordless_first, braced, if_first, spelled_read, out_worded, if_worded}
 
 pub nodes_are : (b : Block) → block_nodes b ≡ sum (map nodes_of (statements_of b))
 nodes_are b = fold_out-Block ℕ ℕ statement_nodes nodes_layer b
@@ -54,22 +54,26 @@ drop_computes : {A : Type 0} (r : Reading A) → Computes r (statement_marks dro
 drop_computes r ls h k us rest = refl
 
 out_computes : {A : Type 0} (r : Reading A) (es : List Expr) → Computes r (statement_marks (out es)) (r.value (roll-Statement (out es)) ∷ [])
-out_computes r [] ls h k us rest = absurd (out_wordless ls h)
-out_computes r (Number n ∷ []) ls h k us rest = ap (λ v. compute r rest k (us ++ v ∷ [])) (sym (r.at_out n))
-out_computes r (Is' f p e ∷ []) ls h k us rest = absurd (out_wordless ls h)
-out_computes r (e ∷ g ∷ es) ls h k us rest = absurd (out_wordless ls h)
+out_computes r es ls h k us rest =
+    let (n, is) = out_worded es ls h in
+    subst (λ x. compute r (statement_marks (out x) ++ rest) k us ≡ compute r rest k (us ++ r.value (roll-Statement (out x)) ∷ [])) (sym is)
+    (ap (λ v. compute r rest k (us ++ v ∷ [])) (sym (r.at_out n)))
 
-if_computes : {A : Type 0} (r : Reading A) (h : Head) (b : Block) → Computes r (block_marks b) (map r.value (statements_of b))
-    → Computes r (statement_marks (if_ h (block_marks b) None)) (r.value (roll-Statement (if_ h b None)) ∷ [])
-if_computes r (Test (Is' f p (Number n))) b inner ls h k us rest =
+test_computes : {A : Type 0} (r : Reading A) (f : Field) (p : Box (Unit {0}) Global) (n : ℕ) (b : Block) → Computes r (block_marks b) (map r.value (statements_of b))
+    → Computes r (statement_marks (if_ (Test (Is' f p (Number n))) (block_marks b) None)) (r.value (roll-Statement (if_ (Test (Is' f p (Number n))) b None)) ∷ [])
+test_computes r f p n b inner ls h k us rest =
     let ms : List Mark = block_marks b in
     let (w, ls1, number, e1, h1) = if_first f n (ms ++ Brace 125 ∷ []) ls h in
     let (front, e2, h2) = braced ms ls1 h1 in
     ap (λ x. compute r x (Opened (field_name f) n us ∷ k) []) (append_assoc ms (Brace 125 ∷ []) rest)
     ∙ inner front h2 (Opened (field_name f) n us ∷ k) [] (Brace 125 ∷ rest)
     ∙ ap (λ v. compute r rest k (us ++ v ∷ [])) (sym (r.at_test f p n b))
-if_computes r (Test (Is' f p (Is' g q e))) b inner ls h k us rest = absurd (is_wordless f (in_braces (block_marks b)) ls h)
-if_computes r (Test (Number n)) b inner ls h k us rest = absurd (if_wordless (in_braces (block_marks b)) ls h)
+
+if_computes : {A : Type 0} (r : Reading A) (h : Head) (b : Block) → Computes r (block_marks b) (map r.value (statements_of b))
+    → Computes r (statement_marks (if_ h (block_marks b) None)) (r.value (roll-Statement (if_ h b None)) ∷ [])
+if_computes r h b inner ls t k us rest =
+    let (f, p, n, is) = if_worded h (block_marks b) ls t in
+    subst (λ x. Computes r (statement_marks (if_ x (block_marks b) None)) (r.value (roll-Statement (if_ x b None)) ∷ [])) (sym is) (test_computes r f p n b inner) ls t k us rest
 
 abbrev StatementComputes : {A : Type 0} → Reading A → Statement → Type 0
 StatementComputes r s = Computes r (text_of s) (r.value s ∷ [])
@@ -104,6 +108,11 @@ layer_computes r drop ls h k us rest = ap (λ v. compute r rest k (us ++ v ∷ [
 layer_computes r (out es) ls h k us rest = out_computes r es ls h k us rest
 layer_computes r (if_ h b None) ls t k us rest = if_computes r h b.0 b.1 ls t k us rest
 layer_computes r (if_ h b (Some c)) ls t k us rest = absurd (wordless_first [] ls t)
+layer_computes r flood ls t k us rest = absurd (wordless_first [] ls t)
+layer_computes r (route e) ls t k us rest = absurd (wordless_first [] ls t)
+layer_computes r (let_ x e) ls t k us rest = absurd (wordless_first [] ls t)
+layer_computes r (assign x e) ls t k us rest = absurd (wordless_first [] ls t)
+layer_computes r (while_ e b) ls t k us rest = absurd (wordless_first [] ls t)
 
 statement_computes : {A : Type 0} (r : Reading A) (x : Statement-F Statement Block) → LayerComputes r x → StatementComputes r (roll-Statement x)
 statement_computes r x h = subst (λ ms. Computes r ms (r.value (roll-Statement x) ∷ [])) (sym (fold-roll-Statement (List Mark) (List Mark) statement_marks block_layer x)) h

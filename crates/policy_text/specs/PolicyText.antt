@@ -5,10 +5,10 @@ use Rattle.maple_base.specs.Numbers.{number_of}
 use Rattle.maple_base.specs.declared.key.Field.{Field}
 use Rattle.maple_base.specs.declared.key.Field.TheVariants.{InPort, DlSrc, DlDst, DlVlan, DlType, NwTos, NwProto, NwSrc, NwDst, TpSrc, TpDst}
 use Rattle.policy_lang.specs.declared.Expr.{Expr}
-use Rattle.policy_lang.specs.declared.Expr.TheVariants.{Number, Is'}
+use Rattle.policy_lang.specs.declared.Expr.TheVariants.{Number, Var, SwitchOf, PortOf, PacketSwitch, Packet, Up', At', Is', Not', And', Or', Add', Sub', Equal', NotEqual', Less', LessEqual'}
 use Rattle.policy_lang.specs.declared.Head.{Head}
-use Rattle.policy_lang.specs.declared.Head.TheVariants.{Test}
-use Rattle.policy_lang.specs.declared.Statement.TheOpen.{Statement-F, Block-F, Drop as drop, Out as out, If as if_}
+use Rattle.policy_lang.specs.declared.Head.TheVariants.{Host, Hop, Lookup, Test}
+use Rattle.policy_lang.specs.declared.Statement.TheOpen.{Statement-F, Block-F, Drop as drop, Flood as flood, Out as out, Route as route, Let as let_, Assign as assign, If as if_, While as while_}
 use Rattle.policy_lang.specs.declared.Block.{Block, fold-Block}
 use Rattle.policy_lang.specs.declared.Policy.{Policy}
 
@@ -96,13 +96,14 @@ abbrev pub number_marks : Expr → List Mark
 number_marks (Number n) = Numeral n ∷ []
 number_marks e = Wordless ∷ []
 
--- `pkt.FIELD is N`
+-- `pkt.FIELD is N`; other heads have no text of their own
 abbrev pub test_marks : Expr → List Mark
 test_marks (Is' f p e) = Keyword (field_name f) ∷ Keyword (codes "is") ∷ number_marks e
 test_marks e = Wordless ∷ []
 
 abbrev pub head_marks : Head → List Mark
 head_marks (Test e) = test_marks e
+head_marks h = Wordless ∷ []
 
 abbrev pub ports_marks : List Expr → List Mark
 ports_marks (e ∷ []) = number_marks e
@@ -111,12 +112,12 @@ ports_marks es = Wordless ∷ []
 abbrev pub in_braces : List Mark → List Mark
 in_braces ms = Brace 123 ∷ (ms ++ Brace 125 ∷ [])
 
--- `drop;`, `out N;` or `if pkt.FIELD is N { .. }`, with what stands in its block
+-- `drop;`, `out N;` or `if pkt.FIELD is N { .. }`, with what stands in its block; other statements have no text
 abbrev pub statement_marks : Statement-F (List Mark) (List Mark) → List Mark
 statement_marks drop = Keyword (codes "drop") ∷ Brace 59 ∷ []
 statement_marks (out es) = Keyword (codes "out") ∷ (ports_marks es ++ Brace 59 ∷ [])
 statement_marks (if_ h block None) = Keyword (codes "if") ∷ (head_marks h ++ in_braces block)
-statement_marks (if_ h block (Some other)) = Wordless ∷ []
+statement_marks s = Wordless ∷ []
 
 abbrev pub joined : List (List Mark) → List Mark
 joined [] = []
@@ -129,10 +130,26 @@ block_layer b = joined b.list.items
 abbrev pub block_marks : Block → List Mark
 block_marks = fold-Block (List Mark) (List Mark) statement_marks block_layer
 
--- how many nodes a statement has: itself, its expressions, and those of its blocks
+-- how many nodes a statement has: itself, its head where that binds a name, its expressions, and those of its blocks
 abbrev pub expr_nodes : Expr → ℕ
 expr_nodes (Number n) = 1
+expr_nodes (Var x) = 1
+expr_nodes (SwitchOf x) = 1
+expr_nodes (PortOf x) = 1
+expr_nodes PacketSwitch = 1
+expr_nodes (Packet f) = 1
+expr_nodes (Up' p l q r) = 1 + expr_nodes l + expr_nodes r
+expr_nodes (At' p l q r) = 1 + expr_nodes l + expr_nodes r
 expr_nodes (Is' f p e) = 1 + expr_nodes e
+expr_nodes (Not' p e) = 1 + expr_nodes e
+expr_nodes (And' p l q r) = 1 + expr_nodes l + expr_nodes r
+expr_nodes (Or' p l q r) = 1 + expr_nodes l + expr_nodes r
+expr_nodes (Add' p l q r) = 1 + expr_nodes l + expr_nodes r
+expr_nodes (Sub' p l q r) = 1 + expr_nodes l + expr_nodes r
+expr_nodes (Equal' p l q r) = 1 + expr_nodes l + expr_nodes r
+expr_nodes (NotEqual' p l q r) = 1 + expr_nodes l + expr_nodes r
+expr_nodes (Less' p l q r) = 1 + expr_nodes l + expr_nodes r
+expr_nodes (LessEqual' p l q r) = 1 + expr_nodes l + expr_nodes r
 
 abbrev pub all_nodes : List Expr → ℕ
 all_nodes [] = 0
@@ -143,12 +160,20 @@ other_nodes None = 0
 other_nodes (Some n) = n
 
 abbrev pub head_nodes : Head → ℕ
+head_nodes (Host e x) = 1 + expr_nodes e
+head_nodes (Hop e x) = 1 + expr_nodes e
+head_nodes (Lookup t e x) = 1 + expr_nodes e
 head_nodes (Test e) = expr_nodes e
 
 abbrev pub statement_nodes : Statement-F ℕ ℕ → ℕ
 statement_nodes drop = 1
+statement_nodes flood = 1
 statement_nodes (out es) = 1 + all_nodes es
+statement_nodes (route e) = 1 + expr_nodes e
+statement_nodes (let_ x e) = 1 + expr_nodes e
+statement_nodes (assign x e) = 1 + expr_nodes e
 statement_nodes (if_ h block other) = 1 + head_nodes h + block + other_nodes other
+statement_nodes (while_ e block) = 1 + expr_nodes e + block
 
 abbrev pub nodes_layer : Block-F ℕ ℕ → ℕ
 nodes_layer b = sum b.list.items
@@ -159,19 +184,43 @@ block_nodes = fold-Block ℕ ℕ statement_nodes nodes_layer
 -- how deep a statement's nodes go, itself counted: an expression of a statement is one deeper than it, a part of an operator one deeper than that
 abbrev pub expr_depth : Expr → ℕ
 expr_depth (Number n) = 1
+expr_depth (Var x) = 1
+expr_depth (SwitchOf x) = 1
+expr_depth (PortOf x) = 1
+expr_depth PacketSwitch = 1
+expr_depth (Packet f) = 1
+expr_depth (Up' p l q r) = 1 + max (expr_depth l) (expr_depth r)
+expr_depth (At' p l q r) = 1 + max (expr_depth l) (expr_depth r)
 expr_depth (Is' f p e) = 1 + expr_depth e
+expr_depth (Not' p e) = 1 + expr_depth e
+expr_depth (And' p l q r) = 1 + max (expr_depth l) (expr_depth r)
+expr_depth (Or' p l q r) = 1 + max (expr_depth l) (expr_depth r)
+expr_depth (Add' p l q r) = 1 + max (expr_depth l) (expr_depth r)
+expr_depth (Sub' p l q r) = 1 + max (expr_depth l) (expr_depth r)
+expr_depth (Equal' p l q r) = 1 + max (expr_depth l) (expr_depth r)
+expr_depth (NotEqual' p l q r) = 1 + max (expr_depth l) (expr_depth r)
+expr_depth (Less' p l q r) = 1 + max (expr_depth l) (expr_depth r)
+expr_depth (LessEqual' p l q r) = 1 + max (expr_depth l) (expr_depth r)
 
 abbrev pub deepest : List Expr → ℕ
 deepest [] = 0
 deepest (e ∷ es) = max (expr_depth e) (deepest es)
 
 abbrev pub head_depth : Head → ℕ
+head_depth (Host e x) = 1 + expr_depth e
+head_depth (Hop e x) = 1 + expr_depth e
+head_depth (Lookup t e x) = 1 + expr_depth e
 head_depth (Test e) = expr_depth e
 
 abbrev pub statement_depth : Statement-F ℕ ℕ → ℕ
 statement_depth drop = 1
+statement_depth flood = 1
 statement_depth (out es) = 1 + deepest es
+statement_depth (route e) = 1 + expr_depth e
+statement_depth (let_ x e) = 1 + expr_depth e
+statement_depth (assign x e) = 1 + expr_depth e
 statement_depth (if_ h block other) = 1 + max (head_depth h) (max block (other_nodes other))
+statement_depth (while_ e block) = 1 + max (expr_depth e) block
 
 abbrev pub greatest : List ℕ → ℕ
 greatest [] = 0

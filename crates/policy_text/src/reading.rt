@@ -1,9 +1,10 @@
 // The text of a policy.
-ghost use Rattle.std.specs.Prelude.{◌≡◌, ◌+◌, ◌-◌, ◌^◌, ◌<◌, ◌≤◌, ◌↔◌, [], ◌∷◌, ◌++◌, length, map, max, min, sum, if◌then◌else◌, IsTrue, IfOk, IfErr, OnOk};
+ghost use Rattle.std.specs.Prelude.{◌≡◌, true, ◌+◌, ◌-◌, ◌^◌, ◌<◌, ◌≤◌, ◌↔◌, [], ◌∷◌, ◌++◌, length, map, max, min, sum, if◌then◌else◌, IsTrue, IfOk, IfErr, OnOk};
 ghost use Rattle.std.specs.Option.{option_map};
 ghost use Rattle.std.specs.List.{list_all};
 ghost use Rattle.std.specs.Str.{bytes_eq};
 ghost use Rattle.policy_lang.specs.Blocks.{statements_of};
+ghost use Rattle.policy_lang.specs.Plain.{is_plain};
 ghost use Rattle.policy_text.specs.PolicyText.{IsTextOf, Mark, Brace, is_text_byte, text_lexemes, lexemes_of, block_nodes, block_depth, expr_nodes, all_nodes, head_nodes, other_nodes, expr_depth, deepest, head_depth, greatest};
 ghost use Rattle.policy_text.specs.Parsing.{IsRefused, is_word, is_sign, number_in, field_in, named_field, net_field, ports_field, place_of, step, closing, opened, marks_from, body_marks, marks_of, test_text, levels, so_far, ended, blocks_behind, CanLeave, nodes_of, depth_of};
 ghost use Rattle.policy_text.specs.Tokens.{lexeme};
@@ -63,8 +64,10 @@ const REFUSED: ReadError = ReadError::Refused {
 /// The policy of a text. It is refused, with line 1, column 1 and kind 3, exactly where no policy
 /// has the text, which is `policy { .. }` with statements `drop;`, `out N;` and
 /// `if pkt.FIELD is N { .. }`, in at most 65,536 bytes of ASCII, 4,096 nodes and a nesting of 32.
+/// Such a policy is plain: it asks the environment nothing and names no value.
 pub fn read_policy(alloc: Global, text: &[u8]) -> Result<Policy, ReadError>
     ensures policy { IfOk result (λ policy. IsTextOf policy text.now) }
+    ensures plain { IfOk result (λ policy. is_plain policy ≡ true) }
     ensures refused { IfErr result (IsRefused text.now) }
 {
     if text.len() > 65_536 || !is_ascii_text(text) {
@@ -106,8 +109,27 @@ fn expr_nodes(expr: &Expr) -> usize
     ensures { result ≡ min (expr_nodes expr.now) (2 ^ 64 - 1) }
 {
     match expr {
-        Expr::Number(_) => 1,
-        Expr::Is(_, right) => expr_nodes(right).saturating_add(1),
+        Expr::Number(_)
+        | Expr::Var(_)
+        | Expr::SwitchOf(_)
+        | Expr::PortOf(_)
+        | Expr::PacketSwitch
+        | Expr::Packet(_) => 1,
+        Expr::Is(_, inner) | Expr::Not(inner) => expr_nodes(inner).saturating_add(1),
+        Expr::Up(left, right)
+        | Expr::At(left, right)
+        | Expr::And(left, right)
+        | Expr::Or(left, right)
+        | Expr::Add(left, right)
+        | Expr::Sub(left, right)
+        | Expr::Equal(left, right)
+        | Expr::NotEqual(left, right)
+        | Expr::Less(left, right)
+        | Expr::LessEqual(left, right) => {
+            expr_nodes(left)
+                .saturating_add(expr_nodes(right))
+                .saturating_add(1)
+        }
     }
 }
 
@@ -125,6 +147,9 @@ fn head_nodes(head: &Head) -> usize
     ensures { result ≡ min (head_nodes head.now) (2 ^ 64 - 1) }
 {
     match head {
+        Head::Host(expr, _) | Head::Hop(expr, _) | Head::Lookup(_, expr, _) => {
+            expr_nodes(expr).saturating_add(1)
+        }
         Head::Test(expr) => expr_nodes(expr),
     }
 }
@@ -134,11 +159,18 @@ fn nodes_of(statement: &Statement) -> usize
     ensures { result ≡ min (nodes_of statement.now) (2 ^ 64 - 1) }
 {
     match statement {
-        Statement::Drop => 1,
+        Statement::Drop | Statement::Flood => 1,
         Statement::Out(exprs) => all_nodes(exprs.items()).saturating_add(1),
+        Statement::Route(expr) | Statement::Let(_, expr) | Statement::Assign(_, expr) => {
+            expr_nodes(expr).saturating_add(1)
+        }
         Statement::If(head, block, other) => {
             let inner = nodes_in(block.items()).saturating_add(other_nodes(other));
             head_nodes(head).saturating_add(inner).saturating_add(1)
+        }
+        Statement::While(expr, block) => {
+            let inner = nodes_in(block.items());
+            expr_nodes(expr).saturating_add(inner).saturating_add(1)
         }
     }
 }
@@ -174,8 +206,25 @@ fn expr_depth(expr: &Expr) -> usize
     ensures { result ≡ min (expr_depth expr.now) (2 ^ 64 - 1) }
 {
     match expr {
-        Expr::Number(_) => 1,
-        Expr::Is(_, right) => expr_depth(right).saturating_add(1),
+        Expr::Number(_)
+        | Expr::Var(_)
+        | Expr::SwitchOf(_)
+        | Expr::PortOf(_)
+        | Expr::PacketSwitch
+        | Expr::Packet(_) => 1,
+        Expr::Is(_, inner) | Expr::Not(inner) => expr_depth(inner).saturating_add(1),
+        Expr::Up(left, right)
+        | Expr::At(left, right)
+        | Expr::And(left, right)
+        | Expr::Or(left, right)
+        | Expr::Add(left, right)
+        | Expr::Sub(left, right)
+        | Expr::Equal(left, right)
+        | Expr::NotEqual(left, right)
+        | Expr::Less(left, right)
+        | Expr::LessEqual(left, right) => {
+            larger(expr_depth(left), expr_depth(right)).saturating_add(1)
+        }
     }
 }
 
@@ -193,6 +242,9 @@ fn head_depth(head: &Head) -> usize
     ensures { result ≡ min (head_depth head.now) (2 ^ 64 - 1) }
 {
     match head {
+        Head::Host(expr, _) | Head::Hop(expr, _) | Head::Lookup(_, expr, _) => {
+            expr_depth(expr).saturating_add(1)
+        }
         Head::Test(expr) => expr_depth(expr),
     }
 }
@@ -202,11 +254,18 @@ fn depth_of(statement: &Statement) -> usize
     ensures { result ≡ min (depth_of statement.now) (2 ^ 64 - 1) }
 {
     match statement {
-        Statement::Drop => 1,
+        Statement::Drop | Statement::Flood => 1,
         Statement::Out(exprs) => deepest(exprs.items()).saturating_add(1),
+        Statement::Route(expr) | Statement::Let(_, expr) | Statement::Assign(_, expr) => {
+            expr_depth(expr).saturating_add(1)
+        }
         Statement::If(head, block, other) => {
             let inner = larger(depth_in(block.items()), other_depth(other));
             larger(head_depth(head), inner).saturating_add(1)
+        }
+        Statement::While(expr, block) => {
+            let inner = depth_in(block.items());
+            larger(expr_depth(expr), inner).saturating_add(1)
         }
     }
 }

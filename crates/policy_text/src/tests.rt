@@ -16,6 +16,9 @@ fn show_expr(alloc: Global, expr: &Expr, shown: &mut String) -> Result<(), NoMem
             shown.push_str(&text)?;
             show_expr(alloc, right, shown)?;
         }
+        _ => {
+            shown.push_str("another expression ")?;
+        }
     }
     Ok(())
 }
@@ -32,6 +35,10 @@ fn show_ports(alloc: Global, ports: &[Expr], shown: &mut String) -> Result<(), N
 fn show_head(alloc: Global, head: &Head, shown: &mut String) -> Result<(), NoMemory> {
     match head {
         Head::Test(expr) => show_expr(alloc, expr, shown),
+        _ => {
+            shown.push_str("another head ")?;
+            Ok(())
+        }
     }
 }
 
@@ -55,6 +62,9 @@ fn show_statement(
             if other.is_some() {
                 shown.push_str("else ")?;
             }
+        }
+        _ => {
+            shown.push_str("another statement ")?;
         }
     }
     Ok(())

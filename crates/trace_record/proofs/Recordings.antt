@@ -15,7 +15,8 @@ use Rattle.maple_base.specs.declared.items.Item.{Item}
 use Rattle.policy_lang.specs.declared.Expr.{Expr}
 use Rattle.policy_lang.specs.declared.Expr.TheVariants.{Is}
 use Rattle.policy_lang.specs.Values.{Datum, Truth, number_in, truth_in}
-use Rattle.policy_lang.specs.Evaluation.{Given, Ending}
+use Rattle.policy_lang.specs.Evaluation.{Given}
+use Rattle.trace_record.specs.declared.recording.Ending.{Ending}
 use Rattle.policy_lang.specs.Courses.{Onward, Going, ask_test, value_course, numbers_course, Coursing, head_course, chosen_course, otherwise_course, courses, course_statement, course_block, block_course}
 use Rattle.trace_record.specs.Recording.{Leads, Asked, RecordedValue, Recorded, course_given, course_behind, statement_course}
 use Rattle.trace_record.proofs.Leading.{leads_by, leads_on}

@@ -13,11 +13,14 @@ use Rattle.maple_base.specs.Kinds.{blank_value}
 use Rattle.maple_base.specs.Questions.{meets, within_domain, asks_once}
 use Rattle.policy_lang.specs.declared.Block.{Block}
 use Rattle.policy_lang.specs.declared.Policy.{Policy}
-use Rattle.policy_lang.specs.Evaluation.{Ending, Spends, Decides, Goes, outcome_of, eval_of}
+use Rattle.policy_lang.specs.Evaluation.{eval_of}
+use Rattle.policy_lang.specs.Plain.{is_plain}
+use Rattle.trace_record.specs.declared.recording.Ending.{Ending}
+use Rattle.trace_record.specs.declared.recording.Ending.TheVariants.{Spends, Decides, Goes}
 use Rattle.policy_lang.specs.Courses.{Course, Stops, Going, items_of, outcome_at, course_of, block_course}
 use Rattle.policy_lang.specs.Laws.{begins_at}
 use Rattle.policy_lang.proofs.Lawful.{own_items, same_trace, ends_as_evaluated, asks_within, asks_once_only, asks_few, begins_here}
-use Rattle.trace_record.specs.Recording.{Leads, Recorded, course_behind}
+use Rattle.trace_record.specs.Recording.{Leads, Recorded, course_behind, outcome_behind}
 use Rattle.trace_record.specs.Runs.{Traced, IsRun, IsWhole}
 
 abbrev at_end : Going
@@ -28,12 +31,12 @@ behind_items Spends is k = refl
 behind_items (Decides d) is k = refl
 behind_items (Goes left) is k = refl
 
-behind_outcome : (ending : Ending) (is : List Item) (k : Key) → outcome_at (course_behind ending is at_end) k ≡ outcome_of ending
+behind_outcome : (ending : Ending) (is : List Item) (k : Key) → outcome_at (course_behind ending is at_end) k ≡ outcome_behind ending
 behind_outcome Spends is k = refl
 behind_outcome (Decides d) is k = refl
 behind_outcome (Goes left) is k = refl
 
-pub whole_recorded : (policy p : Policy) (body : Block) (budget : ℕ) (k : Key) (seen is js : List Item) (ending : Ending) (o : Outcome) → body ≡ policy.body → seen ≡ [] → p ≡ policy → js ≡ is → o ≡ outcome_of ending
+pub whole_recorded : (policy p : Policy) (body : Block) (budget : ℕ) (k : Key) (seen is js : List Item) (ending : Ending) (o : Outcome) → body ≡ policy.body → seen ≡ [] → p ≡ policy → js ≡ is → o ≡ outcome_behind ending
     → Recorded k seen (block_course body) budget is ending → IsWhole p budget k js o
 whole_recorded policy p body budget k seen is js ending o b e q r t h =
     let leads : Leads k [] (course_of policy budget) is (course_behind ending is at_end) =
@@ -44,25 +47,25 @@ whole_recorded policy p body budget k seen is js ending o b e q r t h =
       outcome = ap (λ x. outcome_at (course_of x budget) k) q ∙ leads.outcome ∙ behind_outcome ending is k ∙ sym t;
     }
 
-pub evaluated : (policy : Policy) (budget : ℕ) (k : Key) (is : List Item) (o : Outcome) (env : Cell → Value) (switch : ℕ) → valid_key k ≡ true → IsWhole policy budget k is o
+pub evaluated : (policy : Policy) (budget : ℕ) (k : Key) (is : List Item) (o : Outcome) (env : Cell → Value) (switch : ℕ) → is_plain policy ≡ true → valid_key k ≡ true → IsWhole policy budget k is o
     → o ≡ eval_of policy budget env switch k
-evaluated policy budget k is o env switch valid w = sym w.outcome ∙ ends_as_evaluated policy budget env switch k valid
+evaluated policy budget k is o env switch plain valid w = sym w.outcome ∙ ends_as_evaluated policy budget env switch k plain valid
 
 pub few_items : (policy : Policy) (budget : ℕ) (k : Key) (is : List Item) (o : Outcome) → valid_key k ≡ true → budget ≤ 65536 → IsWhole policy budget k is o → length is ≤ 262144
 few_items policy budget k is o valid limit w = omega (arith, ap length w.items, asks_few policy budget k valid)
 
-pub run_lawful : (run : Traced) → valid_key run.key ≡ true → run.budget ≤ 65536 → run.cells ≡ [] → IsWhole run.policy run.budget run.key run.items run.outcome → IsRun run
-run_lawful run valid limit e w =
+pub run_lawful : (run : Traced) → is_plain run.policy ≡ true → valid_key run.key ≡ true → run.budget ≤ 65536 → run.cells ≡ [] → IsWhole run.policy run.budget run.key run.items run.outcome → IsRun run
+run_lawful run plain valid limit e w =
     let c : Course = course_of run.policy run.budget in
     record {
       law = λ l valid' met env gives.
           let met' : meets l (items_of c run.key) ≡ true = ap (meets l) w.items ∙ met in
           let alike = same_trace c l run.key met' in
-          record { items = alike.0 ∙ w.items; cells = sym e; outcome = sym (ends_as_evaluated run.policy run.budget env run.switch l valid') ∙ alike.1 ∙ w.outcome };
+          record { items = alike.0 ∙ w.items; cells = sym e; outcome = sym (ends_as_evaluated run.policy run.budget env run.switch l plain valid') ∙ alike.1 ∙ w.outcome };
       valid = valid;
       own = ap (meets run.key) (sym w.items) ∙ own_items c run.key;
       begins =
-          ap (begins_at run.switch) (evaluated run.policy run.budget run.key run.items run.outcome blank_value run.switch valid w) ∙ begins_here run.policy run.budget blank_value run.switch run.key valid;
+          ap (begins_at run.switch) (evaluated run.policy run.budget run.key run.items run.outcome blank_value run.switch plain valid w) ∙ begins_here run.policy run.budget blank_value run.switch run.key valid;
       within = ap (list_all within_domain) (sym w.items) ∙ asks_within run.policy run.budget run.key valid;
       once = ap (asks_once []) (sym w.items) ∙ asks_once_only run.policy run.budget run.key valid;
       few = few_items run.policy run.budget run.key run.items run.outcome valid limit w;

@@ -1,3 +1,4 @@
+pub mod Given
 pub mod Recording
 pub mod RunViews
 pub mod Runs

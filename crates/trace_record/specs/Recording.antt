@@ -3,10 +3,14 @@ use Rattle.std.specs.Prelude.{◌≡◌, ℕ, Bool, List, ◌++◌, length, Some
 use Rattle.maple_base.specs.declared.key.Key.{Key}
 use Rattle.maple_base.specs.declared.items.Item.{Item}
 use Rattle.maple_base.specs.declared.decision.Outcome.TheVariants.{Decided, Spent}
+use Rattle.maple_base.specs.declared.decision.Decision.TheVariants.{Drop as Dropped}
+use Rattle.maple_base.specs.declared.decision.Outcome.{Outcome}
 use Rattle.policy_lang.specs.declared.Expr.{Expr}
 use Rattle.policy_lang.specs.declared.Statement.{Statement, fold-Statement}
 use Rattle.policy_lang.specs.Values.{Datum, ports_among, sent_out}
-use Rattle.policy_lang.specs.Evaluation.{Ending, Spends, Decides, Goes, Given, AllGiven}
+use Rattle.policy_lang.specs.Evaluation.{Given, AllGiven}
+use Rattle.trace_record.specs.declared.recording.Ending.{Ending}
+use Rattle.trace_record.specs.declared.recording.Ending.TheVariants.{Spends, Decides, Goes}
 use Rattle.policy_lang.specs.Courses.{Course, Stops, Onward, Going, Coursing, items_of, outcome_at, numbers_course, course_statement, course_block}
 
 -- behind the items so far the key's course goes on as another does behind more items: the whole trace and the outcome are the same
@@ -34,6 +38,11 @@ abbrev pub course_behind : Ending → List Item → Going → Course
 course_behind Spends seen next = Stops Spent
 course_behind (Decides d) seen next = Stops (Decided d)
 course_behind (Goes left) seen next = next seen left
+
+abbrev pub outcome_behind : Ending → Outcome
+outcome_behind Spends = Spent
+outcome_behind (Decides d) = Decided d
+outcome_behind (Goes left) = Decided Dropped
 
 -- a part leads to what follows it by how it ends, whatever follows
 abbrev pub Recorded : Key → List Item → Coursing → ℕ → List Item → Ending → Type 0

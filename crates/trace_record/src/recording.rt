@@ -1,10 +1,15 @@
 // Recording of a run: what a policy asks of a packet, and what it decides.
-ghost use Rattle.std.specs.Prelude.{◌≡◌, ◌≤◌, ◌==◌, ◌&&◌, ◌++◌, ◌∷◌, [], ◌<◌, ◌↔◌, Err, IfOk, IsTrue, map, length};
+ghost use Rattle.std.specs.Prelude.{◌≡◌, true, ◌≤◌, ◌==◌, ◌&&◌, ◌++◌, ◌∷◌, [], ◌<◌, ◌↔◌, Err, IfOk, IsTrue, map, length};
+ghost use Rattle.std.specs.List.{list_all};
 ghost use Rattle.std.specs.Option.{option_map};
 ghost use Rattle.maple_base.specs.Questions.{same_field, known, excluded, field_number};
 ghost use Rattle.policy_lang.specs.Courses.{Onward, ask_net, ask_proto, ask_ports, ask_header, ask_value, ask_test, no_ports, course_of, items_of, value_course, head_course, courses, block_course, otherwise_course};
-ghost use Rattle.policy_eval.specs.Evaluated.{IsBudget, given_of, all_given, end_of};
-ghost use Rattle.trace_record.specs.Recording.{Leads, Asked, RecordedValue, RecordedNumbers, Recorded, out_course, statement_course};
+ghost use Rattle.policy_lang.specs.Blocks.{statements_of};
+ghost use Rattle.policy_lang.specs.Plain.{plain_expr, plain_head, plain_else, is_plain_block, is_plain};
+ghost use Rattle.policy_lang.specs.PlainParts.{is_plain_statement};
+ghost use Rattle.policy_eval.specs.Answers.{IsBudget};
+ghost use Rattle.trace_record.specs.Given.{given_of, all_given};
+ghost use Rattle.trace_record.specs.Recording.{Leads, Asked, RecordedValue, RecordedNumbers, Recorded, out_course, statement_course, outcome_behind};
 ghost use Rattle.maple_base.specs.Keys.{field_of, has_ports, valid_key};
 ghost use Rattle.maple_base.specs.declared.cells.Cell.{Cell};
 ghost use Rattle.maple_base.specs.declared.cells.Value.{Value};
@@ -14,12 +19,21 @@ ghost use Rattle.trace_record.specs.declared.recording.RecordError.TheVariants.{
 ghost use Rattle.maple_base.specs.declared.items.Item.TheVariants.{Read, Test as Tested};
 
 use maple_base::{Cells, Decision, EnvView, Field, Item, Items, Key, NoMemory, Outcome};
-use policy_eval::{Datum, Ending, outcome_of, sent_out};
+use policy_eval::{Datum, sent_out};
 use policy_lang::{Block, Expr, Head, Policy, Statement};
 use std::alloc::Global;
 use std::marker::Model;
 use std::snapshot::Snapshot;
 use thiserror::Error;
+
+// How a part of a policy ends: no step was left for it, with a decision, or with so many steps left
+// for what follows.
+#[derive(Drop)]
+enum Ending {
+    Spends,
+    Decides(Decision),
+    Goes(u32),
+}
 
 fn number_of(field: Field) -> u8
     ensures { result ≡ field_number field }
@@ -211,13 +225,14 @@ fn record_value(
     left: u32,
     items: &mut Vec<Item>,
 ) -> Result<Option<(Datum, u32)>, NoMemory>
+    requires plain { plain_expr expr.now ≡ true }
     ensures { IfOk result (λ given. RecordedValue key.now items.old.items (value_course expr.now) left items.new.items (given_of given)) }
 {
     if left == 0 {
         return Ok(None);
     }
     match expr {
-        Expr::Number(n) => Ok(Some((Datum::Numeral(*n), left - 1))),
+        Expr::Number(n) => Ok(Some((Datum::Number(*n), left - 1))),
         Expr::Is(field, right) => match record_value(right, key, left - 1, items)? {
             None => Ok(None),
             Some((datum, left)) => {
@@ -225,6 +240,7 @@ fn record_value(
                 Ok(Some((Datum::Truth(answer), left)))
             }
         },
+        _ => unreachable!(),
     }
 }
 
@@ -236,6 +252,7 @@ fn record_numbers(
     steps: u32,
     items: &mut Vec<Item>,
 ) -> Result<Option<(Vec<u64>, u32)>, NoMemory>
+    requires plain { list_all plain_expr exprs.now ≡ true }
     ensures { IfOk result (λ given. RecordedNumbers key.now items.old.items exprs.now steps items.new.items (all_given given)) }
 {
     let mut numbers = Vec::new(alloc);
@@ -256,10 +273,12 @@ fn record_head(
     left: u32,
     items: &mut Vec<Item>,
 ) -> Result<Option<(Datum, u32)>, NoMemory>
+    requires plain { plain_head head.now ≡ true }
     ensures { IfOk result (λ given. RecordedValue key.now items.old.items (head_course head.now) left items.new.items (given_of given)) }
 {
     match head {
         Head::Test(expr) => record_value(expr, key, left, items),
+        _ => unreachable!(),
     }
 }
 
@@ -270,13 +289,23 @@ fn record_out(
     left: u32,
     items: &mut Vec<Item>,
 ) -> Result<Ending, NoMemory>
-    requires { length exprs.now ≤ 16 }
-    ensures { IfOk result (λ ending. Recorded key.now items.old.items (out_course exprs.now) left items.new.items (end_of ending)) }
+    requires few { length exprs.now ≤ 16 }
+    requires plain { list_all plain_expr exprs.now ≡ true }
+    ensures { IfOk result (λ ending. Recorded key.now items.old.items (out_course exprs.now) left items.new.items ending) }
 {
     match record_numbers(alloc, exprs, key, left, items)? {
         None => Ok(Ending::Spends),
         Some((numbers, _)) => Ok(Ending::Decides(sent_out(alloc, &numbers)?)),
     }
+}
+
+// The statements of a plain block, each of them plain.
+fn plain_items(block: &Block) -> &[Statement]
+    requires plain { is_plain_block block.now ≡ true }
+    ensures list { result.now ≡ statements_of block.now }
+    ensures plain { list_all is_plain_statement result.now ≡ true }
+{
+    block.items()
 }
 
 #[cycle(recording)]
@@ -287,7 +316,8 @@ fn record_statement(
     left: u32,
     items: &mut Vec<Item>,
 ) -> Result<Ending, NoMemory>
-    ensures { IfOk result (λ ending. Recorded key.now items.old.items (statement_course statement.now) left items.new.items (end_of ending)) }
+    requires plain { is_plain_statement statement.now ≡ true }
+    ensures { IfOk result (λ ending. Recorded key.now items.old.items (statement_course statement.now) left items.new.items ending) }
 {
     if left == 0 {
         return Ok(Ending::Spends);
@@ -299,12 +329,13 @@ fn record_statement(
             None => Ok(Ending::Spends),
             Some((datum, left)) => {
                 if datum.truth() {
-                    record_block(alloc, block.items(), key, left, items)
+                    record_block(alloc, plain_items(block), key, left, items)
                 } else {
                     record_other(alloc, other, key, left, items)
                 }
             }
         },
+        _ => unreachable!(),
     }
 }
 
@@ -316,11 +347,12 @@ fn record_other(
     left: u32,
     items: &mut Vec<Item>,
 ) -> Result<Ending, NoMemory>
-    ensures { IfOk result (λ ending. Recorded key.now items.old.items (otherwise_course (option_map block_course other.now)) left items.new.items (end_of ending)) }
+    requires plain { plain_else (option_map is_plain_block other.now) ≡ true }
+    ensures { IfOk result (λ ending. Recorded key.now items.old.items (otherwise_course (option_map block_course other.now)) left items.new.items ending) }
 {
     match other {
         None => Ok(Ending::Goes(left)),
-        Some(block) => record_block(alloc, block.items(), key, left, items),
+        Some(block) => record_block(alloc, plain_items(block), key, left, items),
     }
 }
 
@@ -332,7 +364,8 @@ fn record_block(
     steps: u32,
     items: &mut Vec<Item>,
 ) -> Result<Ending, NoMemory>
-    ensures { IfOk result (λ ending. Recorded key.now items.old.items (courses (map statement_course statements.now)) steps items.new.items (end_of ending)) }
+    requires plain { list_all is_plain_statement statements.now ≡ true }
+    ensures { IfOk result (λ ending. Recorded key.now items.old.items (courses (map statement_course statements.now)) steps items.new.items ending) }
 {
     let mut left = steps;
     for statement in statements {
@@ -352,9 +385,21 @@ fn record_policy(
     budget: u32,
     items: &mut Vec<Item>,
 ) -> Result<Ending, NoMemory>
-    ensures { IfOk result (λ ending. Recorded key.now items.old.items (block_course body.now) budget items.new.items (end_of ending)) }
+    requires plain { is_plain_block body.now ≡ true }
+    ensures { IfOk result (λ ending. Recorded key.now items.old.items (block_course body.now) budget items.new.items ending) }
 {
-    record_block(alloc, body.items(), key, budget, items)
+    record_block(alloc, plain_items(body), key, budget, items)
+}
+
+// The end of a policy without a decision is a drop.
+fn outcome_of(ending: Ending) -> Outcome
+    ensures { result ≡ outcome_behind ending }
+{
+    match ending {
+        Ending::Spends => Outcome::Spent,
+        Ending::Decides(decision) => Outcome::Decided(decision),
+        Ending::Goes(_) => Outcome::Decided(Decision::Drop),
+    }
 }
 
 /// What a policy asked of a packet in one run, and what it decided of it.
@@ -475,6 +520,7 @@ fn run_of(
 ) -> Result<Run, NoMemory>
     requires key { IsTrue (valid_key key.now) }
     requires budget { IsBudget budget }
+    requires plain { is_plain policy.now ≡ true }
     ensures call { IfOk result (λ run. IsOfCall policy.now number budget switch key.now run) }
     ensures cells { IfOk result (λ run. run.cells ≡ []) }
     ensures whole { IfOk result (λ run. IsWhole policy.now budget key.now run.items run.outcome) }
@@ -493,7 +539,7 @@ fn run_of(
     })
 }
 
-/// Runs a policy on a packet, and records what it asks and decides.
+/// Runs a plain policy on a packet, and records what it asks and decides.
 pub fn record<V: EnvView>(
     alloc: Global,
     policy: &Policy,
@@ -505,6 +551,7 @@ pub fn record<V: EnvView>(
 ) -> Result<Run, RecordError>
     requires key { IsTrue (valid_key key.now) }
     requires budget { IsBudget budget }
+    requires plain { is_plain policy.now ≡ true }
     ensures call { IfOk result (λ run. IsOfCall policy.now number budget switch key.now run) }
     ensures items { IfOk result (λ run. run.items ≡ items_of (course_of policy.now budget) key.now) }
     ensures outcome { IfOk result (λ run. (env : Cell → Value) → Gives env run.cells → run.outcome ≡ eval_of policy.now budget env switch key.now) }

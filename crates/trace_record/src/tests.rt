@@ -1,6 +1,7 @@
 use crate::recording::record;
 use maple_base::{Blank, Decision, Field, Item, Key, Names, NoMemory, Outcome};
 use policy_eval::eval;
+use policy_lang::plain::is_plain;
 use policy_lang::{Block, Expr, Exprs, Head, Policy, Statement};
 use std::alloc::Global;
 use std::process::Abort;
@@ -122,6 +123,7 @@ fn wants(
 ) -> Result<(), Fail> {
     assert!(rt; key.valid());
     assert!(rt; 1 <= budget && budget <= 65536);
+    assert!(rt; is_plain(policy));
     let run = record(alloc, policy, 3, budget, 7, key, &mut Blank)?;
     assert_eq!(rt; run.items().items(), items);
     assert_eq!(rt; answer_of(run.outcome()), answer);

@@ -12,7 +12,7 @@ use Rattle.maple.proofs.sim.run_script.Goals as goal
 
 pub loop-rest-init : goal.loop-rest-init
 loop-rest-init g c =
-    ([], [], record { known = c.new-world.ensures c.args.policy.now; due = refl; told = refl; appended = Appends-nil (g.O.Sink.taken c.args.output.now); count = omega arith })
+    ([], [], record { known = c.new-world.ensures c.args.policy.now c.requires.plain; due = refl; told = refl; appended = Appends-nil (g.O.Sink.taken c.args.output.now); count = omega arith })
 
 pub returns-in_default : goal.returns-in_default
 returns-in_default g c =

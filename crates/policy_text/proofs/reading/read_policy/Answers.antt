@@ -4,6 +4,7 @@ use Rattle.policy_text.specs.PolicyText.{Brace, text_lexemes, block_marks, block
 use Rattle.policy_text.specs.Parsing.{body_marks, marks_of}
 use Rattle.policy_text.proofs.Marks.{block_is}
 use Rattle.policy_text.proofs.Grammar.{unread, read_spells}
+use Rattle.policy_text.proofs.Plainness.{text_plain}
 use Rattle.policy_text.proofs.Values.{too_large}
 use Rattle.policy_text.proofs.reading.read_policy.Goals as goal
 use Rattle.policy_text.proofs.reading.read_policy.Goals.{then-not-are_few-via-then-not-are_few, then-not-are_few-via-else-not-are_few+then-not-is_shallow}
@@ -39,3 +40,6 @@ returns-then-not-are_few-clause-refused c =
       | then-not-are_few-via-else-not-are_few+then-not-is_shallow w ↦
           (too_large body c.args.text.now read (λ few shallow. let f : IsTrue false = w.if-not-is_shallow.ensures.1 shallow in absurd (cc)), refl, refl, refl)
     ]
+
+pub returns-clause-plain : goal.returns-clause-plain
+returns-clause-plain c = text_plain c.args.text.now c.new-2.result (returns-clause-policy c)

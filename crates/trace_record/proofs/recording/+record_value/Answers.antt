@@ -1,5 +1,6 @@
 use Rattle.std.proofs.Common.{◌-◌, ap, arith}
-use Rattle.policy_eval.specs.Evaluated.{datum_of, given_of}
+use Rattle.policy_eval.specs.Data.{datum_of}
+use Rattle.trace_record.specs.Given.{given_of}
 use Rattle.trace_record.proofs.Recordings.{test_recorded}
 use Rattle.trace_record.proofs.recording.+record_value.Goals as goal
 

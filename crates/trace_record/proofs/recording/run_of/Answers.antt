@@ -1,5 +1,5 @@
-use Rattle.std.proofs.Common.{refl, ◌∙◌}
-use Rattle.policy_eval.specs.Evaluated.{end_of}
+use Rattle.std.proofs.Common.{refl, ap, ◌∙◌}
+use Rattle.policy_lang.specs.Plain.{is_plain}
 use Rattle.trace_record.specs.Runs.{Traced}
 use Rattle.trace_record.proofs.RunLaws.{whole_recorded, run_lawful}
 use Rattle.trace_record.proofs.recording.run_of.Goals as goal
@@ -16,11 +16,11 @@ invariant_of-result c =
       budget = c.args.budget;
       policy = c.of.result.value;
     } in
-    run_lawful run c.requires.key c.requires.budget.few (c.new-3.ensures ∙ c.new-2.ensures.items)
-    (whole_recorded c.args.policy.now c.of.result.value c.body.result.now c.args.budget c.args.key.now c.new-items.result.items c.record_policy.new.items.items c.new.result (end_of c.in_ok-ending.ending) c.outcome_of.result
+    run_lawful run (ap is_plain c.of.ensures ∙ c.requires.plain) c.requires.key c.requires.budget.few (c.new-3.ensures ∙ c.new-2.ensures.items)
+    (whole_recorded c.args.policy.now c.of.result.value c.body.result.now c.args.budget c.args.key.now c.new-items.result.items c.record_policy.new.items.items c.new.result c.in_ok-ending.ending c.outcome_of.result
     c.body.ensures c.new-items.ensures.items c.of.ensures c.new.ensures c.outcome_of.ensures c.in_ok-ending.ensures)
 
 pub returns-clause-whole : goal.returns-clause-whole
 returns-clause-whole c =
-    whole_recorded c.args.policy.now c.args.policy.now c.body.result.now c.args.budget c.args.key.now c.new-items.result.items c.record_policy.new.items.items c.new.result (end_of c.in_ok-ending.ending)
+    whole_recorded c.args.policy.now c.args.policy.now c.body.result.now c.args.budget c.args.key.now c.new-items.result.items c.record_policy.new.items.items c.new.result c.in_ok-ending.ending
     c.outcome_of.result c.body.ensures c.new-items.ensures.items refl c.new.ensures c.outcome_of.ensures c.in_ok-ending.ensures

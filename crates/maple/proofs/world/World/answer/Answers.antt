@@ -71,7 +71,7 @@ returns c = λ runs knows unfound.
     let n : c.rules_needed_with-need.result ≡ need policy runs k =
     c.rules_needed_with-need.ensures (leaf_of own) ∙ ap (λ x. rules_needed (insert x (leaf_of own) c.args.self.now.tree)) is
     ∙ ap rules_needed (grows policy runs c.args.self.now knows k c.requires.key unfound) in
-    let d : c.in-Decided.decision ≡ decided (outcome_at (course_of policy 4096) k) = sym (ap decided (ends_as_evaluated policy 4096 blank_value 1 k c.requires.key ∙ o)) in
+    let d : c.in-Decided.decision ≡ decided (outcome_at (course_of policy 4096) k) = sym (ap decided (ends_as_evaluated policy 4096 blank_value 1 k knows.plainly c.requires.key ∙ o)) in
     let same = trace_same c.leaves.result _ c.into_parts-items.result.0 _ c.into_parts-items.result.1 c.in-Decided.decision _ (c.leaves.ensures ∙ leaves_are policy runs c.args.self.now knows k c.requires.key) is (c.into_parts-items.ensures.cells ∙ c.in-Ok.ensures.cells) d in
     on_three _ _ _ _ c.learn.result c.learn.ensures.tree c.learn.ensures.facts c.learn.ensures.barriers
     (λ t f b. learned_step policy runs c.args.self.now knows k c.requires.key unfound c.in-Decided.decision o c.learn.new.self _ _ (is_no_more _ _ n c.if-need.false) c.in_ok-push_answer.ensures

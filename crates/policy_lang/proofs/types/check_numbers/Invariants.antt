@@ -1,0 +1,8 @@
+use Rattle.std.proofs.Common.{drop}
+use Rattle.policy_lang.specs.Walks.{told}
+use Rattle.policy_lang.specs.Scopes.{in_force}
+use Rattle.policy_lang.proofs.Found.{NumbersFound}
+use Rattle.policy_lang.proofs.types.check_numbers.Given as goal
+
+abbrev pub invariant-loop-expr : goal.invariant-loop-expr
+invariant-loop-expr l = NumbersFound l.exprs (in_force l.scope.list.items) l.node (drop l.expr-index l.exprs) (told l.found.fault) l.found.next
