@@ -82,6 +82,34 @@ fn tcp(port: u16) -> Key {
     }
 }
 
+// What is decided of a packet to a port that comes to a switch, in 1 to 65,536 steps.
+fn decided(
+    alloc: Global,
+    policy: &Policy,
+    steps: u32,
+    arrival: (u64, u16),
+) -> Result<Option<Outcome>, NoMemory> {
+    let (switch, port) = arrival;
+    let key = tcp(port);
+    if steps < 1 || 65_536 < steps || !key.valid() {
+        return Ok(None);
+    }
+    Ok(Some(eval(alloc, policy, steps, &Line, switch, &key)?))
+}
+
+fn is_decided(
+    alloc: Global,
+    policy: &Policy,
+    steps: u32,
+    arrival: (u64, u16),
+    wanted: Wanted,
+) -> Result<bool, NoMemory> {
+    match decided(alloc, policy, steps, arrival)? {
+        None => Ok(false),
+        Some(outcome) => Ok(is_wanted(&outcome, wanted)),
+    }
+}
+
 // A packet to a port comes to a switch, and in so many steps this is decided; in one less, nothing.
 fn takes(
     rt: &impl Abort,
@@ -91,19 +119,12 @@ fn takes(
     arrival: (u64, u16),
     wanted: Wanted,
 ) -> Result<(), Fail> {
-    let (switch, port) = arrival;
     let policy = Policy::new(Names::new(Vec::new(alloc)), false, Block::new(body));
-    let key = tcp(port);
-    assert!(rt; key.valid());
-    assert!(rt; 1 <= steps && steps <= 65536);
-    let outcome = eval(alloc, &policy, steps, &Line, switch, &key)?;
-    assert!(rt; is_wanted(&outcome, wanted), "in {steps} steps");
+    let exact = is_decided(alloc, &policy, steps, arrival, wanted)?;
+    assert!(rt; exact, "in {steps} steps");
     if 1 < steps {
-        let short = eval(alloc, &policy, steps - 1, &Line, switch, &key)?;
-        assert!(rt;
-            is_wanted(&short, Wanted::Spent),
-            "in a step less than {steps}"
-        );
+        let short = is_decided(alloc, &policy, steps - 1, arrival, Wanted::Spent)?;
+        assert!(rt; short, "in a step less than {steps}");
     }
     Ok(())
 }
