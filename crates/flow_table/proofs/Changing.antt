@@ -10,7 +10,7 @@ use Rattle.maple_base.specs.declared.decision.Rule.{Rule}
 use Rattle.maple_base.specs.declared.decision.TableMod.TheVariants.{Add, DeleteStrict}
 use Rattle.flow_table.specs.declared.applied.Applied.TheVariants.{Added, Replaced, Deleted, Full}
 use Rattle.flow_table.specs.Effects.{is_at, others, answer_of}
-use Rattle.flow_table.specs.Tables.{Differ}
+use Rattle.maple_base.specs.Choice.{Differ}
 use Rattle.flow_table.specs.Orders.{NoneAt, StandsAt}
 use Rattle.flow_table.proofs.Places.{none_kept, rest_kept, any_none, put_at}
 use Rattle.flow_table.proofs.Keeping.{others_differ}

@@ -7,9 +7,8 @@ use Rattle.std.proofs.lemmas.List.Edits.{length-insert, length-remove, get_or-in
 use Rattle.std.proofs.lemmas.List.Quantifiers.{all_pairs_remove}
 use Rattle.maple_base.specs.declared.key.Match.{Match}
 use Rattle.maple_base.specs.declared.decision.Rule.{Rule}
-use Rattle.maple_base.specs.Choice.{stands_above}
+use Rattle.maple_base.specs.Choice.{Differ, stands_above}
 use Rattle.flow_table.specs.Effects.{is_at}
-use Rattle.flow_table.specs.Tables.{Differ}
 use Rattle.flow_table.specs.Orders.{IsNotAbove, IsKept, NoneAt, StandsAt, IsPlaceFor}
 use Rattle.flow_table.proofs.Matches.{at_is, at_of}
 

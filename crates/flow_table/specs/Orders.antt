@@ -3,9 +3,9 @@ use Rattle.std.specs.Prelude.{◌≡◌, ℕ, false, true, ◌≤◌, ◌<◌, �
 use Rattle.std.specs.List.{All, AllPairs, slice_index_or}
 use Rattle.maple_base.specs.declared.key.Match.{Match}
 use Rattle.maple_base.specs.declared.decision.Rule.{Rule}
-use Rattle.maple_base.specs.Choice.{stands_above}
+use Rattle.maple_base.specs.Choice.{Differ, stands_above}
 use Rattle.flow_table.specs.Effects.{is_at}
-use Rattle.flow_table.specs.Tables.{Entries, Differ}
+use Rattle.flow_table.specs.Tables.{Entries}
 
 abbrev pub IsNotAbove : Rule → Rule → Type 0
 IsNotAbove r q = stands_above q r ≡ false

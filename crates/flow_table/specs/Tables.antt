@@ -12,10 +12,6 @@ pub record Entries : Type 0 where
   pub rules : List Rule
   pub capacity : ℕ
 
--- two rules differ in match or priority
-abbrev pub Differ : Rule → Rule → Type 0
-Differ r q = r.of ≡ q.of → r.priority ≡ q.priority → ⊥
-
 -- a change that was refused leaves the table as it was; any other has its effect, in whatever order
 abbrev pub Leaves : Applied → TableMod → Entries → Entries → Type 0
 Leaves Full change old new = new ≡ old

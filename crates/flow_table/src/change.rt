@@ -4,7 +4,8 @@ ghost use Rattle.std.specs.List.{AllPairs};
 ghost use Rattle.maple_base.specs.declared.decision.TableMod.TheVariants.{Add, DeleteStrict, DeleteAll};
 ghost use Rattle.flow_table.specs.declared.applied.Applied.TheVariants.{Added, NoMemory};
 ghost use Rattle.flow_table.specs.Effects.{answer_of};
-ghost use Rattle.flow_table.specs.Tables.{Differ, Leaves};
+ghost use Rattle.maple_base.specs.Choice.{Differ};
+ghost use Rattle.flow_table.specs.Tables.{Leaves};
 ghost use Rattle.flow_table.specs.Orders.{IsKept, entries};
 
 use crate::Applied;

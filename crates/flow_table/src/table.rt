@@ -1,10 +1,10 @@
 ghost use Rattle.std.specs.Prelude.{◌≡◌, ◌≤◌, ◌⊎◌, [], false, length, Contains, IfSome, IfNone};
 ghost use Rattle.std.specs.List.{AllPairs};
 ghost use Rattle.maple_base.specs.declared.decision.Rule.{Rule};
-ghost use Rattle.maple_base.specs.Choice.{MayChoose, fits};
+ghost use Rattle.maple_base.specs.Choice.{Differ, MayChoose, fits};
 ghost use Rattle.flow_table.specs.declared.applied.Applied.TheVariants.{Added, NoMemory};
 ghost use Rattle.flow_table.specs.Effects.{answer_of};
-ghost use Rattle.flow_table.specs.Tables.{Differ, Leaves};
+ghost use Rattle.flow_table.specs.Tables.{Leaves};
 
 use crate::Applied;
 use crate::change::{add, delete_all, delete_strict};

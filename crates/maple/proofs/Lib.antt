@@ -7,5 +7,4 @@ pub mod Marks
 pub mod OneWord
 pub mod Pieces
 pub mod Runs
-pub mod Splits
 pub mod Tops

@@ -9,4 +9,3 @@ pub mod Report
 pub mod Running
 pub mod Runs
 pub mod Statuses
-pub mod Words

@@ -8,7 +8,7 @@ use Rattle.maple_base.specs.declared.key.Key.{Key}
 use Rattle.maple_base.specs.declared.key.Match.{Match}
 use Rattle.maple_base.specs.Keys.{width_of, valid_key, anything, fix, fixed_of}
 use Rattle.maple_base.specs.Numbers.{number_of}
-use Rattle.maple.specs.Words.{len_to}
+use Rattle.maple_base.specs.Parts.{len_to}
 
 -- the fields that a line may name, by their names
 abbrev pub field_names : List (List ℕ × Field)

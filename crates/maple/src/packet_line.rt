@@ -1,11 +1,10 @@
 // The packet lines of a script.
 ghost use Rattle.std.specs.Prelude.{◌≡◌, ◌==◌, ◌<◌, ◌≤◌, ◌^◌, ◌∷◌, nat_lt, length, IfSome, IsTrue, Some};
-ghost use Rattle.std.specs.List.{slice_split};
 ghost use Rattle.maple_base.specs.Keys.{width_of, anything, valid_key};
 ghost use Rattle.maple.specs.PacketLine.{packet_of, field_names, named_in, field_word, within_width, named, named_by, key_by, has_frame, framed};
-ghost use Rattle.maple.specs.Words.{rest_words, len_to};
+ghost use Rattle.maple_base.specs.Parts.{rest_parts};
 
-use maple_base::{Field, Key, Match, number_of};
+use maple_base::{Field, Key, Match, cut, len_to, number_of};
 
 /// The key of a line `packet 1 P field=N ..`, with P and N in decimal digits. Fields that it
 /// doesn't name are 0, except dl_vlan 0xffff, dl_type 0x0800, and nw_proto 6 behind an IP type.
@@ -18,9 +17,9 @@ pub fn packet_line(line: &[u8]) -> Option<Key>
     if line.len() > 8_192 {
         return None;
     }
-    let (command, rest) = cut_word(line);
-    let (place, rest) = cut_word(rest?);
-    let (port, rest) = cut_word(rest?);
+    let (command, rest) = cut(b' ', line);
+    let (place, rest) = cut(b' ', rest?);
+    let (port, rest) = cut(b' ', rest?);
     if command != b"packet".as_slice() || place != b"1".as_slice() {
         return None;
     }
@@ -31,40 +30,14 @@ pub fn packet_line(line: &[u8]) -> Option<Key>
     framed(key_by(port as u16, named_fields(rest)?))
 }
 
-// The first word of a text, up to a space, and what is behind that space.
-fn cut_word(text: &[u8]) -> (&[u8], Option<&[u8]>)
-    ensures words { slice_split (λ b. b == 32) text.now ≡ result.0.now ∷ rest_words result.1 }
-    ensures shorter { IfSome result.1 (λ rest. length rest.now < length text.now) }
-{
-    let at = len_to(b' ', text);
-    if at == text.len() {
-        (text, None)
-    } else {
-        (&text[..at], Some(&text[at + 1..]))
-    }
-}
-
-// How many bytes stand ahead of the first of this kind.
-fn len_to(stop: u8, text: &[u8]) -> usize
-    ensures length { result ≡ len_to stop text.now }
-    ensures bound { result ≤ length text.now }
-{
-    for (at, byte) in text.iter().enumerate() {
-        if *byte == stop {
-            return at;
-        }
-    }
-    text.len()
-}
-
 // The fields that the words of a text name, each at most once.
 fn named_fields(words: Option<&[u8]>) -> Option<Match>
-    ensures { result ≡ named_by (rest_words words.entry) anything }
+    ensures { result ≡ named_by (rest_parts 32 words.entry) anything }
 {
     let mut fields = Match::any();
     let mut rest = words;
     while let Some(text) = rest {
-        let (word, behind) = cut_word(text);
+        let (word, behind) = cut(b' ', text);
         fields = with_named(fields, word)?;
         rest = behind;
     }

@@ -16,3 +16,7 @@ pub record MayChoose (table : List Rule) (k : Key) (r : Rule) : Type 0 where
   pub there : Contains table r
   pub fitting : fits r k ≡ true
   pub top : (q : Rule) → Contains table q → fits q k ≡ true → stands_above q r ≡ false
+
+-- two rules differ in match or in priority
+abbrev pub Differ : Rule → Rule → Type 0
+Differ r q = r.of ≡ q.of → r.priority ≡ q.priority → ⊥

@@ -1,5 +1,7 @@
 // Rows worked out by hand from the standard's tables.
-use crate::{Actions, Decision, Key, Match, Name, Path, Place, number_of};
+use crate::{
+    Actions, Decision, Key, Match, Name, Numeral, Path, Place, cut, number_of, numeral_of, value_of,
+};
 use std::test::Fail;
 
 // A TCP packet without a tag.
@@ -177,6 +179,80 @@ fn names_and_numbers(rt: HostRuntime) -> Result<(), Fail> {
     for (text, number) in numbers {
         assert_eq!(rt; number_of(text.as_bytes()), number, "{text}");
     }
+    Ok(())
+}
+
+#[test]
+fn numbers_of_every_spelling(rt: HostRuntime) -> Result<(), Fail> {
+    let numbers = [
+        ("0", Some(Numeral::Number(0))),
+        ("00022", Some(Numeral::Number(22))),
+        ("0x16", Some(Numeral::Number(22))),
+        ("0xFf", Some(Numeral::Number(255))),
+        ("0xffffffffffffffff", Some(Numeral::Number(u64::MAX))),
+        ("18446744073709551615", Some(Numeral::Number(u64::MAX))),
+        ("18446744073709551616", Some(Numeral::TooGreat)),
+        ("10.0.0.7", Some(Numeral::Number(167_772_167))),
+        ("010.00.0.255", Some(Numeral::Number(167_772_415))),
+        ("10.0.0.256", Some(Numeral::TooGreat)),
+        (
+            "02:00:00:00:00:0A",
+            Some(Numeral::Number(2_199_023_255_562)),
+        ),
+    ];
+    for (text, numeral) in numbers {
+        assert_eq!(rt; numeral_of(text.as_bytes()), numeral, "{text}");
+    }
+    Ok(())
+}
+
+#[test]
+fn words_that_are_no_numbers(rt: HostRuntime) -> Result<(), Fail> {
+    let words = [
+        "",
+        "0x",
+        "0X16",
+        "0x10000000000000000",
+        "0xg",
+        "1a",
+        "10.0.0",
+        "10.0.0.7.1",
+        "10..0.7",
+        "10.0.0.a",
+        "2:00:00:00:00:01",
+        "02:00:00:00:00",
+        "02:00:00:00:00:01:02",
+        "02:00:00:00:00:0g",
+    ];
+    for text in words {
+        assert_eq!(rt; numeral_of(text.as_bytes()), None, "{text}");
+        assert_eq!(rt; value_of(text.as_bytes()), None, "{text}");
+    }
+    assert_eq!(rt; value_of(b"10.0.0.256"), None);
+    assert_eq!(rt; value_of(b"0x16"), Some(22));
+    Ok(())
+}
+
+#[test]
+fn names_of_fields(rt: HostRuntime) -> Result<(), Fail> {
+    assert_eq!(rt; Field::named(b"tp_dst"), Some(Field::TpDst));
+    assert_eq!(rt; Field::named(b"in_port"), Some(Field::InPort));
+    assert_eq!(rt; Field::named(b"dl_vlan_pcp"), None);
+    assert_eq!(rt; Field::DlType.name(), b"dl_type".as_slice());
+    Ok(())
+}
+
+#[test]
+fn parts_of_a_text(rt: HostRuntime) -> Result<(), Fail> {
+    let (first, rest) = cut(b' ', b"turn 1  3");
+    assert_eq!(rt; first, b"turn".as_slice());
+    let (second, rest) = cut(b' ', rest.ok_or("a second part")?);
+    assert_eq!(rt; second, b"1".as_slice());
+    let (third, rest) = cut(b' ', rest.ok_or("a third part")?);
+    assert_eq!(rt; third.len(), 0);
+    let (fourth, rest) = cut(b' ', rest.ok_or("a fourth part")?);
+    assert_eq!(rt; fourth, b"3".as_slice());
+    assert_eq!(rt; rest.is_none(), true);
     Ok(())
 }
 

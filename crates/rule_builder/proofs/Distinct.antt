@@ -15,7 +15,8 @@ use Rattle.trace_tree.specs.Shape.{Shape, Branches, Empty, Ends, Reads, Tests, N
 use Rattle.trace_tree.specs.Growth.{IsBelow, IsOrdered, AreOrdered, scratch}
 use Rattle.trace_tree.proofs.Growths.{same_field_is, grown_ordered}
 use Rattle.rule_builder.specs.Rules.{with_barrier, levels_of, fact, facts_of, facts_in, barrier_behind, barriers_of, barriers_in, rules_of}
-use Rattle.rule_builder.specs.Laws.{Differ, DistinctLaw}
+use Rattle.maple_base.specs.Choice.{Differ}
+use Rattle.rule_builder.specs.Laws.{DistinctLaw}
 use Rattle.rule_builder.proofs.Leading.{IsFresh, AreFresh}
 use Rattle.rule_builder.proofs.Fixes.{fixed_of-fix, same_refl}
 use Rattle.rule_builder.proofs.Fresh.{grown_fresh}

@@ -3,6 +3,7 @@ use Rattle.std.specs.Prelude.{◌≡◌, ℕ, ◌+◌, ◌<◌, ◌≤◌, true,
 use Rattle.std.specs.List.{AllPairs}
 use Rattle.std.specs.List.Sorted.{IsPermutation}
 use Rattle.maple_base.specs.declared.decision.Rule.{Rule}
+use Rattle.maple_base.specs.Choice.{Differ}
 use Rattle.maple_base.specs.Keys.{match_exact, match_normal}
 use Rattle.maple_base.specs.declared.items.Item.{Item}
 use Rattle.trace_tree.specs.declared.node.Leaf.{Leaf}
@@ -32,10 +33,6 @@ LevelsLaw = (t : Shape) → IsGreatest (rules_of t) (levels_of t)
 -- a rule that must stand below another has the lesser priority
 abbrev pub BelowLaw : Type 0
 BelowLaw = (t : Shape) (r q : Rule) → MustStandBelow t r q → r.priority < q.priority
-
--- they differ in match or in priority
-abbrev pub Differ : Rule → Rule → Type 0
-Differ r q = r.of ≡ q.of → r.priority ≡ q.priority → ⊥
 
 -- the rules of a list of runs, in any order, differ from each other
 abbrev pub DistinctLaw : Type 0

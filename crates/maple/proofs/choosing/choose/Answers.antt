@@ -1,5 +1,6 @@
 use Rattle.std.proofs.Common.{sym, ◌∙◌, refl}
-use Rattle.maple.proofs.Choosings.{none_of_both, fact_of_both, barrier_of_both, not_above, not_both}
+use Rattle.maple_base.proofs.Standing.{not_above, not_both}
+use Rattle.maple.proofs.Choosings.{none_of_both, fact_of_both, barrier_of_both}
 use Rattle.maple.proofs.choosing.choose.Goals as goal
 
 pub returns-in-None-None : goal.returns-in-None-None

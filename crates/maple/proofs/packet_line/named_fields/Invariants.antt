@@ -2,7 +2,7 @@ use Rattle.std.proofs.Common.{◌≡◌, ℕ, ◌+◌, length, List, Option, Som
 use Rattle.std.specs.Borrow.{Bor}
 use Rattle.maple_base.specs.Keys.{anything}
 use Rattle.maple.specs.PacketLine.{named_by}
-use Rattle.maple.specs.Words.{rest_words}
+use Rattle.maple_base.specs.Parts.{rest_parts}
 use Rattle.maple.proofs.packet_line.named_fields.Given as goal
 
 abbrev left_of : Option (Bor (List ℕ)) → ℕ
@@ -11,7 +11,7 @@ left_of (Some rest) = 1 + length rest.now
 
 -- the fields so far, and those of the rest
 abbrev pub invariant-loop-rest : goal.invariant-loop-rest
-invariant-loop-rest l = named_by (rest_words l.rest) l.fields ≡ named_by (rest_words l.words) anything
+invariant-loop-rest l = named_by (rest_parts 32 l.rest) l.fields ≡ named_by (rest_parts 32 l.words) anything
 
 abbrev pub decreases-loop-rest : goal.decreases-loop-rest
 decreases-loop-rest l = left_of l.rest

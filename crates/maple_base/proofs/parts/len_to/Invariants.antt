@@ -1,6 +1,6 @@
 use Rattle.std.proofs.Common.{◌≡◌, ◌+◌, drop}
-use Rattle.maple.specs.Words.{len_to}
-use Rattle.maple.proofs.packet_line.len_to.Given as goal
+use Rattle.maple_base.specs.Parts.{len_to}
+use Rattle.maple_base.proofs.parts.len_to.Given as goal
 
 -- the rest goes on
 abbrev pub invariant-loop-at : goal.invariant-loop-at
