@@ -1,6 +1,7 @@
 // Rows worked out by hand from the standard's tables.
 use crate::{
-    Actions, Decision, Key, Match, Name, Numeral, Path, Place, cut, number_of, numeral_of, value_of,
+    Actions, Decision, Field, Key, Match, Name, Numeral, Path, Place, cut, number_of, numeral_of,
+    value_of,
 };
 use std::test::Fail;
 
