@@ -1,8 +1,6 @@
 use crate::eval;
-use maple_base::{
-    Cell, Decision, EnvNow, Field, Key, Name, Names, NoMemory, Outcome, Place, Value,
-};
-use policy_lang::{Block, Expr, Exprs, Head, Policy, Statement};
+use maple_base::{Cell, Decision, EnvNow, Field, Key, Name, NoMemory, Outcome, Place, Value};
+use policy_lang::{Block, BuildError, Expr, Exprs, Head, Policy, Statement};
 use std::alloc::Global;
 use std::process::Abort;
 use std::test::Fail;
@@ -110,6 +108,15 @@ fn is_decided(
     }
 }
 
+// A policy with a table `t`.
+fn policy(alloc: Global, body: Vec<Statement>) -> Result<Policy, BuildError> {
+    let mut tables = Vec::new(alloc);
+    if let Some(table) = Name::new(b"t") {
+        tables.push(table).map_err(NoMemory::from)?;
+    }
+    Policy::build(alloc, tables, false, Block::new(body))
+}
+
 // A packet to a port comes to a switch, and in so many steps this is decided; in one less, nothing.
 fn takes(
     rt: &impl Abort,
@@ -119,7 +126,7 @@ fn takes(
     arrival: (u64, u16),
     wanted: Wanted,
 ) -> Result<(), Fail> {
-    let policy = Policy::new(Names::new(Vec::new(alloc)), false, Block::new(body));
+    let policy = policy(alloc, body)?;
     let exact = is_decided(alloc, &policy, steps, arrival, wanted)?;
     assert!(rt; exact, "in {steps} steps");
     if 1 < steps {
@@ -257,9 +264,7 @@ fn gives_numbers(rt: HostRuntime) -> Result<(), Fail> {
     let field = vec![in alloc; out(alloc, Expr::Packet(Field::TpDst))?]?;
     takes(&rt, alloc, field, 2, (1, 80), Wanted::Ports(&[80]))?;
     let switch = vec![in alloc; out(alloc, Expr::PacketSwitch)?]?;
-    takes(&rt, alloc, switch, 2, (12, 80), Wanted::Ports(&[12]))?;
-    let truth = vec![in alloc; out(alloc, pair(alloc, Form::Less, 1, 2)?)?]?;
-    takes(&rt, alloc, truth, 4, (1, 80), Wanted::Nowhere)
+    takes(&rt, alloc, switch, 2, (12, 80), Wanted::Ports(&[12]))
 }
 
 // if E { out 1; } out 2; where E compares two numbers
@@ -337,29 +342,46 @@ fn reads_a_place(rt: HostRuntime) -> Result<(), Fail> {
     takes(&rt, alloc, body, 7, (1, 80), Wanted::Ports(&[6, 7]))
 }
 
-// let x = 5; if 1 == 1 { let y = 6; x = 7; } out x; and out y; in its place
+// if 1 == 1 { let y = 6; x = 7; }
+fn block_of_its_own(alloc: Global, x: Name, y: Name) -> Result<Statement, NoMemory> {
+    let inner = vec![in alloc;
+        Statement::Let(y, number(6)),
+        Statement::Assign(x, number(7)),
+    ]?;
+    let test = Head::Test(pair(alloc, Form::Equal, 1, 1)?);
+    Ok(Statement::If(test, Block::new(inner), None))
+}
+
+// let x = 5; if 1 == 1 { let y = 6; x = 7; } out x;
+#[test]
+fn assigns_in_a_block(rt: HostRuntime) -> Result<(), Fail> {
+    let alloc = rt.alloc();
+    let x = name(&rt, b"x");
+    let y = name(&rt, b"y");
+    let body = vec![in alloc;
+        Statement::Let(x, number(5)),
+        block_of_its_own(alloc, x, y)?,
+        out(alloc, Expr::Var(x))?,
+    ]?;
+    takes(&rt, alloc, body, 12, (1, 80), Wanted::Ports(&[7]))
+}
+
+// let x = 5; if 1 == 1 { let y = 6; x = 7; } let y = 8; out y;
 #[test]
 fn leaves_a_block(rt: HostRuntime) -> Result<(), Fail> {
     let alloc = rt.alloc();
     let x = name(&rt, b"x");
     let y = name(&rt, b"y");
-    for (port, wanted) in [(x, Wanted::Ports(&[7])), (y, Wanted::Nowhere)] {
-        let inner = vec![in alloc;
-            Statement::Let(y, number(6)),
-            Statement::Assign(x, number(7)),
-        ]?;
-        let test = Head::Test(pair(alloc, Form::Equal, 1, 1)?);
-        let body = vec![in alloc;
-            Statement::Let(x, number(5)),
-            Statement::If(test, Block::new(inner), None),
-            out(alloc, Expr::Var(port))?,
-        ]?;
-        takes(&rt, alloc, body, 12, (1, 80), wanted)?;
-    }
-    Ok(())
+    let body = vec![in alloc;
+        Statement::Let(x, number(5)),
+        block_of_its_own(alloc, x, y)?,
+        Statement::Let(y, number(8)),
+        out(alloc, Expr::Var(y))?,
+    ]?;
+    takes(&rt, alloc, body, 14, (1, 80), Wanted::Ports(&[8]))
 }
 
-// if host 5 as p { } out p.port;
+// if host 5 as p { } let p = at(3, 6); out p.port;
 #[test]
 fn leaves_a_head(rt: HostRuntime) -> Result<(), Fail> {
     let alloc = rt.alloc();
@@ -367,9 +389,10 @@ fn leaves_a_head(rt: HostRuntime) -> Result<(), Fail> {
     let head = Head::Host(number(5), p);
     let body = vec![in alloc;
         Statement::If(head, Block::new(Vec::new(alloc)), None),
+        Statement::Let(p, pair(alloc, Form::At, 3, 6)?),
         out(alloc, Expr::PortOf(p))?,
     ]?;
-    takes(&rt, alloc, body, 5, (1, 80), Wanted::Nowhere)
+    takes(&rt, alloc, body, 9, (1, 80), Wanted::Ports(&[6]))
 }
 
 // let n = 0; while n < 3 { n = n + 1; } out n;

@@ -1,8 +1,9 @@
 -- Loops over expressions and statements whose names and types are looked at.
-use Rattle.std.proofs.Common.{◌≡◌, ℕ, ◌+◌, ◌-◌, ◌<◌, ◌≤◌, Bool, true, false, cond, zero, suc, List, [], ◌∷◌, ◌++◌, map, drop, length, get_or, refl, sym, ap, ◌∙◌, subst, arith}
+use Rattle.std.proofs.Common.{◌≡◌, ℕ, ◌+◌, ◌-◌, ◌<◌, ◌≤◌, Bool, true, false, cond, zero, suc, List, [], ◌∷◌, ◌++◌, map, take, drop, length, get_or, append_assoc, refl, sym, ap, ◌∙◌, subst, arith}
 use Rattle.std.specs.Prelude.{Option, Some, None, is_some}
 use Rattle.std.specs.Option.{option_map}
-use Rattle.std.proofs.lemmas.List.{drop_all}
+use Rattle.std.proofs.lemmas.List.{drop_all, append-nil}
+use Rattle.std.proofs.Math.Seq.{take-append_seam}
 use Rattle.policy_lang.specs.declared.Expr.{Expr}
 use Rattle.policy_lang.specs.declared.Head.{Head}
 use Rattle.policy_lang.specs.declared.Head.TheVariants.{Host, Hop, Lookup, Test}
@@ -54,42 +55,24 @@ numbers_all_found es names n i found next h left =
 -- ---- names
 
 pub inner_none : (names : Names) → IsInner names names
-inner_none names = record { longer = omega arith; rest = ap (λ k. drop k names) (let z : length names - length names ≡ 0 = omega arith in z) }
+inner_none names = record { declared = []; is = sym (append-nil names) }
 
 pub inner_same : (new old : Names) → new ≡ old → IsInner new old
 inner_same new old e = subst (λ l. IsInner l old) (sym e) (inner_none old)
 
-pub inner_more : (names outer : Names) (p : List ℕ × Meaning) → IsInner names outer → IsInner (p ∷ names) outer
-inner_more names outer p h =
-    let longer = h.longer in
-    let k : length (p ∷ names) - length outer ≡ suc (length names - length outer) = omega arith in
-    record { longer = omega arith; rest = ap (λ j. drop j (p ∷ names)) k ∙ h.rest }
-
 pub inner_named : (x : List ℕ) (m : Meaning) (names : Names) → IsInner (with_name x m names) names
 inner_named x m names = by (is_some (meaning_of x names))
   where
-    by : (b : Bool) → IsInner (cond b names ((x, m) ∷ names)) names
+    by : (b : Bool) → IsInner (cond b names (names ++ (x, m) ∷ [])) names
     by true = inner_none names
-    by false = inner_more names names (x, m) (inner_none names)
-
-drop_more : (k j : ℕ) (l : Names) → drop k (drop j l) ≡ drop (k + j) l
-drop_more k zero l = ap (λ i. drop i l) (let z : k ≡ k + 0 = omega arith in z)
-drop_more k (suc j) [] = drop_empty k ∙ sym (drop_empty (k + suc j))
-  where
-    drop_empty : (i : ℕ) → drop i (let e : Names = [] in e) ≡ []
-    drop_empty zero = refl
-    drop_empty (suc i) = refl
-drop_more k (suc j) (x ∷ l) = drop_more k j l ∙ ap (λ i. drop i (x ∷ l)) (let z : suc (k + j) ≡ k + suc j = omega arith in z)
+    by false = record { declared = (x, m) ∷ []; is = refl }
 
 pub inner_trans : (a b c : Names) → IsInner a b → IsInner b c → IsInner a c
-inner_trans a b c h k =
-    let p = h.longer in
-    let q = k.longer in
-    let split : length a - length c ≡ (length b - length c) + (length a - length b) = omega arith in
-    record {
-      longer = omega arith;
-      rest = ap (λ i. drop i a) split ∙ sym (drop_more (length b - length c) (length a - length b) a) ∙ ap (drop (length b - length c)) h.rest ∙ k.rest;
-    }
+inner_trans a b c h k = record { declared = k.declared ++ h.declared; is = h.is ∙ ap (λ l. l ++ h.declared) k.is ∙ append_assoc c k.declared h.declared }
+
+-- what was in force ahead of a block's own names stands first
+front_of : (inner outer : Names) → IsInner inner outer → take (length outer) inner ≡ outer
+front_of inner outer h = ap (take (length outer)) h.is ∙ take-append_seam outer h.declared
 
 -- ---- statements
 
@@ -127,10 +110,10 @@ all_more_found ss outer names after_names n i s found new next after h q left ne
     }
 
 pub all_all_found : (ss : List Statement) (outer names : Names) (n i : ℕ) (found : Option Fault) (next : ℕ) → length ss ≤ i → AllFound ss outer n (drop i ss) names found next
-    → (found ≡ first_of (wrong_in (map statement_checked ss) outer n)) × (next ≡ n + sizes_in (map statement_checked ss)) × (drop (length names - length outer) names ≡ outer)
+    → (found ≡ first_of (wrong_in (map statement_checked ss) outer n)) × (next ≡ n + sizes_in (map statement_checked ss)) × (take (length outer) names ≡ outer)
 all_all_found ss outer names n i found next h left =
     let done = subst (λ l. AllFound ss outer n l names found next) (drop_all i ss h) left in
-    (sym (merged_none found) ∙ done.fault, (let z = done.size in omega arith), done.inner.rest)
+    (sym (merged_none found) ∙ done.fault, (let z = done.size in omega arith), front_of names outer done.inner)
 
 inner_behind : (h : Head) (names : Names) → IsInner (names_behind h names) names
 inner_behind (Host e x) names = inner_named x (Variable (Some PlaceType)) names
@@ -139,8 +122,8 @@ inner_behind (Lookup t e x) names = inner_named x (Variable (Some NumberType)) n
 inner_behind (Test e) names = inner_none names
 
 -- behind the first block of an `if` the name that its head binds is not in force
-pub left_behind : (h : Head) (names : Names) → drop (length (names_behind h names) - length names) (names_behind h names) ≡ names
-left_behind h names = (inner_behind h names).rest
+pub left_behind : (h : Head) (names : Names) → take (length names) (names_behind h names) ≡ names
+left_behind h names = front_of (names_behind h names) names (inner_behind h names)
 
 -- ---- parts of a statement
 
@@ -175,14 +158,13 @@ while_found e b items names n asked found done asked_is items_are found_is fault
       next = next_is ∙ inside.next;
     }
 
-left_names : (h : Head) (names inner : Names) (outer : ℕ) → inner ≡ names_behind h names → outer ≡ length names → drop (length inner - outer) inner ≡ names
-left_names h names inner outer inner_is outer_is =
-    ap (λ l. drop (length l - outer) l) inner_is ∙ ap (λ k. drop (length (names_behind h names) - k) (names_behind h names)) outer_is ∙ left_behind h names
+left_names : (h : Head) (names inner : Names) (outer : ℕ) → inner ≡ names_behind h names → outer ≡ length names → take outer inner ≡ names
+left_names h names inner outer inner_is outer_is = ap (take outer) inner_is ∙ ap (λ k. take k (names_behind h names)) outer_is ∙ left_behind h names
 
 pub if_found : (h : Head) (b : Block) (o : Option Block) (names : Names) (n : ℕ) (asked first second done : Found) (items : List Statement) (inner behind after : Names) (outer : ℕ)
     → IsFound asked (head_faults h names n) (n + size_of_head h) → items ≡ statements_of b → inner ≡ names_behind h names
     → IsFound first (wrong_in (map statement_checked items) inner asked.next) (asked.next + sizes_in (map statement_checked items))
-    → behind ≡ inner → outer ≡ length names → after ≡ drop (length behind - outer) behind
+    → behind ≡ inner → outer ≡ length names → after ≡ take outer behind
     → IsFound second (wrong_otherwise (option_map checked o) after first.next) (first.next + size_otherwise (option_map checked o))
     → told done.fault ≡ merged (merged (told asked.fault) (told first.fault)) (told second.fault) → done.next ≡ second.next
     → IsFound done (if_faults h (checked b) (option_map checked o) names n) (n + size_of_head h + (checked b).size + size_otherwise (option_map checked o))

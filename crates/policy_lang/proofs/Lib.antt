@@ -18,6 +18,7 @@ pub mod Rows
 pub mod SameNames
 pub mod Scopes
 pub mod Shapes
+pub mod Sizes
 pub mod Tables
 pub mod Told
 pub mod Walked

@@ -1,94 +1,57 @@
--- The names in force, as they are kept.
-use Rattle.std.proofs.Common.{◌≡◌, ℕ, ◌+◌, ◌-◌, ◌<◌, ◌≤◌, suc, add-one, Bool, true, false, cond, List, [], ◌∷◌, ◌++◌, take, drop, length, get_or, refl, sym, ap, ◌∙◌, inl, inr, arith, length-append, length-drop}
+-- The names in force, as a map in the order of insertion keeps them.
+use Rattle.std.proofs.Common.{◌≡◌, ℕ, zero, suc, Bool, true, false, cond, List, [], ◌∷◌, ◌++◌, take, length, refl, sym, ap, ◌∙◌}
 use Rattle.std.specs.Prelude.{Option, Some, None, is_some}
 use Rattle.std.specs.Str.{bytes_eq}
-use Rattle.std.proofs.Math.Seq.{drop-cons, take-suc, take-length, drop-append_seam}
-use Rattle.std.proofs.lemmas.List.{take-append-drop, take_all}
-use Rattle.std.proofs.lemmas.Bool.{cases_lt}
-use Rattle.policy_lang.specs.declared.names.Entry.{Entry}
-use Rattle.policy_lang.specs.Faults.{Meaning, Table, Names, meaning_of, with_name, table_names}
+use Rattle.std.specs.Map.{lookup}
+use Rattle.policy_lang.specs.declared.names.Meaning.{Meaning as Kept}
+use Rattle.policy_lang.specs.Faults.{Meaning, meaning_of, with_name}
 use Rattle.policy_lang.specs.Scopes.{meaning_of_value, meaning_known, in_force}
 
-abbrev pub named : Entry → List ℕ × Meaning
-named e = (e.name, meaning_of_value e.meaning)
-
--- the entry that was kept last comes first
-pub in_force_push : (es : List Entry) (e : Entry) → in_force (es ++ e ∷ []) ≡ named e ∷ in_force es
-in_force_push [] e = refl
-in_force_push (d ∷ es) e = ap (λ l. l ++ named d ∷ []) (in_force_push es e)
-
-pub length_in_force : (es : List Entry) → length (in_force es) ≡ length es
+pub length_in_force : (es : List (List ℕ × Kept)) → length (in_force es) ≡ length es
 length_in_force [] = refl
-length_in_force (e ∷ es) = omega (arith, length-append (in_force es) (named e ∷ []), length_in_force es)
+length_in_force (e ∷ es) = ap suc (length_in_force es)
 
--- the first entries are the last names
-pub in_force_append : (es ds : List Entry) → in_force (es ++ ds) ≡ in_force ds ++ in_force es
-in_force_append [] ds = sym (append_none (in_force ds))
-  where
-    append_none : (l : Names) → l ++ [] ≡ l
-    append_none [] = refl
-    append_none (x ∷ l) = ap (λ m. x ∷ m) (append_none l)
-in_force_append (e ∷ es) ds =
-    ap (λ l. l ++ named e ∷ []) (in_force_append es ds) ∙ assoc (in_force ds) (in_force es) (named e ∷ [])
-  where
-    assoc : (a b c : Names) → (a ++ b) ++ c ≡ a ++ (b ++ c)
-    assoc [] b c = refl
-    assoc (x ∷ a) b c = ap (λ l. x ∷ l) (assoc a b c)
+-- the name that was declared last stands last
+pub in_force_push : (es : List (List ℕ × Kept)) (x : List ℕ) (m : Kept) → in_force (es ++ (x, m) ∷ []) ≡ in_force es ++ (x, meaning_of_value m) ∷ []
+in_force_push [] x m = refl
+in_force_push (e ∷ es) x m = ap (λ l. (e.0, meaning_of_value e.1) ∷ l) (in_force_push es x m)
 
-pub meaning_more : (x : List ℕ) (es : List Entry) (i : ℕ) (d : Entry) → i < length es
-    → meaning_of x (in_force (take (i + 1) es)) ≡ cond (bytes_eq (get_or es i d).name x) (Some (meaning_of_value (get_or es i d).meaning)) (meaning_of x (in_force (take i es)))
-meaning_more x es i d h =
-    ap (λ j. meaning_of x (in_force (take j es))) (add-one i)
-    ∙ ap (λ l. meaning_of x (in_force l)) (take-suc es i d h)
-    ∙ ap (meaning_of x) (in_force_push (take i es) (get_or es i d))
+-- the first entries are the first names
+pub in_force_front : (es : List (List ℕ × Kept)) (count : ℕ) → in_force (take count es) ≡ take count (in_force es)
+in_force_front [] zero = refl
+in_force_front [] (suc n) = refl
+in_force_front (e ∷ es) zero = refl
+in_force_front (e ∷ es) (suc n) = ap (λ l. (e.0, meaning_of_value e.1) ∷ l) (in_force_front es n)
 
-pub meaning_all : (x : List ℕ) (es : List Entry) → meaning_of x (in_force (take (length es) es)) ≡ meaning_of x (in_force es)
-meaning_all x es = ap (λ l. meaning_of x (in_force l)) (take-length es)
+found_now : (b c : Bool) (x : List ℕ) (m : Kept) (o : Option Kept) (p : Option Meaning) → b ≡ c → meaning_known o ≡ p → meaning_known (cond b (Some m) o) ≡ cond c (Some (meaning_of_value m)) p
+found_now true true x m o p is rest = refl
+found_now false false x m o p is rest = rest
+found_now true false x m o p is rest = absurd (cc)
+found_now false true x m o p is rest = absurd (cc)
 
-front_length : (es : List Entry) (count : ℕ) → count ≤ length es → length (in_force (drop count es)) ≡ length (in_force es) - count
-front_length es count h = omega (arith, length_in_force (drop count es), length_in_force es, length-drop count es)
+-- a name stands for what the map has at it
+pub meaning_found : (x : List ℕ) (test : List ℕ → Bool) (es : List (List ℕ × Kept)) → ((y : List ℕ) → test y ≡ bytes_eq x y) → meaning_known (lookup test es) ≡ meaning_of x (in_force es)
+meaning_found x test [] same = refl
+meaning_found x test (e ∷ es) same = found_now (test e.0) (bytes_eq x e.0) x e.1 (lookup test es) (meaning_of x (in_force es)) (same e.0) (meaning_found x test es same)
 
-front_within : (es : List Entry) (count : ℕ) → count ≤ length es → in_force (take count es) ≡ drop (length (in_force es) - count) (in_force es)
-front_within es count h =
-    let split : in_force es ≡ in_force (drop count es) ++ in_force (take count es) = ap in_force (sym (take-append-drop count es)) ∙ in_force_append (take count es) (drop count es) in
-    sym (drop-append_seam (in_force (drop count es)) (in_force (take count es)))
-    ∙ ap (λ n. drop n (in_force (drop count es) ++ in_force (take count es))) (front_length es count h)
-    ∙ ap (drop (length (in_force es) - count)) (sym split)
+is_known : (o : Option Kept) → is_some (meaning_known o) ≡ is_some o
+is_known None = refl
+is_known (Some m) = refl
 
--- the entries that were kept first are the last names
-pub in_force_front : (es : List Entry) (count : ℕ) → in_force (take count es) ≡ drop (length (in_force es) - count) (in_force es)
-in_force_front es count =
-    elim (cases_lt count (length es)) [
-      | inl h ↦ front_within es count (omega arith)
-      | inr h ↦ let none : 0 ≡ length (in_force es) - count = omega (arith, length_in_force es) in
-          ap in_force (take_all count es h) ∙ ap (λ n. drop n (in_force es)) none
-    ]
+in_force_is : (x : List ℕ) (test : List ℕ → Bool) (es : List (List ℕ × Kept)) → ((y : List ℕ) → test y ≡ bytes_eq x y) → is_some (meaning_of x (in_force es)) ≡ is_some (lookup test es)
+in_force_is x test es same = ap is_some (sym (meaning_found x test es same)) ∙ is_known (lookup test es)
 
-pub meaning_found : (x : List ℕ) (es : List Entry) (i : ℕ) (e : Entry) → 0 < i → i ≤ length es → e ≡ get_or es (i - 1) e → bytes_eq e.name x ≡ true
-    → meaning_of x (in_force (take i es)) ≡ Some (meaning_of_value e.meaning)
-meaning_found x es i e some few is same =
-    ap (λ j. meaning_of x (in_force (take j es))) (omega arith)
-    ∙ meaning_more x es (i - 1) e (omega arith)
-    ∙ ap (λ d. cond (bytes_eq d.name x) (Some (meaning_of_value d.meaning)) (meaning_of x (in_force (take (i - 1) es)))) (sym is)
-    ∙ ap (λ b. cond b (Some (meaning_of_value e.meaning)) (meaning_of x (in_force (take (i - 1) es)))) same
+-- a name that the map has is in force
+pub declared_before : (x : List ℕ) (m : Meaning) (test : List ℕ → Bool) (es : List (List ℕ × Kept)) → ((y : List ℕ) → test y ≡ bytes_eq x y) → is_some (lookup test es) ≡ true → in_force es ≡ with_name x m (in_force es)
+declared_before x m test es same there = ap (λ b. cond b (in_force es) (in_force es ++ (x, m) ∷ [])) (sym (in_force_is x test es same ∙ there))
 
-pub meaning_passed : (x : List ℕ) (es : List Entry) (i : ℕ) (e : Entry) → 0 < i → i ≤ length es → e ≡ get_or es (i - 1) e → bytes_eq e.name x ≡ false
-    → meaning_of x (in_force (take i es)) ≡ meaning_of x (in_force (take (i - 1) es))
-meaning_passed x es i e some few is other =
-    ap (λ j. meaning_of x (in_force (take j es))) (omega arith)
-    ∙ meaning_more x es (i - 1) e (omega arith)
-    ∙ ap (λ d. cond (bytes_eq d.name x) (Some (meaning_of_value d.meaning)) (meaning_of x (in_force (take (i - 1) es)))) (sym is)
-    ∙ ap (λ b. cond b (Some (meaning_of_value e.meaning)) (meaning_of x (in_force (take (i - 1) es)))) other
+-- any other is declared behind the others
+pub declared_now : (x : List ℕ) (m : Kept) (test : List ℕ → Bool) (es new : List (List ℕ × Kept)) → ((y : List ℕ) → test y ≡ bytes_eq x y) → is_some (lookup test es) ≡ false → new ≡ es ++ (x, m) ∷ []
+    → in_force new ≡ with_name x (meaning_of_value m) (in_force es)
+declared_now x m test es new same none is =
+    ap in_force is ∙ in_force_push es x m
+    ∙ ap (λ b. cond b (in_force es) (in_force es ++ (x, meaning_of_value m) ∷ [])) (sym (in_force_is x test es same ∙ none))
 
--- one table more, ahead of those so far
-pub tables_before : (es : List Entry) (e : Entry) (ts : List (List ℕ)) (i : ℕ) → 0 < i → i ≤ length ts → in_force es ≡ table_names (drop i ts) → e.name ≡ get_or ts (i - 1) e.name → meaning_of_value e.meaning ≡ Table
-    → in_force (es ++ e ∷ []) ≡ table_names (drop (i - 1) ts)
-tables_before es e ts i some few h name table =
-    in_force_push es e
-    ∙ ap (λ l. named e ∷ l) h
-    ∙ ap (λ p. p ∷ table_names (drop i ts)) (ap (λ x. (x, meaning_of_value e.meaning)) name ∙ ap (λ m. (get_or ts (i - 1) e.name, m)) table)
-    ∙ ap (λ j. table_names (get_or ts (i - 1) e.name ∷ drop j ts)) next
-    ∙ sym (ap table_names (drop-cons ts (i - 1) e.name (omega arith)))
-  where
-    next : i ≡ suc (i - 1)
-    next = omega arith
+pub none_there : (o : Option Kept) → is_some o ≡ false → o ≡ None
+none_there None is = refl
+none_there (Some m) is = absurd (cc)

@@ -118,13 +118,13 @@ pub data Meaning : Type 0 where
   Table : Meaning
   Variable : Option Type_ → Meaning
 
--- the names in force, the last declared first
+-- the names in force, in the order in which they were declared
 abbrev pub Names : Type 0
 Names = List (List ℕ × Meaning)
 
 abbrev pub meaning_of : List ℕ → Names → Option Meaning
 meaning_of x [] = None
-meaning_of x ((y, m) ∷ names) = if bytes_eq y x then Some m else meaning_of x names
+meaning_of x ((y, m) ∷ names) = if bytes_eq x y then Some m else meaning_of x names
 
 abbrev pub type_meant : Option Meaning → Option Type_
 type_meant (Some (Variable t)) = t
@@ -219,7 +219,7 @@ numbers_faults (e ∷ es) names n = operand_faults NumberType e names n ++ numbe
 
 -- a name that is not in force yet is declared; one that is keeps its meaning
 abbrev pub with_name : List ℕ → Meaning → Names → Names
-with_name x m names = if is_some (meaning_of x names) then names else (x, m) ∷ names
+with_name x m names = if is_some (meaning_of x names) then names else names ++ (x, m) ∷ []
 
 abbrev pub declared_faults : List ℕ → Names → Site → List Fault
 declared_faults x names site = unless_so (is_none (meaning_of x names)) Twice site
@@ -398,9 +398,12 @@ tables_faults seen [] = []
 tables_faults seen (t ∷ ts) = unless_so (not (list_any (bytes_eq t) seen)) Twice AtTable ++ tables_faults (t ∷ seen) ts
 
 -- tables are in force everywhere
+abbrev pub tables_behind : Names → List (List ℕ) → Names
+tables_behind names [] = names
+tables_behind names (t ∷ ts) = tables_behind (with_name t Table names) ts
+
 abbrev pub table_names : List (List ℕ) → Names
-table_names [] = []
-table_names (t ∷ ts) = (t, Table) ∷ table_names ts
+table_names tables = tables_behind [] tables
 
 -- all that is wrong with a policy of these tables and this body
 abbrev pub policy_faults : List (List ℕ) → Block → List Fault

@@ -1,5 +1,5 @@
 -- What holds of each course, and of the course of each policy.
-use Rattle.std.specs.Prelude.{◌≡◌, ℕ, ◌+◌, ◌*◌, ◌≤◌, Bool, true, false, ◌==◌, [], ◌∷◌, length}
+use Rattle.std.specs.Prelude.{◌≡◌, ℕ, ◌+◌, ◌*◌, ◌≤◌, Bool, true, false, ◌==◌, List, [], ◌∷◌, length}
 use Rattle.std.specs.List.{list_all, All}
 use Rattle.maple_base.specs.declared.key.Key.{Key}
 use Rattle.maple_base.specs.declared.cells.Cell.{Cell}
@@ -10,7 +10,9 @@ use Rattle.maple_base.specs.declared.decision.Outcome.{Outcome}
 use Rattle.maple_base.specs.declared.decision.Outcome.TheVariants.{Decided}
 use Rattle.maple_base.specs.Keys.{valid_key}
 use Rattle.maple_base.specs.Questions.{meets, clash, within_domain, asks_once}
+use Rattle.policy_lang.specs.declared.Block.{Block}
 use Rattle.policy_lang.specs.declared.Policy.{Policy}
+use Rattle.policy_lang.specs.Faults.{checked, IsWellFormed}
 use Rattle.policy_lang.specs.Evaluation.{eval_of}
 use Rattle.policy_lang.specs.Plain.{is_plain}
 use Rattle.policy_lang.specs.Reads.{reads_of}
@@ -68,3 +70,7 @@ KeepsDecisions =
 abbrev pub ReadsNothingElse : Type 0
 ReadsNothingElse =
     (policy : Policy) (budget : ℕ) (env other : Cell → Value) (switch : ℕ) (k : Key) → All (λ c. env c ≡ other c) (reads_of policy budget env switch k) → eval_of policy budget env switch k ≡ eval_of policy budget other switch k
+
+-- a well formed body has at most 4,096 nodes
+abbrev pub FewNodes : Type 0
+FewNodes = (tables : List (List ℕ)) (body : Block) → IsWellFormed tables body → (checked body).size ≤ 4096

@@ -1,10 +1,9 @@
 -- What the names in force stand for, as they are kept.
-use Rattle.std.specs.Prelude.{ℕ, List, [], ◌∷◌, ◌++◌, Option, Some, None}
+use Rattle.std.specs.Prelude.{ℕ, List, [], ◌∷◌, Option, Some, None}
 use Rattle.policy_lang.specs.declared.names.ValueType.{ValueType as Kept}
 use Rattle.policy_lang.specs.declared.names.ValueType.TheVariants as types
 use Rattle.policy_lang.specs.declared.names.Meaning.{Meaning as KeptMeaning}
 use Rattle.policy_lang.specs.declared.names.Meaning.TheVariants as meanings
-use Rattle.policy_lang.specs.declared.names.Entry.{Entry}
 use Rattle.policy_lang.specs.Faults.{Type_, NumberType, TruthType, PlaceType, Meaning, Table, Variable, Names}
 
 abbrev pub type_of_value : Kept → Type_
@@ -24,7 +23,7 @@ abbrev pub meaning_known : Option KeptMeaning → Option Meaning
 meaning_known None = None
 meaning_known (Some m) = Some (meaning_of_value m)
 
--- the entries are kept in the order in which they were declared; the names in force have the last first
-abbrev pub in_force : List Entry → Names
+-- the names in force, as a map in the order of insertion keeps them
+abbrev pub in_force : List (List ℕ × KeptMeaning) → Names
 in_force [] = []
-in_force (e ∷ es) = in_force es ++ (e.name, meaning_of_value e.meaning) ∷ []
+in_force (e ∷ es) = (e.0, meaning_of_value e.1) ∷ in_force es

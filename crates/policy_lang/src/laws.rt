@@ -1,5 +1,5 @@
 // What holds of each run of a policy.
-ghost use Rattle.policy_lang.specs.Laws.{OwnItems, SameTrace, OnePath, EndsAsEvaluated, AsksWithin, AsksOnce, AsksFew, BeginsHere, KeepsDecisions, ReadsNothingElse};
+ghost use Rattle.policy_lang.specs.Laws.{OwnItems, SameTrace, OnePath, EndsAsEvaluated, AsksWithin, AsksOnce, AsksFew, BeginsHere, KeepsDecisions, ReadsNothingElse, FewNodes};
 
 /// What holds of each course: a key meets what was asked of it, keys that meet the same are asked
 /// the same, and two traces are equal or do not clash.
@@ -25,4 +25,9 @@ pub fn policy_laws()
 pub fn evaluation_laws()
     ensures budget { KeepsDecisions }
     ensures cells { ReadsNothingElse }
+{}
+
+/// What holds of each policy that is well formed: it has at most 4,096 nodes.
+pub fn form_laws()
+    ensures { FewNodes }
 {}

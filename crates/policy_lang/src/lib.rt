@@ -3,6 +3,7 @@
 
 ghost use Rattle.std.specs.Prelude.{◌≡◌, List};
 ghost use Rattle.policy_lang.specs.Blocks.{statements_of, IsOutList};
+ghost use Rattle.policy_lang.specs.Faults.{IsWellFormed};
 
 pub mod build;
 mod faults;
@@ -164,11 +165,13 @@ pub struct Policy {
     tables: Names,
     learning: bool,
     body: Block,
+    ghost formed: { IsWellFormed tables body },
 }
 
 impl Policy {
-    /// A policy of these parts.
-    pub fn new(tables: Names, learning: bool, body: Block) -> Policy
+    // A policy of parts that are well formed.
+    pub(crate) fn new(tables: Names, learning: bool, body: Block) -> Policy
+        requires { IsWellFormed tables body }
         ensures tables { result.tables ≡ tables }
         ensures learning { result.learning ≡ learning }
         ensures body { result.body ≡ body }
@@ -194,9 +197,10 @@ impl Policy {
         self.learning
     }
 
-    /// The statements that are run on a packet.
+    /// The statements that are run on a packet. They are well formed.
     pub fn body(&self) -> &Block
-        ensures { result.now ≡ self.now.body }
+        ensures body { result.now ≡ self.now.body }
+        ensures formed { IsWellFormed self.now.tables self.now.body }
     {
         &self.body
     }

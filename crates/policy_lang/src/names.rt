@@ -1,9 +1,10 @@
 // The names in force at a place of a policy, and what they stand for.
-ghost use Rattle.std.specs.Prelude.{◌≡◌, ◌-◌, length, drop, IfOk, OnOk};
+ghost use Rattle.std.specs.Prelude.{◌≡◌, length, take, IfOk, OnOk};
 ghost use Rattle.std.specs.Str.{bytes_eq};
 ghost use Rattle.policy_lang.specs.Faults.{suits, same_type, meaning_of, with_name, table_names};
 ghost use Rattle.policy_lang.specs.Scopes.{type_of_value, type_known, meaning_of_value, meaning_known, in_force};
 
+use indexmap::IndexMap;
 use maple_base::{Name, NoMemory};
 use std::alloc::Global;
 
@@ -23,17 +24,10 @@ pub enum Meaning {
     Variable(Option<ValueType>),
 }
 
-/// A name in force.
-#[derive(Clone, Copy)]
-pub struct Entry {
-    name: Name,
-    meaning: Meaning,
-}
-
 /// The names in force, in the order in which they were declared.
 #[derive(Drop)]
 pub struct Scope {
-    list: Vec<Entry>,
+    names: IndexMap<Name, Meaning>,
 }
 
 impl ValueType {
@@ -67,45 +61,32 @@ pub fn is_same(name: &Name, other: &Name) -> bool
 }
 
 impl Scope {
-    #[tactic(auto, using(crate::proofs::Scopes::in_force_push))]
     /// The tables of a policy.
     pub fn of_tables(alloc: Global, tables: &[Name]) -> Result<Scope, NoMemory>
-        ensures { IfOk result (λ scope. in_force scope.list.items ≡ table_names tables.now) }
+        ensures { IfOk result (λ scope. in_force scope.names.entries ≡ table_names tables.now) }
     {
-        let mut list = Vec::new(alloc);
-        for i in (0..tables.len()).rev() {
-            list.push(Entry {
-                name: tables[i],
-                meaning: Meaning::Table,
-            })?;
+        let mut scope = Scope {
+            names: IndexMap::new(alloc),
+        };
+        for table in tables {
+            scope.declare(table, Meaning::Table)?;
         }
-        Ok(Scope { list })
+        Ok(scope)
     }
 
-    #[tactic(auto, using(crate::proofs::Scopes::meaning_found, crate::proofs::Scopes::meaning_all))]
     /// What a name stands for, if it is in force.
     pub fn meaning(&self, name: &Name) -> Option<Meaning>
-        ensures { meaning_known result ≡ meaning_of name.now (in_force self.now.list.items) }
+        ensures { meaning_known result ≡ meaning_of name.now (in_force self.now.names.entries) }
     {
-        for i in (0..self.list.len()).rev() {
-            let entry = self.list[i];
-            if is_same(&entry.name, name) {
-                return Some(entry.meaning);
-            }
-        }
-        None
+        self.names.get(name).copied()
     }
 
-    #[tactic(auto, using(crate::proofs::Scopes::in_force_push))]
     /// Declares a name, unless it is in force.
     pub fn declare(&mut self, name: &Name, meaning: Meaning) -> Result<(), NoMemory>
-        ensures { OnOk result (in_force self.new.list.items ≡ with_name name.now (meaning_of_value meaning) (in_force self.old.list.items)) }
+        ensures { OnOk result (in_force self.new.names.entries ≡ with_name name.now (meaning_of_value meaning) (in_force self.old.names.entries)) }
     {
-        if self.meaning(name).is_none() {
-            self.list.push(Entry {
-                name: *name,
-                meaning,
-            })?;
+        if !self.names.contains_key(name) {
+            self.names.insert(*name, meaning)?;
         }
         Ok(())
     }
@@ -113,16 +94,16 @@ impl Scope {
     #[tactic(auto, using(crate::proofs::Scopes::length_in_force))]
     /// How many names are in force.
     pub fn len(&self) -> usize
-        ensures { result ≡ length (in_force self.now.list.items) }
+        ensures { result ≡ length (in_force self.now.names.entries) }
     {
-        self.list.len()
+        self.names.len()
     }
 
     #[tactic(auto, using(crate::proofs::Scopes::in_force_front))]
     /// Only so many names stay in force, those that were declared first.
     pub fn leave(&mut self, count: usize)
-        ensures { in_force self.new.list.items ≡ drop (length (in_force self.old.list.items) - count) (in_force self.old.list.items) }
+        ensures { in_force self.new.names.entries ≡ take count (in_force self.old.names.entries) }
     {
-        self.list.truncate(count);
+        self.names.truncate(count);
     }
 }

@@ -94,7 +94,7 @@ fn table_fault(meaning: Option<Meaning>, node: u32) -> Option<Fault>
 }
 
 fn type_of(expr: &Expr, scope: &Scope) -> Option<ValueType>
-    ensures { type_known result ≡ type_of expr.now (in_force scope.now.list.items) }
+    ensures { type_known result ≡ type_of expr.now (in_force scope.now.names.entries) }
 {
     match expr {
         Expr::Var(name) => match scope.meaning(name) {
@@ -143,7 +143,7 @@ fn first_in(expr: &Expr, node: u32) -> u32
 // An expression that has another type than is wanted.
 fn type_fault(wanted: ValueType, expr: &Expr, scope: &Scope, node: u32) -> Option<Fault>
     requires { node + size_of expr.now ≤ 4097 }
-    ensures { told result ≡ first_of (type_faults (type_of_value wanted) expr.now (in_force scope.now.list.items) node) }
+    ensures { told result ≡ first_of (type_faults (type_of_value wanted) expr.now (in_force scope.now.names.entries) node) }
 {
     let holds = suits(type_of(expr, scope), wanted);
     let site = Site::AtWhole(node, first_in(expr, node));
@@ -153,7 +153,7 @@ fn type_fault(wanted: ValueType, expr: &Expr, scope: &Scope, node: u32) -> Optio
 #[cycle(types)]
 fn check_expr(expr: &Expr, scope: &Scope, node: u32) -> Found
     requires { node + size_of expr.now ≤ 4097 }
-    ensures { IsFound result (expr_faults expr.now (in_force scope.now.list.items) node) (node + size_of expr.now) }
+    ensures { IsFound result (expr_faults expr.now (in_force scope.now.names.entries) node) (node + size_of expr.now) }
 {
     match expr {
         Expr::Number(_) | Expr::PacketSwitch | Expr::Packet(_) => Found {
@@ -191,7 +191,7 @@ fn check_expr(expr: &Expr, scope: &Scope, node: u32) -> Found
 #[tactic(auto, using(crate::proofs::Order::first_parts))]
 fn check_two(wanted: ValueType, left: &Expr, right: &Expr, scope: &Scope, node: u32) -> Found
     requires { node + size_of left.now + size_of right.now ≤ 4097 }
-    ensures { IsFound result (type_faults (type_of_value wanted) left.now (in_force scope.now.list.items) node ++ expr_faults left.now (in_force scope.now.list.items) node ++ type_faults (type_of_value wanted) right.now (in_force scope.now.list.items) (node + size_of left.now) ++ expr_faults right.now (in_force scope.now.list.items) (node + size_of left.now)) (node + size_of left.now + size_of right.now) }
+    ensures { IsFound result (type_faults (type_of_value wanted) left.now (in_force scope.now.names.entries) node ++ expr_faults left.now (in_force scope.now.names.entries) node ++ type_faults (type_of_value wanted) right.now (in_force scope.now.names.entries) (node + size_of left.now) ++ expr_faults right.now (in_force scope.now.names.entries) (node + size_of left.now)) (node + size_of left.now + size_of right.now) }
 {
     let found = check_operand(wanted, left, scope, node);
     found.then(check_operand(wanted, right, scope, found.next))
@@ -202,7 +202,7 @@ fn check_two(wanted: ValueType, left: &Expr, right: &Expr, scope: &Scope, node: 
 #[tactic(auto, using(crate::proofs::Order::first_append))]
 fn check_operand(wanted: ValueType, expr: &Expr, scope: &Scope, node: u32) -> Found
     requires { node + size_of expr.now ≤ 4097 }
-    ensures { IsFound result (operand_faults (type_of_value wanted) expr.now (in_force scope.now.list.items) node) (node + size_of expr.now) }
+    ensures { IsFound result (operand_faults (type_of_value wanted) expr.now (in_force scope.now.names.entries) node) (node + size_of expr.now) }
 {
     let fault = type_fault(wanted, expr, scope, node);
     check_expr(expr, scope, node).behind(fault)
@@ -211,7 +211,7 @@ fn check_operand(wanted: ValueType, expr: &Expr, scope: &Scope, node: u32) -> Fo
 #[tactic(auto, using(crate::proofs::Found::numbers_found, crate::proofs::Found::numbers_fit, crate::proofs::Found::numbers_more_found, crate::proofs::Found::numbers_all_found))]
 fn check_numbers(exprs: &[Expr], scope: &Scope, node: u32) -> Found
     requires { node + sizes_of exprs.now ≤ 4097 }
-    ensures { IsFound result (numbers_faults exprs.now (in_force scope.now.list.items) node) (node + sizes_of exprs.now) }
+    ensures { IsFound result (numbers_faults exprs.now (in_force scope.now.names.entries) node) (node + sizes_of exprs.now) }
 {
     let mut found = Found {
         fault: None,
@@ -225,7 +225,7 @@ fn check_numbers(exprs: &[Expr], scope: &Scope, node: u32) -> Found
 
 // A name that is declared while it is in force.
 fn declared_fault(name: &Name, scope: &Scope, site: Site) -> Option<Fault>
-    ensures { told result ≡ first_of (declared_faults name.now (in_force scope.now.list.items) (site_of site)) }
+    ensures { told result ≡ first_of (declared_faults name.now (in_force scope.now.names.entries) (site_of site)) }
 {
     fault_unless(scope.meaning(name).is_none(), Rule::Twice, site)
 }
@@ -234,7 +234,7 @@ fn declared_fault(name: &Name, scope: &Scope, site: Site) -> Option<Fault>
 #[tactic(auto, using(crate::proofs::Order::first_append, crate::proofs::Order::merged_assoc))]
 fn check_binding(expr: &Expr, name: &Name, scope: &Scope, node: u32) -> Found
     requires { node + (1 + size_of expr.now) ≤ 4097 }
-    ensures { IsFound result (operand_faults NumberType expr.now (in_force scope.now.list.items) (node + 1) ++ declared_faults name.now (in_force scope.now.list.items) (AtBound node (node + size_of expr.now))) (node + (1 + size_of expr.now)) }
+    ensures { IsFound result (operand_faults NumberType expr.now (in_force scope.now.names.entries) (node + 1) ++ declared_faults name.now (in_force scope.now.names.entries) (AtBound node (node + size_of expr.now))) (node + (1 + size_of expr.now)) }
 {
     let found = check_operand(ValueType::Number, expr, scope, node + 1);
     let site = Site::AtBound(node, found.next - 1);
@@ -247,7 +247,7 @@ fn check_binding(expr: &Expr, name: &Name, scope: &Scope, node: u32) -> Found
 #[tactic(auto, using(crate::proofs::Order::first_append, crate::proofs::Order::merged_assoc))]
 fn check_head(head: &Head, scope: &Scope, node: u32) -> Found
     requires { node + size_of_head head.now ≤ 4097 }
-    ensures { IsFound result (head_faults head.now (in_force scope.now.list.items) node) (node + size_of_head head.now) }
+    ensures { IsFound result (head_faults head.now (in_force scope.now.names.entries) node) (node + size_of_head head.now) }
 {
     match head {
         Head::Host(expr, name) | Head::Hop(expr, name) => check_binding(expr, name, scope, node),
@@ -261,7 +261,7 @@ fn check_head(head: &Head, scope: &Scope, node: u32) -> Found
 
 // The name that a head binds is in force.
 fn bind(head: &Head, scope: &mut Scope) -> Result<(), NoMemory>
-    ensures { OnOk result (in_force scope.new.list.items ≡ names_behind head.now (in_force scope.old.list.items)) }
+    ensures { OnOk result (in_force scope.new.names.entries ≡ names_behind head.now (in_force scope.old.names.entries)) }
 {
     match head {
         Head::Host(_, name) => scope.declare(name, Meaning::Variable(Some(ValueType::Place))),
@@ -275,8 +275,8 @@ fn bind(head: &Head, scope: &mut Scope) -> Result<(), NoMemory>
 #[tactic(auto, using(crate::proofs::Order::first_append, crate::proofs::Order::merged_assoc))]
 fn check_let(name: &Name, expr: &Expr, scope: &mut Scope, node: u32) -> Result<Found, NoMemory>
     requires { node + (1 + size_of expr.now) ≤ 4097 }
-    ensures found { IfOk result (λ found. IsFound found (declared_faults name.now (in_force scope.old.list.items) (AtDeclared node) ++ expr_faults expr.now (in_force scope.old.list.items) (node + 1)) (node + (1 + size_of expr.now))) }
-    ensures declared { OnOk result (in_force scope.new.list.items ≡ with_name name.now (Variable (type_of expr.now (in_force scope.old.list.items))) (in_force scope.old.list.items)) }
+    ensures found { IfOk result (λ found. IsFound found (declared_faults name.now (in_force scope.old.names.entries) (AtDeclared node) ++ expr_faults expr.now (in_force scope.old.names.entries) (node + 1)) (node + (1 + size_of expr.now))) }
+    ensures declared { OnOk result (in_force scope.new.names.entries ≡ with_name name.now (Variable (type_of expr.now (in_force scope.old.names.entries))) (in_force scope.old.names.entries)) }
 {
     let fault = declared_fault(name, scope, Site::AtDeclared(node));
     let found = check_expr(expr, scope, node + 1).behind(fault);
@@ -288,7 +288,7 @@ fn check_let(name: &Name, expr: &Expr, scope: &mut Scope, node: u32) -> Result<F
 #[tactic(auto, using(crate::proofs::Order::first_append, crate::proofs::Order::merged_assoc))]
 fn check_assign(name: &Name, expr: &Expr, scope: &Scope, node: u32) -> Found
     requires { node + (1 + size_of expr.now) ≤ 4097 }
-    ensures { IsFound result (assigned_faults (meaning_of name.now (in_force scope.now.list.items)) expr.now (in_force scope.now.list.items) node) (node + (1 + size_of expr.now)) }
+    ensures { IsFound result (assigned_faults (meaning_of name.now (in_force scope.now.names.entries)) expr.now (in_force scope.now.names.entries) node) (node + (1 + size_of expr.now)) }
 {
     let site = Site::AtNode(node, node);
     match scope.meaning(name) {
@@ -309,9 +309,9 @@ fn check_assign(name: &Name, expr: &Expr, scope: &Scope, node: u32) -> Found
 #[tactic(auto, using(crate::proofs::Found::inner_none, crate::proofs::Found::inner_same, crate::proofs::Found::inner_named, crate::proofs::Order::first_append))]
 fn check_statement(statement: &Statement, scope: &mut Scope, node: u32) -> Result<Found, NoMemory>
     requires { node + (statement_checked statement.now).size ≤ 4097 }
-    ensures found { IfOk result (λ found. IsFound found ((statement_checked statement.now).wrong (in_force scope.old.list.items) node) (node + (statement_checked statement.now).size)) }
-    ensures names { OnOk result (in_force scope.new.list.items ≡ (statement_checked statement.now).after (in_force scope.old.list.items)) }
-    ensures inner { OnOk result (IsInner (in_force scope.new.list.items) (in_force scope.old.list.items)) }
+    ensures found { IfOk result (λ found. IsFound found ((statement_checked statement.now).wrong (in_force scope.old.names.entries) node) (node + (statement_checked statement.now).size)) }
+    ensures names { OnOk result (in_force scope.new.names.entries ≡ (statement_checked statement.now).after (in_force scope.old.names.entries)) }
+    ensures inner { OnOk result (IsInner (in_force scope.new.names.entries) (in_force scope.old.names.entries)) }
 {
     match statement {
         Statement::Drop | Statement::Flood => Ok(Found {
@@ -338,8 +338,8 @@ fn check_if(
     node: u32,
 ) -> Result<Found, NoMemory>
     requires { node + size_of_head head.now + (checked block.now).size + size_otherwise (option_map checked other.now) ≤ 4097 }
-    ensures found { IfOk result (λ found. IsFound found (if_faults head.now (checked block.now) (option_map checked other.now) (in_force scope.old.list.items) node) (node + size_of_head head.now + (checked block.now).size + size_otherwise (option_map checked other.now))) }
-    ensures names { OnOk result (in_force scope.new.list.items ≡ in_force scope.old.list.items) }
+    ensures found { IfOk result (λ found. IsFound found (if_faults head.now (checked block.now) (option_map checked other.now) (in_force scope.old.names.entries) node) (node + size_of_head head.now + (checked block.now).size + size_otherwise (option_map checked other.now))) }
+    ensures names { OnOk result (in_force scope.new.names.entries ≡ in_force scope.old.names.entries) }
 {
     let outer = scope.len();
     let asked = check_head(head, scope, node);
@@ -354,8 +354,8 @@ fn check_if(
 #[tactic(auto, using(crate::proofs::Order::first_append))]
 fn check_while(expr: &Expr, block: &Block, scope: &mut Scope, node: u32) -> Result<Found, NoMemory>
     requires { node + size_of expr.now + (checked block.now).size ≤ 4097 }
-    ensures found { IfOk result (λ found. IsFound found (operand_faults TruthType expr.now (in_force scope.old.list.items) node ++ (checked block.now).wrong (in_force scope.old.list.items) (node + size_of expr.now)) (node + size_of expr.now + (checked block.now).size)) }
-    ensures names { OnOk result (in_force scope.new.list.items ≡ in_force scope.old.list.items) }
+    ensures found { IfOk result (λ found. IsFound found (operand_faults TruthType expr.now (in_force scope.old.names.entries) node ++ (checked block.now).wrong (in_force scope.old.names.entries) (node + size_of expr.now)) (node + size_of expr.now + (checked block.now).size)) }
+    ensures names { OnOk result (in_force scope.new.names.entries ≡ in_force scope.old.names.entries) }
 {
     let asked = check_operand(ValueType::Truth, expr, scope, node);
     let found = check_block(block.items(), scope, asked.next)?;
@@ -365,8 +365,8 @@ fn check_while(expr: &Expr, block: &Block, scope: &mut Scope, node: u32) -> Resu
 #[cycle(statements)]
 fn check_other(other: &Option<Block>, scope: &mut Scope, node: u32) -> Result<Found, NoMemory>
     requires { node + size_otherwise (option_map checked other.now) ≤ 4097 }
-    ensures found { IfOk result (λ found. IsFound found (wrong_otherwise (option_map checked other.now) (in_force scope.old.list.items) node) (node + size_otherwise (option_map checked other.now))) }
-    ensures names { OnOk result (in_force scope.new.list.items ≡ in_force scope.old.list.items) }
+    ensures found { IfOk result (λ found. IsFound found (wrong_otherwise (option_map checked other.now) (in_force scope.old.names.entries) node) (node + size_otherwise (option_map checked other.now))) }
+    ensures names { OnOk result (in_force scope.new.names.entries ≡ in_force scope.old.names.entries) }
 {
     match other {
         None => Ok(Found {
@@ -382,8 +382,8 @@ fn check_other(other: &Option<Block>, scope: &mut Scope, node: u32) -> Result<Fo
 #[tactic(auto, using(crate::proofs::Found::all_found, crate::proofs::Found::all_fit, crate::proofs::Found::all_more_found, crate::proofs::Found::all_all_found, crate::proofs::Walked::one_within))]
 fn check_block(statements: &[Statement], scope: &mut Scope, node: u32) -> Result<Found, NoMemory>
     requires { node + sizes_in (map statement_checked statements.now) ≤ 4097 }
-    ensures found { IfOk result (λ found. IsFound found (wrong_in (map statement_checked statements.now) (in_force scope.old.list.items) node) (node + sizes_in (map statement_checked statements.now))) }
-    ensures names { OnOk result (in_force scope.new.list.items ≡ in_force scope.old.list.items) }
+    ensures found { IfOk result (λ found. IsFound found (wrong_in (map statement_checked statements.now) (in_force scope.old.names.entries) node) (node + sizes_in (map statement_checked statements.now))) }
+    ensures names { OnOk result (in_force scope.new.names.entries ≡ in_force scope.old.names.entries) }
 {
     let outer = scope.len();
     let mut found = Found {
@@ -400,7 +400,7 @@ fn check_block(statements: &[Statement], scope: &mut Scope, node: u32) -> Result
 /// The first fault of a body's names and types, where these names are in force.
 pub fn check_body(body: &Block, mut scope: Scope) -> Result<Option<Fault>, NoMemory>
     requires { 1 + (checked body.now).size ≤ 4097 }
-    ensures { IfOk result (λ fault. told fault ≡ first_of ((checked body.now).wrong (in_force scope.list.items) 1)) }
+    ensures { IfOk result (λ fault. told fault ≡ first_of ((checked body.now).wrong (in_force scope.names.entries) 1)) }
 {
     Ok(check_block(body.items(), &mut scope, 1)?.fault)
 }

@@ -18,8 +18,10 @@ use Rattle.policy_lang.specs.declared.Statement.TheViews.{roll-Statement, roll-B
 use Rattle.policy_lang.specs.declared.Block.{Block}
 use Rattle.policy_text.specs.declared.reading.Place.{Place}
 use Rattle.policy_text.specs.declared.reading.Place.TheVariants.{Ahead, BehindOut, BehindPort, BehindIf, BehindField, BehindIs, BehindTest, Closed}
-use Rattle.policy_text.specs.PolicyText.{Lexeme, Word, Sign, Mark, Keyword, Brace, Numeral, Wordless, AreTextsOf, Spells, IsTextOf, is_text_byte, text_lexemes, field_name, number_marks, test_marks, in_braces, statement_marks, block_layer, block_marks, joined, block_nodes, statement_depth, depth_layer, block_depth, greatest}
-use Rattle.policy_text.specs.Parsing.{Step, To, is_word, is_sign, step, marks_from, reads_on, at_end, behind, opened, body_marks, text_of, depth_of, by_number, by_field}
+use Rattle.policy_text.specs.PolicyText.{Lexeme, Word, Sign, Mark, Keyword, Brace, Numeral, Wordless, AreTextsOf, Spells, IsTextOf, is_text_byte, text_lexemes, field_name, number_marks, test_marks, in_braces, statement_marks, block_layer, block_marks, joined}
+use Rattle.policy_text.proofs.Counts.{statement_depth, depth_layer, block_depth, greatest, depth_of, formed_shallow}
+use Rattle.policy_lang.specs.Faults.{IsWellFormed}
+use Rattle.policy_text.specs.Parsing.{Step, To, is_word, is_sign, step, marks_from, reads_on, at_end, behind, opened, body_marks, text_of, by_number, by_field}
 use Rattle.policy_text.proofs.Steps.{step_reads, reads_one, field_read, word_text, sign_text}
 
 -- the texts of marks ahead of others, and of the others
@@ -339,7 +341,7 @@ spelled_read body text h =
     let (ls2, e2, h2) = sign_first 123 (ms ++ Brace 125 ∷ []) ls1 h1 in
     let (front, e3, h3) = braced ms ls2 h2 in
     let e : text_lexemes text ≡ Word (codes "policy") ∷ Sign 123 ∷ (front ++ Sign 125 ∷ []) = e1 ∙ ap (λ x. Word (codes "policy") ∷ x) (e2 ∙ ap (λ x. Sign 123 ∷ x) e3) in
-    let room : block_depth body + 0 ≤ 32 = fits (block_depth body) h.shallow in
+    let room : block_depth body + 0 ≤ 32 = fits (block_depth body) (formed_shallow body h.formed) in
     ap body_marks e ∙ block_read body front (Sign 125 ∷ []) 0 h3 room
   where
     fits : (a : ℕ) → a ≤ 32 → a + 0 ≤ 32
@@ -388,10 +390,10 @@ body_texts ls ms e =
     subst (AreTextsOf (Keyword (codes "policy") ∷ Brace 123 ∷ ms)) (sym is) (word_text (codes "policy") l1 f1, (sign_text 123 l2 f2, read_texts ls2 Ahead 0 ms r))
 
 -- what is read of a text spells it
-pub read_spells : (body : Block) (text : List ℕ) → length text ≤ 65536 → IsTrue (list_all is_text_byte text) → block_nodes body ≤ 4096 → block_depth body ≤ 32
+pub read_spells : (body : Block) (text : List ℕ) → length text ≤ 65536 → IsTrue (list_all is_text_byte text) → IsWellFormed [] body
     → body_marks (text_lexemes text) ≡ Some (block_marks body ++ Brace 125 ∷ []) → Spells body text
-read_spells body text short ascii few shallow e =
-    record { short = short; ascii = ascii; few = few; shallow = shallow; texts = body_texts (text_lexemes text) (block_marks body ++ Brace 125 ∷ []) e }
+read_spells body text short ascii formed e =
+    record { short = short; ascii = ascii; formed = formed; texts = body_texts (text_lexemes text) (block_marks body ++ Brace 125 ∷ []) e }
 
 -- no policy has a text that isn't read
 pub unread : (text : List ℕ) → body_marks (text_lexemes text) ≡ None → (policy : Policy) → IsTextOf policy text → ⊥

@@ -1,3 +1,4 @@
+pub mod Counts
 pub mod FirstWords
 pub mod Grammar
 pub mod Marks

@@ -1,5 +1,5 @@
 -- What is computed of a policy's statements from their words and numbers alone is computed of its marks, and so the same of each policy with these marks.
-use Rattle.std.proofs.Common.{◌≡◌, ℕ, ◌+◌, ◌≤◌, max, sum, List, [], ◌∷◌, ◌++◌, map, Option, Some, None, refl, sym, ap, ◌∙◌, subst, append_assoc, append-nil, Box, Global}
+use Rattle.std.proofs.Common.{◌≡◌, ℕ, ◌+◌, List, [], ◌∷◌, ◌++◌, map, Option, Some, None, refl, sym, ap, ◌∙◌, subst, append_assoc, append-nil, Box, Global}
 use Rattle.std.specs.Prelude.{codes}
 use Rattle.maple_base.specs.declared.key.Field.{Field}
 use Rattle.policy_lang.specs.declared.Expr.{Expr}
@@ -13,15 +13,11 @@ use Rattle.policy_lang.specs.declared.Statement.TheFolds.{fold-roll-Statement, f
 use Rattle.policy_lang.specs.declared.Statement.TheViews.{roll-Statement, roll-Block}
 use Rattle.policy_lang.specs.declared.Block.{Block, fold_out-Block}
 use Rattle.policy_lang.specs.Blocks.{statements_of}
-use Rattle.policy_text.specs.PolicyText.{Lexeme, Mark, Keyword, Brace, Numeral, AreTextsOf, field_name, in_braces, statement_marks, block_layer, block_marks, joined, IsTextOf, text_lexemes, statement_nodes, nodes_layer, block_nodes, statement_depth, depth_layer, block_depth, greatest}
-use Rattle.policy_text.specs.Parsing.{text_of, nodes_of, depth_of, body_marks}
+use Rattle.policy_lang.specs.Faults.{Checked, same_names, limit_faults, check_leaf, check_out, check_statement, check_block, checked, limits_in, wrong_in, sizes_in, IsWellFormed}
+use Rattle.policy_lang.specs.Limits.{statement_checked}
+use Rattle.policy_text.specs.PolicyText.{Lexeme, Mark, Keyword, Brace, Numeral, AreTextsOf, field_name, in_braces, statement_marks, block_layer, block_marks, joined, IsTextOf, text_lexemes}
+use Rattle.policy_text.specs.Parsing.{text_of, body_marks}
 use Rattle.policy_text.proofs.Grammar.{texts_split, word_first, sign_first, wordless_first, braced, if_first, spelled_read, out_worded, if_worded}
-
-pub nodes_are : (b : Block) → block_nodes b ≡ sum (map nodes_of (statements_of b))
-nodes_are b = fold_out-Block ℕ ℕ statement_nodes nodes_layer b
-
-pub depth_is : (b : Block) → block_depth b ≡ greatest (map depth_of (statements_of b))
-depth_is b = fold_out-Block ℕ ℕ statement_depth depth_layer b
 
 -- what is computed of statements, from their words and numbers alone
 pub record Reading (A : Type 0) : Type 0 where
@@ -139,28 +135,32 @@ same_values {A} r b c ls h e = some_is (sym (computed r b ls h) ∙ ap (λ ms. c
     some_is : {x y : List A} → Some x ≡ Some y → x ≡ y
     some_is e = cc
 
-abbrev nodes_read : Reading ℕ
-nodes_read =
-    record {
-      value = nodes_of;
-      drops = 1;
-      outs = λ n. 2;
-      tests = λ name n us. 1 + 2 + sum us + 0;
-      at_drop = fold-roll-Statement ℕ ℕ statement_nodes nodes_layer drop;
-      at_out = λ n. fold-roll-Statement ℕ ℕ statement_nodes nodes_layer (out (Number n ∷ []));
-      at_test = λ f p n b. fold-roll-Statement ℕ ℕ statement_nodes nodes_layer (if_ (Test (Is' f p (Number n))) b None) ∙ ap (λ m. 1 + 2 + m + 0) (nodes_are b);
-    }
+-- what a list of statements is checked for
+abbrev in_list : List Checked → Checked
+in_list cs = record { size = sizes_in cs; limits = limits_in cs; wrong = wrong_in cs; after = same_names }
 
-abbrev depth_read : Reading ℕ
-depth_read =
+checked_is : (b : Block) → checked b ≡ in_list (map statement_checked (statements_of b))
+checked_is b = fold_out-Block Checked Checked check_statement check_block b
+
+-- what an `if` over a test of a field is checked for, whatever the field
+abbrev tested : Checked → Checked
+tested c = record {
+  size = 1 + 2 + c.size + 0;
+  limits = λ n d. limit_faults n n d ++ (limit_faults (n + 1) (n + 1) (d + 1) ++ limit_faults (n + 1 + 1) (n + 1 + 1) (d + 1 + 1)) ++ c.limits (n + 1 + 2) (d + 1) ++ [];
+  wrong = λ names n. [] ++ c.wrong names (n + 1 + 2) ++ [];
+  after = same_names;
+}
+
+abbrev checks : Reading Checked
+checks =
     record {
-      value = depth_of;
-      drops = 1;
-      outs = λ n. 2;
-      tests = λ name n us. 1 + max 2 (max (greatest us) 0);
-      at_drop = fold-roll-Statement ℕ ℕ statement_depth depth_layer drop;
-      at_out = λ n. fold-roll-Statement ℕ ℕ statement_depth depth_layer (out (Number n ∷ []));
-      at_test = λ f p n b. fold-roll-Statement ℕ ℕ statement_depth depth_layer (if_ (Test (Is' f p (Number n))) b None) ∙ ap (λ m. 1 + max 2 (max m 0)) (depth_is b);
+      value = statement_checked;
+      drops = check_leaf;
+      outs = λ n. check_out (Number n ∷ []);
+      tests = λ name n cs. tested (in_list cs);
+      at_drop = fold-roll-Statement Checked Checked check_statement check_block drop;
+      at_out = λ n. fold-roll-Statement Checked Checked check_statement check_block (out (Number n ∷ []));
+      at_test = λ f p n b. fold-roll-Statement Checked Checked check_statement check_block (if_ (Test (Is' f p (Number n))) b None) ∙ ap tested (checked_is b);
     }
 
 pub body_text : (ms : List Mark) (ls : List Lexeme) → AreTextsOf (Keyword (codes "policy") ∷ in_braces ms) ls → (rest : List Lexeme) × AreTextsOf (ms ++ Brace 125 ∷ []) rest
@@ -169,16 +169,14 @@ body_text ms ls h =
     let (ls2, e2, h2) = sign_first 123 (ms ++ Brace 125 ∷ []) ls1 h1 in
     (ls2, h2)
 
--- no policy has a text that is read us the statements of a block that is too large or too deep
-pub too_large : (body : Block) (text : List ℕ) → body_marks (text_lexemes text) ≡ Some (block_marks body ++ Brace 125 ∷ []) → (block_nodes body ≤ 4096 → block_depth body ≤ 32 → ⊥)
-    → (policy : Policy) → IsTextOf policy text → ⊥
-too_large body text e large policy h =
+-- no policy has a text that is read as the statements of a block that is not well formed
+pub ill_formed : (body : Block) (text : List ℕ) → body_marks (text_lexemes text) ≡ Some (block_marks body ++ Brace 125 ∷ []) → (IsWellFormed [] body → ⊥) → (policy : Policy) → IsTextOf policy text → ⊥
+ill_formed body text e ill policy h =
     let f = spelled_read policy.body text h.spells in
     let same : block_marks policy.body ++ Brace 125 ∷ [] ≡ block_marks body ++ Brace 125 ∷ [] = some_is (sym f ∙ e) in
     let (rest, t) = body_text (block_marks policy.body) (text_lexemes text) h.spells.texts in
-    let nodes : block_nodes policy.body ≡ block_nodes body = nodes_are policy.body ∙ ap sum (same_values nodes_read policy.body body rest t same) ∙ sym (nodes_are body) in
-    let depth : block_depth policy.body ≡ block_depth body = depth_is policy.body ∙ ap greatest (same_values depth_read policy.body body rest t same) ∙ sym (depth_is body) in
-    large (subst (λ n. n ≤ 4096) nodes h.spells.few) (subst (λ n. n ≤ 32) depth h.spells.shallow)
+    let is : checked policy.body ≡ checked body = checked_is policy.body ∙ ap in_list (same_values checks policy.body body rest t same) ∙ sym (checked_is body) in
+    ill (subst (λ c. c.limits 1 1 ++ c.wrong [] 1 ≡ []) is h.spells.formed)
   where
     some_is : {x y : List Mark} → Some x ≡ Some y → x ≡ y
     some_is e = cc

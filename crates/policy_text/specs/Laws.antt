@@ -8,7 +8,8 @@ use Rattle.policy_lang.specs.declared.Policy.{Policy}
 use Rattle.policy_lang.specs.Evaluation.{block_ending, eval_of}
 use Rattle.policy_lang.specs.Plain.{is_plain}
 use Rattle.policy_lang.specs.Courses.{block_course}
-use Rattle.policy_text.specs.PolicyText.{IsTextOf, block_marks, block_nodes}
+use Rattle.policy_lang.specs.Faults.{checked}
+use Rattle.policy_text.specs.PolicyText.{IsTextOf, block_marks}
 
 -- what stands in their texts is the same, mark by mark
 abbrev pub OneText : Type 0
@@ -24,7 +25,7 @@ OneCourse = (text : List ℕ) (p q : Policy) → IsTextOf p text → IsTextOf q 
 
 -- with as many steps as the body has nodes, no plain policy runs out of steps, at any key
 abbrev pub NodesSuffice : Type 0
-NodesSuffice = (policy : Policy) (env : Cell → Value) (switch : ℕ) (k : Key) (b : ℕ) → is_plain policy ≡ true → block_nodes policy.body ≤ b → eval_of policy b env switch k ≡ Spent → ⊥
+NodesSuffice = (policy : Policy) (env : Cell → Value) (switch : ℕ) (k : Key) (b : ℕ) → is_plain policy ≡ true → (checked policy.body).size ≤ b → eval_of policy b env switch k ≡ Spent → ⊥
 
 -- with 4,096 steps no policy that has a text runs out of steps, at any key
 abbrev pub NeverSpent : Type 0

@@ -12,7 +12,7 @@ use Rattle.policy_text.specs.declared.reading.Place.TheVariants.{Ahead, BehindDr
 use Rattle.policy_text.specs.declared.reading.Open.{Open}
 use Rattle.policy_text.specs.declared.reading.ReadError.{ReadError}
 use Rattle.policy_text.specs.declared.reading.ReadError.TheVariants.{Refused, NoMemory}
-use Rattle.policy_text.specs.PolicyText.{Lexeme, Word, Sign, Mark, Keyword, Brace, Numeral, IsTextOf, field_name, statement_marks, block_layer, joined, statement_nodes, nodes_layer, statement_depth, depth_layer}
+use Rattle.policy_text.specs.PolicyText.{Lexeme, Word, Sign, Mark, Keyword, Brace, Numeral, IsTextOf, field_name, statement_marks, block_layer, joined}
 
 abbrev pub is_word : List ℕ → Lexeme → Bool
 is_word text (Word w) = bytes_eq w text
@@ -159,12 +159,6 @@ blocks_behind p q d = d
 abbrev pub CanLeave : Place → Place → ℕ → Type 0
 CanLeave Ahead Ahead d = 0 < d
 CanLeave p q d = Unit {0}
-
-abbrev pub nodes_of : Statement → ℕ
-nodes_of = fold-Statement ℕ ℕ statement_nodes nodes_layer
-
-abbrev pub depth_of : Statement → ℕ
-depth_of = fold-Statement ℕ ℕ statement_depth depth_layer
 
 -- no policy has the text, and no place in it is told yet
 abbrev pub IsRefused : List ℕ → ReadError → Type 0

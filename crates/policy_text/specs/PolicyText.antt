@@ -11,6 +11,7 @@ use Rattle.policy_lang.specs.declared.Head.TheVariants.{Host, Hop, Lookup, Test}
 use Rattle.policy_lang.specs.declared.Statement.TheOpen.{Statement-F, Block-F, Drop as drop, Flood as flood, Out as out, Route as route, Let as let_, Assign as assign, If as if_, While as while_}
 use Rattle.policy_lang.specs.declared.Block.{Block, fold-Block}
 use Rattle.policy_lang.specs.declared.Policy.{Policy}
+use Rattle.policy_lang.specs.Faults.{IsWellFormed}
 
 -- a word, or a sign of one byte
 pub data Lexeme : Type 0 where
@@ -130,114 +131,11 @@ block_layer b = joined b.list.items
 abbrev pub block_marks : Block → List Mark
 block_marks = fold-Block (List Mark) (List Mark) statement_marks block_layer
 
--- how many nodes a statement has: itself, its head where that binds a name, its expressions, and those of its blocks
-abbrev pub expr_nodes : Expr → ℕ
-expr_nodes (Number n) = 1
-expr_nodes (Var x) = 1
-expr_nodes (SwitchOf x) = 1
-expr_nodes (PortOf x) = 1
-expr_nodes PacketSwitch = 1
-expr_nodes (Packet f) = 1
-expr_nodes (Up' p l q r) = 1 + expr_nodes l + expr_nodes r
-expr_nodes (At' p l q r) = 1 + expr_nodes l + expr_nodes r
-expr_nodes (Is' f p e) = 1 + expr_nodes e
-expr_nodes (Not' p e) = 1 + expr_nodes e
-expr_nodes (And' p l q r) = 1 + expr_nodes l + expr_nodes r
-expr_nodes (Or' p l q r) = 1 + expr_nodes l + expr_nodes r
-expr_nodes (Add' p l q r) = 1 + expr_nodes l + expr_nodes r
-expr_nodes (Sub' p l q r) = 1 + expr_nodes l + expr_nodes r
-expr_nodes (Equal' p l q r) = 1 + expr_nodes l + expr_nodes r
-expr_nodes (NotEqual' p l q r) = 1 + expr_nodes l + expr_nodes r
-expr_nodes (Less' p l q r) = 1 + expr_nodes l + expr_nodes r
-expr_nodes (LessEqual' p l q r) = 1 + expr_nodes l + expr_nodes r
-
-abbrev pub all_nodes : List Expr → ℕ
-all_nodes [] = 0
-all_nodes (e ∷ es) = expr_nodes e + all_nodes es
-
-abbrev pub other_nodes : Option ℕ → ℕ
-other_nodes None = 0
-other_nodes (Some n) = n
-
-abbrev pub head_nodes : Head → ℕ
-head_nodes (Host e x) = 1 + expr_nodes e
-head_nodes (Hop e x) = 1 + expr_nodes e
-head_nodes (Lookup t e x) = 1 + expr_nodes e
-head_nodes (Test e) = expr_nodes e
-
-abbrev pub statement_nodes : Statement-F ℕ ℕ → ℕ
-statement_nodes drop = 1
-statement_nodes flood = 1
-statement_nodes (out es) = 1 + all_nodes es
-statement_nodes (route e) = 1 + expr_nodes e
-statement_nodes (let_ x e) = 1 + expr_nodes e
-statement_nodes (assign x e) = 1 + expr_nodes e
-statement_nodes (if_ h block other) = 1 + head_nodes h + block + other_nodes other
-statement_nodes (while_ e block) = 1 + expr_nodes e + block
-
-abbrev pub nodes_layer : Block-F ℕ ℕ → ℕ
-nodes_layer b = sum b.list.items
-
-abbrev pub block_nodes : Block → ℕ
-block_nodes = fold-Block ℕ ℕ statement_nodes nodes_layer
-
--- how deep a statement's nodes go, itself counted: an expression of a statement is one deeper than it, a part of an operator one deeper than that
-abbrev pub expr_depth : Expr → ℕ
-expr_depth (Number n) = 1
-expr_depth (Var x) = 1
-expr_depth (SwitchOf x) = 1
-expr_depth (PortOf x) = 1
-expr_depth PacketSwitch = 1
-expr_depth (Packet f) = 1
-expr_depth (Up' p l q r) = 1 + max (expr_depth l) (expr_depth r)
-expr_depth (At' p l q r) = 1 + max (expr_depth l) (expr_depth r)
-expr_depth (Is' f p e) = 1 + expr_depth e
-expr_depth (Not' p e) = 1 + expr_depth e
-expr_depth (And' p l q r) = 1 + max (expr_depth l) (expr_depth r)
-expr_depth (Or' p l q r) = 1 + max (expr_depth l) (expr_depth r)
-expr_depth (Add' p l q r) = 1 + max (expr_depth l) (expr_depth r)
-expr_depth (Sub' p l q r) = 1 + max (expr_depth l) (expr_depth r)
-expr_depth (Equal' p l q r) = 1 + max (expr_depth l) (expr_depth r)
-expr_depth (NotEqual' p l q r) = 1 + max (expr_depth l) (expr_depth r)
-expr_depth (Less' p l q r) = 1 + max (expr_depth l) (expr_depth r)
-expr_depth (LessEqual' p l q r) = 1 + max (expr_depth l) (expr_depth r)
-
-abbrev pub deepest : List Expr → ℕ
-deepest [] = 0
-deepest (e ∷ es) = max (expr_depth e) (deepest es)
-
-abbrev pub head_depth : Head → ℕ
-head_depth (Host e x) = 1 + expr_depth e
-head_depth (Hop e x) = 1 + expr_depth e
-head_depth (Lookup t e x) = 1 + expr_depth e
-head_depth (Test e) = expr_depth e
-
-abbrev pub statement_depth : Statement-F ℕ ℕ → ℕ
-statement_depth drop = 1
-statement_depth flood = 1
-statement_depth (out es) = 1 + deepest es
-statement_depth (route e) = 1 + expr_depth e
-statement_depth (let_ x e) = 1 + expr_depth e
-statement_depth (assign x e) = 1 + expr_depth e
-statement_depth (if_ h block other) = 1 + max (head_depth h) (max block (other_nodes other))
-statement_depth (while_ e block) = 1 + max (expr_depth e) block
-
-abbrev pub greatest : List ℕ → ℕ
-greatest [] = 0
-greatest (n ∷ ns) = max n (greatest ns)
-
-abbrev pub depth_layer : Block-F ℕ ℕ → ℕ
-depth_layer b = greatest b.list.items
-
-abbrev pub block_depth : Block → ℕ
-block_depth = fold-Block ℕ ℕ statement_depth depth_layer
-
--- the text is `policy { .. }` with the statements of this block, in ASCII, of at most 65,536 bytes, 4,096 nodes and a nesting of 32
+-- the text is `policy { .. }` with the statements of this block, which are well formed, in ASCII, of at most 65,536 bytes
 pub record Spells (body : Block) (text : List ℕ) : Type 0 where
   pub short : length text ≤ 65536
   pub ascii : IsTrue (list_all is_text_byte text)
-  pub few : block_nodes body ≤ 4096
-  pub shallow : block_depth body ≤ 32
+  pub formed : IsWellFormed [] body
   pub texts : AreTextsOf (Keyword (codes "policy") ∷ in_braces (block_marks body)) (text_lexemes text)
 
 -- the text is one of this policy, which names no tables and learns no hosts

@@ -5,13 +5,13 @@ ghost use Rattle.std.specs.List.{list_all};
 ghost use Rattle.std.specs.Str.{bytes_eq};
 ghost use Rattle.policy_lang.specs.Blocks.{statements_of};
 ghost use Rattle.policy_lang.specs.Plain.{is_plain};
-ghost use Rattle.policy_text.specs.PolicyText.{IsTextOf, Mark, Brace, is_text_byte, text_lexemes, lexemes_of, block_nodes, block_depth, expr_nodes, all_nodes, head_nodes, other_nodes, expr_depth, deepest, head_depth, greatest};
-ghost use Rattle.policy_text.specs.Parsing.{IsRefused, is_word, is_sign, number_in, field_in, named_field, net_field, ports_field, place_of, step, closing, opened, marks_from, body_marks, marks_of, test_text, levels, so_far, ended, blocks_behind, CanLeave, nodes_of, depth_of};
+ghost use Rattle.policy_text.specs.PolicyText.{IsTextOf, Mark, Brace, is_text_byte, text_lexemes, lexemes_of};
+ghost use Rattle.policy_text.specs.Parsing.{IsRefused, is_word, is_sign, number_in, field_in, named_field, net_field, ports_field, place_of, step, closing, opened, marks_from, body_marks, marks_of, test_text, levels, so_far, ended, blocks_behind, CanLeave};
 ghost use Rattle.policy_text.specs.Tokens.{lexeme};
 
 use crate::tokens::{Token, is_text_byte, next_token, without_comments};
-use maple_base::{Field, Names, NoMemory, number_of};
-use policy_lang::{Block, Expr, Exprs, Head, Policy, Statement};
+use maple_base::{Field, NoMemory, number_of};
+use policy_lang::{Block, BuildError, Expr, Exprs, Head, Policy, Statement};
 use std::alloc::Global;
 use std::mem;
 
@@ -79,216 +79,17 @@ pub fn read_policy(alloc: Global, text: &[u8]) -> Result<Policy, ReadError>
     let Some(list) = read else {
         return Err(REFUSED);
     };
-    let body = Block::new(list);
-    if !are_few(&body) || !is_shallow(&body) {
-        return Err(REFUSED);
+    match Policy::build(alloc, Vec::new(alloc), false, Block::new(list)) {
+        Ok(policy) => Ok(policy),
+        Err(BuildError::Fault { .. }) => Err(REFUSED),
+        Err(BuildError::NoMemory) => Err(ReadError::NoMemory),
     }
-    let tables = Names::new(Vec::new(alloc));
-    Ok(Policy::new(tables, false, body))
 }
 
 fn is_ascii_text(text: &[u8]) -> bool
     ensures { result ≡ list_all is_text_byte text.now }
 {
     text.iter().all(|b| is_text_byte(*b))
-}
-
-fn are_few(body: &Block) -> bool
-    ensures { IsTrue result ↔ (block_nodes body.now ≤ 4096) }
-{
-    nodes_in(body.items()) <= 4_096
-}
-
-fn is_shallow(body: &Block) -> bool
-    ensures { IsTrue result ↔ (block_depth body.now ≤ 32) }
-{
-    depth_in(body.items()) <= 32
-}
-
-fn expr_nodes(expr: &Expr) -> usize
-    ensures { result ≡ min (expr_nodes expr.now) (2 ^ 64 - 1) }
-{
-    match expr {
-        Expr::Number(_)
-        | Expr::Var(_)
-        | Expr::SwitchOf(_)
-        | Expr::PortOf(_)
-        | Expr::PacketSwitch
-        | Expr::Packet(_) => 1,
-        Expr::Is(_, inner) | Expr::Not(inner) => expr_nodes(inner).saturating_add(1),
-        Expr::Up(left, right)
-        | Expr::At(left, right)
-        | Expr::And(left, right)
-        | Expr::Or(left, right)
-        | Expr::Add(left, right)
-        | Expr::Sub(left, right)
-        | Expr::Equal(left, right)
-        | Expr::NotEqual(left, right)
-        | Expr::Less(left, right)
-        | Expr::LessEqual(left, right) => {
-            expr_nodes(left)
-                .saturating_add(expr_nodes(right))
-                .saturating_add(1)
-        }
-    }
-}
-
-fn all_nodes(exprs: &[Expr]) -> usize
-    ensures { result ≡ min (all_nodes exprs.now) (2 ^ 64 - 1) }
-{
-    let mut nodes: usize = 0;
-    for expr in exprs {
-        nodes = nodes.saturating_add(expr_nodes(expr));
-    }
-    nodes
-}
-
-fn head_nodes(head: &Head) -> usize
-    ensures { result ≡ min (head_nodes head.now) (2 ^ 64 - 1) }
-{
-    match head {
-        Head::Host(expr, _) | Head::Hop(expr, _) | Head::Lookup(_, expr, _) => {
-            expr_nodes(expr).saturating_add(1)
-        }
-        Head::Test(expr) => expr_nodes(expr),
-    }
-}
-
-#[cycle(nodes)]
-fn nodes_of(statement: &Statement) -> usize
-    ensures { result ≡ min (nodes_of statement.now) (2 ^ 64 - 1) }
-{
-    match statement {
-        Statement::Drop | Statement::Flood => 1,
-        Statement::Out(exprs) => all_nodes(exprs.items()).saturating_add(1),
-        Statement::Route(expr) | Statement::Let(_, expr) | Statement::Assign(_, expr) => {
-            expr_nodes(expr).saturating_add(1)
-        }
-        Statement::If(head, block, other) => {
-            let inner = nodes_in(block.items()).saturating_add(other_nodes(other));
-            head_nodes(head).saturating_add(inner).saturating_add(1)
-        }
-        Statement::While(expr, block) => {
-            let inner = nodes_in(block.items());
-            expr_nodes(expr).saturating_add(inner).saturating_add(1)
-        }
-    }
-}
-
-#[cycle(nodes)]
-fn other_nodes(other: &Option<Block>) -> usize
-    ensures { result ≡ min (other_nodes (option_map block_nodes other.now)) (2 ^ 64 - 1) }
-{
-    match other {
-        None => 0,
-        Some(block) => nodes_in(block.items()),
-    }
-}
-
-#[cycle(nodes)]
-fn nodes_in(statements: &[Statement]) -> usize
-    ensures { result ≡ min (sum (map nodes_of statements.now)) (2 ^ 64 - 1) }
-{
-    let mut nodes: usize = 0;
-    for statement in statements {
-        nodes = nodes.saturating_add(nodes_of(statement));
-    }
-    nodes
-}
-
-fn larger(first: usize, second: usize) -> usize
-    ensures { result ≡ max first second }
-{
-    if first < second { second } else { first }
-}
-
-fn expr_depth(expr: &Expr) -> usize
-    ensures { result ≡ min (expr_depth expr.now) (2 ^ 64 - 1) }
-{
-    match expr {
-        Expr::Number(_)
-        | Expr::Var(_)
-        | Expr::SwitchOf(_)
-        | Expr::PortOf(_)
-        | Expr::PacketSwitch
-        | Expr::Packet(_) => 1,
-        Expr::Is(_, inner) | Expr::Not(inner) => expr_depth(inner).saturating_add(1),
-        Expr::Up(left, right)
-        | Expr::At(left, right)
-        | Expr::And(left, right)
-        | Expr::Or(left, right)
-        | Expr::Add(left, right)
-        | Expr::Sub(left, right)
-        | Expr::Equal(left, right)
-        | Expr::NotEqual(left, right)
-        | Expr::Less(left, right)
-        | Expr::LessEqual(left, right) => {
-            larger(expr_depth(left), expr_depth(right)).saturating_add(1)
-        }
-    }
-}
-
-fn deepest(exprs: &[Expr]) -> usize
-    ensures { result ≡ min (deepest exprs.now) (2 ^ 64 - 1) }
-{
-    let mut depth: usize = 0;
-    for expr in exprs {
-        depth = larger(depth, expr_depth(expr));
-    }
-    depth
-}
-
-fn head_depth(head: &Head) -> usize
-    ensures { result ≡ min (head_depth head.now) (2 ^ 64 - 1) }
-{
-    match head {
-        Head::Host(expr, _) | Head::Hop(expr, _) | Head::Lookup(_, expr, _) => {
-            expr_depth(expr).saturating_add(1)
-        }
-        Head::Test(expr) => expr_depth(expr),
-    }
-}
-
-#[cycle(depth)]
-fn depth_of(statement: &Statement) -> usize
-    ensures { result ≡ min (depth_of statement.now) (2 ^ 64 - 1) }
-{
-    match statement {
-        Statement::Drop | Statement::Flood => 1,
-        Statement::Out(exprs) => deepest(exprs.items()).saturating_add(1),
-        Statement::Route(expr) | Statement::Let(_, expr) | Statement::Assign(_, expr) => {
-            expr_depth(expr).saturating_add(1)
-        }
-        Statement::If(head, block, other) => {
-            let inner = larger(depth_in(block.items()), other_depth(other));
-            larger(head_depth(head), inner).saturating_add(1)
-        }
-        Statement::While(expr, block) => {
-            let inner = depth_in(block.items());
-            larger(expr_depth(expr), inner).saturating_add(1)
-        }
-    }
-}
-
-#[cycle(depth)]
-fn other_depth(other: &Option<Block>) -> usize
-    ensures { result ≡ min (other_nodes (option_map block_depth other.now)) (2 ^ 64 - 1) }
-{
-    match other {
-        None => 0,
-        Some(block) => depth_in(block.items()),
-    }
-}
-
-#[cycle(depth)]
-fn depth_in(statements: &[Statement]) -> usize
-    ensures { result ≡ min (greatest (map depth_of statements.now)) (2 ^ 64 - 1) }
-{
-    let mut depth: usize = 0;
-    for statement in statements {
-        depth = larger(depth, depth_of(statement));
-    }
-    depth
 }
 
 // The statements of a text, where it has the form of a policy.

@@ -1,8 +1,8 @@
 use crate::recording::record;
-use maple_base::{Blank, Decision, Field, Item, Key, Names, NoMemory, Outcome};
+use maple_base::{Blank, Decision, Field, Item, Key, NoMemory, Outcome};
 use policy_eval::eval;
 use policy_lang::plain::is_plain;
-use policy_lang::{Block, Expr, Exprs, Head, Policy, Statement};
+use policy_lang::{Block, BuildError, Expr, Exprs, Head, Policy, Statement};
 use std::alloc::Global;
 use std::process::Abort;
 use std::test::Fail;
@@ -107,8 +107,8 @@ fn unless(
     Ok(Statement::If(is(alloc, field, value)?, block, Some(other)))
 }
 
-fn policy(alloc: Global, statements: Vec<Statement>) -> Policy {
-    Policy::new(Names::new(Vec::new(alloc)), false, Block::new(statements))
+fn policy(alloc: Global, statements: Vec<Statement>) -> Result<Policy, BuildError> {
+    Policy::build(alloc, Vec::new(alloc), false, Block::new(statements))
 }
 
 // A run asks these items and decides this, and plain evaluation decides the same.
@@ -273,7 +273,7 @@ fn asks_a_field(rt: HostRuntime) -> Result<(), Fail> {
         } else {
             Answer::Port(2)
         };
-        wants(&rt, alloc, &policy(alloc, body), 5, key, items, answer)?;
+        wants(&rt, alloc, &policy(alloc, body)?, 5, key, items, answer)?;
     }
     Ok(())
 }
@@ -291,18 +291,17 @@ fn two_tests(
     alloc: Global,
     second: Second,
     tests: ((Field, u64), (Field, u64)),
-) -> Result<Policy, NoMemory> {
+) -> Result<Vec<Statement>, NoMemory> {
     let ((field, value), (other, number)) = tests;
     let last = when(alloc, other, number, Statement::Drop)?;
-    let body = match second {
+    match second {
         Second::Behind => {
             let first = when(alloc, field, value, Statement::Drop)?;
-            vec![in alloc; first, last, out(alloc, 2)?]?
+            Ok(vec![in alloc; first, last, out(alloc, 2)?]?)
         }
-        Second::Inside => vec![in alloc; when(alloc, field, value, last)?, out(alloc, 2)?]?,
-        Second::Else => vec![in alloc; unless(alloc, field, value, last)?, out(alloc, 2)?]?,
-    };
-    Ok(policy(alloc, body))
+        Second::Inside => Ok(vec![in alloc; when(alloc, field, value, last)?, out(alloc, 2)?]?),
+        Second::Else => Ok(vec![in alloc; unless(alloc, field, value, last)?, out(alloc, 2)?]?),
+    }
 }
 
 // What is settled asks nothing, and a condition that earlier items settle asks nothing.
@@ -411,7 +410,7 @@ fn asks_two_fields(rt: HostRuntime) -> Result<(), Fail> {
         } else {
             Answer::Port(2)
         };
-        let policy = two_tests(alloc, *second, (*first, *last))?;
+        let policy = policy(alloc, two_tests(alloc, *second, (*first, *last))?)?;
         wants(&rt, alloc, &policy, 9, key, items, answer)?;
     }
     Ok(())
@@ -437,7 +436,7 @@ fn rules_out_ports(rt: HostRuntime) -> Result<(), Fail> {
     wants(
         &rt,
         alloc,
-        &policy(alloc, body),
+        &policy(alloc, body)?,
         15,
         &ospf(),
         &items,
@@ -453,7 +452,7 @@ fn counts_steps(rt: HostRuntime) -> Result<(), Fail> {
         when(alloc, Field::TpDst, 22, Statement::Drop)?,
         out(alloc, 2)?,
     ]?;
-    let ssh = policy(alloc, body);
+    let ssh = policy(alloc, body)?;
     let ip = read(Field::DlType, 0x0800);
     let by_tcp = read(Field::NwProto, 6);
     let other: &[Item] = &[ip, by_tcp, test(Field::TpDst, 22, false)];
@@ -471,7 +470,7 @@ fn counts_steps(rt: HostRuntime) -> Result<(), Fail> {
     for (budget, port, items, answer) in &rows {
         wants(&rt, alloc, &ssh, *budget, &tcp(*port), items, *answer)?;
     }
-    let empty = policy(alloc, Vec::new(alloc));
+    let empty = policy(alloc, Vec::new(alloc))?;
     wants(&rt, alloc, &empty, 1, &arp(), &[], Answer::Nowhere)
 }
 
@@ -497,8 +496,8 @@ fn leaves_out_ports(rt: HostRuntime) -> Result<(), Fail> {
     let body = vec![in alloc; Statement::Out(Exprs::new(numbers))]?;
     let key = tcp(80);
     assert!(rt; key.valid());
-    let outcome = eval(alloc, &policy(alloc, body), 7, &Blank, 7, &key)?;
+    let outcome = eval(alloc, &policy(alloc, body)?, 7, &Blank, 7, &key)?;
     assert_eq!(rt; ports_of(&outcome), [2u16, 65280].as_slice());
-    let none = policy(alloc, vec![in alloc; out(alloc, 0)?]?);
+    let none = policy(alloc, vec![in alloc; out(alloc, 0)?]?)?;
     wants(&rt, alloc, &none, 2, &key, &[], Answer::Nowhere)
 }

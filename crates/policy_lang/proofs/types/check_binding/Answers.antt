@@ -6,6 +6,6 @@ use Rattle.policy_lang.proofs.types.check_binding.Goals as goal
 
 pub returns : goal.returns
 returns c =
-    let all = binding_found c.args.expr.now c.args.name.now (in_force c.args.scope.now.list.items) c.args.node _ c.check_operand-found.result (told c.declared_fault.result) (told c.earlier.result)
+    let all = binding_found c.args.expr.now c.args.name.now (in_force c.args.scope.now.names.entries) c.args.node _ c.check_operand-found.result (told c.declared_fault.result) (told c.earlier.result)
     c.check_operand-found.ensures refl c.declared_fault.ensures c.earlier.ensures in
     record { fault = all.0; next = all.1 }
