@@ -1,7 +1,8 @@
 // Which token a word or a sign is.
-ghost use Rattle.std.specs.Prelude.{◌≡◌, ◌==◌, ◌∷◌, [], ◌<◌, length, Err, MatchOption};
+ghost use Rattle.std.specs.Prelude.{◌≡◌, ◌==◌, ◌∷◌, [], ◌<◌, length, if◌then◌else◌, Err, MatchOption, None};
 ghost use Rattle.std.specs.List.{find, slice_split};
 ghost use Rattle.std.specs.Str.{bytes_eq};
+ghost use Rattle.maple_base.specs.Names.{is_name};
 ghost use Rattle.maple_base.specs.Numbers.{numeral_of};
 ghost use Rattle.policy_tokens.specs.Spellings.{keyword_text, keywords, sign_text, signs};
 ghost use Rattle.policy_tokens.specs.Words.{plain_token, packet_token, place_token, parts_token, numeral_token, token_or, word_token, sign_of, begins_word, token_of};
@@ -112,7 +113,16 @@ fn parts_token(word: &[u8]) -> Option<Token>
     if front == b"pkt".as_slice() {
         packet_token(part)
     } else {
-        place_token(Name::new(front)?, part)
+        part_of_name(front, part)
+    }
+}
+
+fn part_of_name(front: &[u8], part: &[u8]) -> Option<Token>
+    ensures { result ≡ (if is_name front.now then place_token front.now part.now else None) }
+{
+    match Name::new(front) {
+        Some(name) => place_token(name, part),
+        None => None,
     }
 }
 
