@@ -12,8 +12,8 @@ use crate::words::token_of;
 use crate::{FaultKind, Place, PlacedToken, Token, Tokens, TokensError};
 use std::alloc::{AllocFailed, Global};
 
-/// How many bytes a text may have.
-pub const MOST_BYTES: usize = 65536;
+// How many bytes a text may have.
+const MOST_BYTES: usize = 65536;
 
 /// The tokens of a policy's text, each with its place, and the place of the text's end.
 ///

@@ -21,8 +21,8 @@ impl Model for Tokens {
 }
 
 impl Tokens {
-    /// These tokens, and this place of the end.
-    pub fn new(list: Vec<PlacedToken>, end: Place) -> Tokens
+    // These tokens, and this place of the end.
+    pub(crate) fn new(list: Vec<PlacedToken>, end: Place) -> Tokens
         ensures tokens { result.tokens ≡ list.items }
         ensures end { result.end ≡ end }
     {
