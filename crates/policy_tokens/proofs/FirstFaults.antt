@@ -63,10 +63,10 @@ long_from offset text le =
 long_behind : (offset : ℕ) (k : FaultKind) (text : List ℕ) → offset ≤ 65536 → number_of k < 10 → BeforeAll (fault_at offset k) (too_long text)
 long_behind offset k text le few =
     let first : is_before (fault_at offset k) (fault_at 65536 TooLong) ≡ true =
-      ⊎_elim
-      (λ lt. or_left _ _ (lt-ltb offset 65536 lt))
-      (λ ge. or_right _ _ (and_from _ _ (eq-eqb offset 65536 (omega arith)) (lt-ltb (number_of k) 10 few)))
-      (cases_lt offset 65536) in
+    ⊎_elim
+    (λ lt. or_left _ _ (lt-ltb offset 65536 lt))
+    (λ ge. or_right _ _ (and_from _ _ (eq-eqb offset 65536 (omega arith)) (lt-ltb (number_of k) 10 few)))
+    (cases_lt offset 65536) in
     cond_both (ltb 65536 (length text)) (fault_at 65536 TooLong ∷ []) [] (BeforeAll (fault_at offset k)) (λ _. (first, tt)) (λ _. tt)
 
 strange_first : (text : List ℕ) (past offset b : ℕ) (bs : List ℕ) → is_text_byte b ≡ false → offset ≤ 65536 → earliest (faults_from text past offset (b ∷ bs)) ≡ Some (fault_at offset NotAscii)
@@ -75,11 +75,11 @@ strange_first text past offset b bs f le =
     let words = word_faults past offset (b ∷ bs) in
     ap (λ t. earliest (cond t rest (fault_at offset NotAscii ∷ rest) ++ (too_long text ++ words))) f
     ∙ earliest_head (fault_at offset NotAscii) (rest ++ (too_long text ++ words))
-      (NoneBefore-append (fault_at offset NotAscii) rest (too_long text ++ words)
-       (NoneBefore-from_later (fault_at offset NotAscii) rest (strange_from (offset + 1) bs))
-       (NoneBefore-append (fault_at offset NotAscii) (too_long text) words
-        (strange_none offset (too_long text) (long_from offset text le))
-        (strange_none offset words (words_from past offset (b ∷ bs)))))
+    (NoneBefore-append (fault_at offset NotAscii) rest (too_long text ++ words)
+    (NoneBefore-from_later (fault_at offset NotAscii) rest (strange_from (offset + 1) bs))
+    (NoneBefore-append (fault_at offset NotAscii) (too_long text) words
+    (strange_none offset (too_long text) (long_from offset text le))
+    (strange_none offset words (words_from past offset (b ∷ bs)))))
 
 record IsNoToken (o : Option (List ℕ)) (k : FaultKind) : Type 0 where
   bytes : List ℕ
@@ -105,10 +105,10 @@ word_first text past offset b bs k t e le =
     ∙ ap (λ o. earliest (rest ++ (too_long text ++ filter_map lexeme_fault (cons_option (option_map (lexeme offset) o) (lexemes_from next (offset + 1) bs))))) h.begins
     ∙ ap (λ r. earliest (rest ++ (too_long text ++ cons_option (option_map (fault_at offset) (result_err r)) words))) h.fails
     ∙ earliest_behind rest (fault_at offset k) (too_long text ++ (fault_at offset k ∷ words))
-      (BeforeAll-from_later (fault_at offset k) rest (strange_from (offset + 1) bs))
-      (earliest_behind (too_long text) (fault_at offset k) (fault_at offset k ∷ words)
-       (long_behind offset k text le (kind_of_words h.bytes k h.fails))
-       (earliest_head (fault_at offset k) words (NoneBefore-from_later (fault_at offset k) words (words_from next (offset + 1) bs))))
+    (BeforeAll-from_later (fault_at offset k) rest (strange_from (offset + 1) bs))
+    (earliest_behind (too_long text) (fault_at offset k) (fault_at offset k ∷ words)
+    (long_behind offset k text le (kind_of_words h.bytes k h.fails))
+    (earliest_head (fault_at offset k) words (NoneBefore-from_later (fault_at offset k) words (words_from next (offset + 1) bs))))
 
 front_first : (text : List ℕ) (past offset b : ℕ) (bs : List ℕ) (k : FaultKind) → front_token past b bs ≡ Err k → offset ≤ 65536
     → earliest (faults_from text past offset (b ∷ bs)) ≡ Some (fault_at offset k)
@@ -140,8 +140,8 @@ too_long_first text past rest token l long e =
     ap earliest (faults_step text past 65536 rest token l e)
     ∙ ap (λ v. earliest (strange ++ (cond v (fault_at 65536 TooLong ∷ []) [] ++ words))) (lt-ltb 65536 (length text) long)
     ∙ earliest_behind strange (fault_at 65536 TooLong) (fault_at 65536 TooLong ∷ words)
-      (BeforeAll-from_later (fault_at 65536 TooLong) strange (strange_from (65536 + 1) bs))
-      (earliest_head (fault_at 65536 TooLong) words (NoneBefore-from_later (fault_at 65536 TooLong) words (words_from next (65536 + 1) bs)))
+    (BeforeAll-from_later (fault_at 65536 TooLong) strange (strange_from (65536 + 1) bs))
+    (earliest_head (fault_at 65536 TooLong) words (NoneBefore-from_later (fault_at 65536 TooLong) words (words_from next (65536 + 1) bs)))
 
 -- the error with the fault's kind and place tells it
 pub error_told : (text : List ℕ) (fs : List Fault) (offset : ℕ) (kind : FaultKind) (place : Place) → place ≡ place_at text offset → fs ≡ faults text → earliest fs ≡ Some (fault_at offset kind)

@@ -55,7 +55,7 @@ tokens_next text past offset next token place kept more whole lt e n p m same =
     ap (λ s. more ++ filter_map (placed text) (lexemes_from next (offset + 1) s)) (sym (drop-drop 1 offset text))
     ∙ ap (λ i. more ++ filter_map (placed text) (lexemes_from i (offset + 1) rest)) (sym (past_rest text past offset next n))
     ∙ ap (λ ts. ts ++ filter_map (placed text) (lexemes_from (past_at past (drop offset text)) (offset + 1) rest))
-      (m ∙ ap (λ q. kept ++ option_to_list (option_map (placed_at q) token)) p)
+    (m ∙ ap (λ q. kept ++ option_to_list (option_map (placed_at q) token)) p)
     ∙ append_assoc kept begun (filter_map (placed text) (lexemes_from (past_at past (drop offset text)) (offset + 1) rest))
     ∙ ap (λ ts. kept ++ ts) (sym (tokens_step text past offset (drop offset text) token (some_rest text offset lt) (read_rest text past offset (Ok token) e)))
     ∙ same

@@ -45,8 +45,8 @@ ahead_by text m (suc k) n e le =
     let same : m + k + 1 + 1 ≡ n = omega (arith, e) in
     subst (λ i. IsAhead (place_at text m) (place_at text i)) same
     (IsAhead-trans (place_at text m) (place_at text (m + k + 1)) (place_at text (m + k + 1 + 1))
-     (ahead_by text m k (m + k + 1) refl (omega (arith, e)))
-     (step_ahead text (m + k + 1) (omega (arith, e))))
+    (ahead_by text m k (m + k + 1) refl (omega (arith, e)))
+    (step_ahead text (m + k + 1) (omega (arith, e))))
 
 -- a place with fewer bytes ahead of it is ahead
 ahead : (text : List ℕ) (m n : ℕ) → m < n → n ≤ length text → IsAhead (place_at text m) (place_at text n)

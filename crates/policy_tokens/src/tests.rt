@@ -105,8 +105,14 @@ fn places_and_signs(rt: HostRuntime) -> Result<(), Fail> {
         column: 14,
     };
     let token = Token::Name(name);
-    assert_eq!(rt; token_of(rt.alloc(), b"policy { out x; }", 3), Some(PlacedToken { token, place }));
-    assert_eq!(rt; extent_of(rt.alloc(), b"policy { out x; }"), Some((6, 1, 18)));
+    assert_eq!(rt;
+        token_of(rt.alloc(), b"policy { out x; }", 3),
+        Some(PlacedToken { token, place })
+    );
+    assert_eq!(rt;
+        extent_of(rt.alloc(), b"policy { out x; }"),
+        Some((6, 1, 18))
+    );
     assert_eq!(rt; extent_of(rt.alloc(), b"a<=b"), Some((3, 1, 5)));
     assert_eq!(rt; extent_of(rt.alloc(), b"a< =b"), Some((4, 1, 6)));
     assert_eq!(rt; extent_of(rt.alloc(), b"a===b # c\n"), Some((4, 2, 1)));

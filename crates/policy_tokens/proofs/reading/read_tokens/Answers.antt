@@ -17,7 +17,7 @@ returns-in-Err-clause-fault c =
     let here = c.loop-offset in
     error_told text _ here.offset c.in-Err.kind here.place here.invariant.place here.invariant.same_faults
     (error_first text here.past here.offset (drop here.offset text) c.in-Err.kind (some_rest text here.offset c.loop-offset-test.true) here.invariant.within
-     (read_rest text here.past here.offset _ (sym c.token_at.ensures ∙ c.in-Err.is)))
+    (read_rest text here.past here.offset _ (sym c.token_at.ensures ∙ c.in-Err.is)))
 
 pub returns-then-offset-eq-MOST_BYTES-clause-fault : goal.returns-then-offset-eq-MOST_BYTES-clause-fault
 returns-then-offset-eq-MOST_BYTES-clause-fault c =
@@ -29,7 +29,7 @@ returns-then-offset-eq-MOST_BYTES-clause-fault c =
     (subst (λ n. here.place ≡ place_at text n) at here.invariant.place)
     (subst (λ n. faults_from text here.past n (drop here.offset text) ≡ faults text) at here.invariant.same_faults)
     (too_long_first text here.past (drop here.offset text) c.in-Ok.token (some_rest text here.offset c.loop-offset-test.true) long
-     (read_rest text here.past here.offset _ (sym c.token_at.ensures ∙ c.in-Ok.is)))
+    (read_rest text here.past here.offset _ (sym c.token_at.ensures ∙ c.in-Ok.is)))
 
 pub loop-offset-preserved : goal.loop-offset-preserved
 loop-offset-preserved c =
