@@ -1,6 +1,7 @@
 pub mod Bytes
 pub mod Faults
 pub mod Kinds
+pub mod Laws
 pub mod Lexemes
 pub mod Places
 pub mod Reading

@@ -3,6 +3,7 @@
 
 mod bytes;
 pub mod fault;
+pub mod laws;
 mod reading;
 #[cfg(test)]
 mod tests;
@@ -11,6 +12,7 @@ pub mod token_list;
 mod words;
 
 pub use fault::{FaultKind, TokensError};
+pub use laws::{layout_laws, spelling_laws};
 pub use reading::read_tokens;
 pub use token::{Keyword, Place, PlacedToken, Sign, Token};
 pub use token_list::Tokens;
