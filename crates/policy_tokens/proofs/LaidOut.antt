@@ -1,10 +1,12 @@
 -- The words and signs of a text, however it is laid out.
-use Rattle.std.proofs.Common.{◌≡◌, ℕ, zero, suc, ◌+◌, ◌≤◌, cond, eqb, true, false, Bool, not, ◌&&◌, map, List, [], ◌∷◌, ◌++◌, length, take, Option, Some, None, Result, Ok, Err, refl, sym, ap, ◌∙◌, subst, arith, ⊎_elim}
+use Rattle.std.proofs.Common.{◌≡◌, ℕ, zero, suc, ◌+◌, ◌≤◌, cond, eqb, true, false, Bool, not, ◌&&◌, map, List, [], ◌∷◌, ◌++◌, length, take, drop, append-nil, Option, Some, None, Result, Ok, Err, refl, sym, ap, ◌∙◌, subst, arith, ⊎_elim}
 use Rattle.std.specs.Option.{option_map}
 use Rattle.std.specs.Result.{result_ok, result_err, is_ok}
-use Rattle.std.specs.List.{filter_map, cons_option, prefix_len, list_all}
+use Rattle.std.specs.List.{filter_map, cons_option, prefix_len, list_all, All}
 use Rattle.std.proofs.Math.Seq.{take-append_seam}
 use Rattle.std.proofs.lemmas.Bool.{cases_Bool, and_parts, not-true, and_right, or_cases, eqb-true, eq-eqb}
+use Rattle.std.proofs.lemmas.List.{drop-drop}
+use Rattle.std.proofs.lemmas.List.Elements.{All-nil, All-cons}
 use Rattle.std.proofs.lemmas.List.Folds.{prefix_len-append}
 use Rattle.policy_tokens.specs.declared.token.Token.{Token}
 use Rattle.policy_tokens.specs.declared.token.Place.{Place}
@@ -13,7 +15,7 @@ use Rattle.policy_tokens.specs.declared.fault.FaultKind.{FaultKind}
 use Rattle.policy_tokens.specs.declared.fault.FaultKind.TheVariants.{NotAscii}
 use Rattle.policy_tokens.specs.Bytes.{is_word_byte, is_blank, is_text_byte, begins_lexeme, begins_comment, begins_equal, may_pair, ends_line}
 use Rattle.policy_tokens.specs.Lexemes.{Lexeme, lexeme, more, begun, past_behind, lexemes_from, lexemes_of}
-use Rattle.policy_tokens.specs.Laws.{words_of, IsOneLexeme, goes_on, EndsAt, LexemesAreRead, BlanksAddNothing, CommentsAddNothing, WordsDecide, IsFaultless}
+use Rattle.policy_tokens.specs.Laws.{words_of, IsOneLexeme, goes_on, EndsAt, LexemesAreRead, BlanksAddNothing, CommentsAddNothing, LastCommentsAddNothing, LexemesStandThere, WordsDecide, IsFaultless}
 use Rattle.policy_tokens.specs.Words.{token_of}
 use Rattle.policy_tokens.specs.Faults.{Fault, fault_at, strange_bytes, too_long, lexeme_fault, faults}
 use Rattle.policy_tokens.specs.Places.{place_at}
@@ -97,9 +99,9 @@ at_blank : (P : ℕ → Type 0) → P 32 → P 9 → P 10 → P 13 → (b : ℕ)
 at_blank P space tab feed return b h =
     ⊎_elim
     (λ h. ⊎_elim
-      (λ h. ⊎_elim (λ e. subst P (sym (eqb-true b 32 e)) space) (λ e. subst P (sym (eqb-true b 9 e)) tab) (or_cases _ _ h))
-      (λ e. subst P (sym (eqb-true b 10 e)) feed)
-      (or_cases _ _ h))
+    (λ h. ⊎_elim (λ e. subst P (sym (eqb-true b 32 e)) space) (λ e. subst P (sym (eqb-true b 9 e)) tab) (or_cases _ _ h))
+    (λ e. subst P (sym (eqb-true b 10 e)) feed)
+    (or_cases _ _ h))
     (λ e. subst P (sym (eqb-true b 13 e)) return)
     (or_cases _ _ h)
 
@@ -119,6 +121,41 @@ comments_add comment text h =
     ap (λ n. words_at n 1 (comment ++ 10 ∷ text)) (prefix_ends p comment (10 ∷ text) (whole_prefix p comment h) refl)
     ∙ past_words comment (10 ∷ text) 1
     ∙ anywhere 0 1 0 text
+
+pub last_comments_add : LastCommentsAddNothing
+last_comments_add comment h =
+    ap (λ n. words_at n 1 comment) (whole_prefix (λ b. not (ends_line b)) comment h)
+    ∙ ap (λ s. words_at (length comment) 1 s) (sym (append-nil comment))
+    ∙ past_words comment [] 1
+
+take_taken : (n : ℕ) (xs : List ℕ) → take (length (take n xs)) xs ≡ take n xs
+take_taken zero xs = refl
+take_taken (suc n) [] = refl
+take_taken (suc n) (x ∷ xs) = ap (λ ys. x ∷ ys) (take_taken n xs)
+
+abbrev StandsIn : List ℕ → Lexeme → Type 0
+StandsIn text l = take (length l.bytes) (drop l.offset text) ≡ l.bytes
+
+begun_stands : (text : List ℕ) (offset past b : ℕ) (bs : List ℕ) (ls : List Lexeme) → drop offset text ≡ b ∷ bs → All (StandsIn text) ls
+    → All (StandsIn text) (cons_option (option_map (lexeme offset) (begun past (b ∷ bs))) ls)
+begun_stands text offset (suc past) b bs ls e h = h
+begun_stands text offset zero b bs ls e h =
+    let w = b ∷ take (more b bs) bs in
+    let here : StandsIn text (lexeme offset w) = ap (take (length w)) e ∙ ap (λ ys. b ∷ ys) (take_taken (more b bs) bs) in
+    elim (begins_lexeme b) as (λ v. All (StandsIn text) (cons_option (option_map (lexeme offset) (cond v (Some w) None)) ls)) [
+      | true ↦ All-cons (StandsIn text) (lexeme offset w) ls here h
+      | false ↦ h
+    ]
+
+stands_from : (text : List ℕ) (past offset : ℕ) (rest : List ℕ) → drop offset text ≡ rest → All (StandsIn text) (lexemes_from past offset rest)
+stands_from text past offset [] e = All-nil (StandsIn text)
+stands_from text past offset (b ∷ bs) e =
+    let next = past_behind past b bs in
+    begun_stands text offset past b bs (lexemes_from next (offset + 1) bs) e
+    (stands_from text next (offset + 1) bs (sym (drop-drop 1 offset text) ∙ ap (drop 1) e))
+
+pub stand_there : LexemesStandThere
+stand_there text = stands_from text 0 0 text refl
 
 put_token : (p : Place) (r : Result Token FaultKind) (ts : List PlacedToken) (us : List Token) → map (λ t. t.token) ts ≡ us
     → map (λ t. t.token) (cons_option (option_map (placed_at p) (result_ok r)) ts) ≡ cons_option (result_ok r) us

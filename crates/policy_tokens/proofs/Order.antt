@@ -99,3 +99,19 @@ in_order text = record {
   apart = apart_from text 0 0 text (omega arith);
   within = all_from (λ t. IsAhead t.place (place_at text (length text))) text 0 0 text (λ n t low high. ahead text n (length text) (omega arith) (omega arith));
 }
+
+put_few : (p : Place) (r : Result Token FaultKind) (ts : List PlacedToken) (n : ℕ) → length ts ≤ n → length (cons_option (option_map (placed_at p) (result_ok r)) ts) ≤ n + 1
+put_few p (Ok t) ts n h = omega arith
+put_few p (Err k) ts n h = omega arith
+
+begun_few : (text : List ℕ) (offset : ℕ) (o : Option (List ℕ)) (ls : List Lexeme) (n : ℕ) → length (filter_map (placed text) ls) ≤ n
+    → length (filter_map (placed text) (cons_option (option_map (lexeme offset) o) ls)) ≤ n + 1
+begun_few text offset None ls n h = omega arith
+begun_few text offset (Some w) ls n h = put_few (place_at text offset) (token_of w) (filter_map (placed text) ls) n h
+
+-- a text has at most as many tokens as bytes
+pub few_tokens : (text : List ℕ) (past offset : ℕ) (rest : List ℕ) → length (filter_map (placed text) (lexemes_from past offset rest)) ≤ length rest
+few_tokens text past offset [] = omega arith
+few_tokens text past offset (b ∷ bs) =
+    let next = past_behind past b bs in
+    omega (arith, begun_few text offset (begun past (b ∷ bs)) (lexemes_from next (offset + 1) bs) (length bs) (few_tokens text next (offset + 1) bs))

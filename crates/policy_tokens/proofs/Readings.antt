@@ -103,10 +103,10 @@ first_of_word b h =
     let behind : (x : Bool) → x ≡ true → (x || eqb b 46 || eqb b 58) ≡ true = λ x e. or_left (x || eqb b 46) (eqb b 58) (or_left x (eqb b 46) e) in
     ⊎_elim
     (λ small.
-      let both = and_parts (nat_le 97 b) (nat_lt b 123) small in
-      let letter : lower ≡ true = and_from (nat_le 97 b) (nat_le b 122) both.0 (le-leb b 122 (omega (arith, ltb-true b 123 both.1))) in
-      behind (lower || upper || digit || eqb b 95)
-      (or_left (lower || upper || digit) (eqb b 95) (or_left (lower || upper) digit (or_left lower upper letter))))
+    let both = and_parts (nat_le 97 b) (nat_lt b 123) small in
+    let letter : lower ≡ true = and_from (nat_le 97 b) (nat_le b 122) both.0 (le-leb b 122 (omega (arith, ltb-true b 123 both.1))) in
+    behind (lower || upper || digit || eqb b 95)
+    (or_left (lower || upper || digit) (eqb b 95) (or_left (lower || upper) digit (or_left lower upper letter))))
     (λ line. behind (lower || upper || digit || eqb b 95) (or_right (lower || upper || digit) (eqb b 95) line))
     (or_cases (nat_le 97 b && nat_lt b 123) (eqb b 95) h)
 
@@ -153,9 +153,9 @@ no_keyword : (w : List ℕ) → list_all is_name_byte w ≡ false → (ks : List
 no_keyword w h [] = refl
 no_keyword w h (k ∷ ks) =
     let other : bytes_eq (keyword_text k) w ≡ false =
-      false_from_ne_true _ (λ e.
-        let same : keyword_text k ≡ w = (bytes_eq-Decides (keyword_text k) w).0 e in
-        false≢true (sym h ∙ sym (ap (list_all is_name_byte) same) ∙ keyword_bytes k)) in
+    false_from_ne_true _ (λ e.
+    let same : keyword_text k ≡ w = (bytes_eq-Decides (keyword_text k) w).0 e in
+    false≢true (sym h ∙ sym (ap (list_all is_name_byte) same) ∙ keyword_bytes k)) in
     ap (λ v. cond v (Some k) (find (λ k. bytes_eq (keyword_text k) w) ks)) other ∙ no_keyword w h ks
 
 dotted_bytes : (n s : List ℕ) → list_all is_name_byte (n ++ 46 ∷ s) ≡ false
@@ -172,16 +172,16 @@ no_dot [] h = All-nil (λ b. eqb b 46 ≡ false)
 no_dot (b ∷ bs) h =
     let both = and_parts (is_name_byte b) (list_all is_name_byte bs) h in
     let here : eqb b 46 ≡ false =
-      false_from_ne_true _ (λ e.
-        let same : b ≡ 46 = eqb-true b 46 e in
-        false≢true (sym (ap is_name_byte same) ∙ both.0)) in
+    false_from_ne_true _ (λ e.
+    let same : b ≡ 46 = eqb-true b 46 e in
+    false≢true (sym (ap is_name_byte same) ∙ both.0)) in
     All-cons (λ b. eqb b 46 ≡ false) b bs here (no_dot bs both.1)
 
 no_packet : (n : List ℕ) → is_name n ≡ true → bytes_eq n (codes "pkt") ≡ false
 no_packet n h =
     false_from_ne_true _ (λ e.
-      let same : n ≡ codes "pkt" = (bytes_eq-Decides n (codes "pkt")).0 e in
-      false≢true (sym (ap is_name same) ∙ h))
+    let same : n ≡ codes "pkt" = (bytes_eq-Decides n (codes "pkt")).0 e in
+    false≢true (sym (ap is_name same) ∙ h))
 
 -- a name, a dot and a part without a dot are what place_token says
 dotted_read : (n s : List ℕ) (t : Token) → is_name n ≡ true → slice_split (λ b. eqb b 46) s ≡ s ∷ [] → place_token n s ≡ Some t → token_of (n ++ 46 ∷ s) ≡ Ok t
@@ -190,7 +190,7 @@ dotted_read n s t h one e =
     let made = made_of n h in
     let parts : slice_split (λ b. eqb b 46) w ≡ n ∷ s ∷ [] = slice_split_at (λ b. eqb b 46) n 46 s (no_dot n made.all) refl ∙ ap (λ ps. n ∷ ps) one in
     let placed : parts_token (slice_split (λ b. eqb b 46) w) ≡ Some t =
-      sym (other_parts n s (slice_split (λ b. eqb b 46) w) parts (no_packet n h)) ∙ ap (λ v. cond v (place_token n s) None) h ∙ e in
+    sym (other_parts n s (slice_split (λ b. eqb b 46) w) parts (no_packet n h)) ∙ ap (λ v. cond v (place_token n s) None) h ∙ e in
     word_read w (name_begins n (46 ∷ s) made.first)
     ∙ ap (λ o. token_or o (token_or (parts_token (slice_split (λ b. eqb b 46) w)) (numeral_token (numeral_of w)))) (dotted_plain n s)
     ∙ ap (λ o. token_or o (numeral_token (numeral_of w))) placed

@@ -1,5 +1,5 @@
 -- What holds of the words, signs and tokens of texts, however they are laid out.
-use Rattle.std.specs.Prelude.{◌≡◌, ℕ, ◌≤◌, Bool, true, false, not, ◌&&◌, ◌==◌, if◌then◌else◌, map, List, [], ◌∷◌, ◌++◌, length, Result, Ok, codes}
+use Rattle.std.specs.Prelude.{◌≡◌, ℕ, ◌≤◌, Bool, true, false, not, ◌&&◌, ◌==◌, if◌then◌else◌, map, List, [], ◌∷◌, ◌++◌, length, take, drop, All, Result, Ok, codes}
 use Rattle.std.specs.Result.{result_ok, is_ok}
 use Rattle.std.specs.List.{filter_map, list_all}
 use Rattle.maple_base.specs.FieldNames.{name_of}
@@ -46,6 +46,14 @@ BlanksAddNothing = (b : ℕ) (text : List ℕ) → is_blank b ≡ true → words
 -- neither does a comment, with the line feed that ends it
 abbrev pub CommentsAddNothing : Type 0
 CommentsAddNothing = (comment text : List ℕ) → list_all (λ b. not (ends_line b)) comment ≡ true → words_of (35 ∷ (comment ++ 10 ∷ text)) ≡ words_of text
+
+-- nor one that the text ends in
+abbrev pub LastCommentsAddNothing : Type 0
+LastCommentsAddNothing = (comment : List ℕ) → list_all (λ b. not (ends_line b)) comment ≡ true → words_of (35 ∷ comment) ≡ []
+
+-- each word and sign stands in the text where it is said to stand
+abbrev pub LexemesStandThere : Type 0
+LexemesStandThere = (text : List ℕ) → All (λ l. take (length l.bytes) (drop l.offset text) ≡ l.bytes) (lexemes_of text)
 
 -- the words and signs of a text decide its tokens, but for their places
 abbrev pub WordsDecide : Type 0

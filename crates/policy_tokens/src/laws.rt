@@ -1,13 +1,15 @@
 // What holds of the tokens of every text.
-ghost use Rattle.policy_tokens.specs.Laws.{LexemesAreRead, BlanksAddNothing, CommentsAddNothing, WordsDecide, IsFaultless, KeywordsAreRead, SignsAreRead, FieldsAreRead, PacketSwitchIsRead, NamesAreRead, SwitchesAreRead, PortsAreRead};
+ghost use Rattle.policy_tokens.specs.Laws.{LexemesAreRead, BlanksAddNothing, CommentsAddNothing, LastCommentsAddNothing, LexemesStandThere, WordsDecide, IsFaultless, KeywordsAreRead, SignsAreRead, FieldsAreRead, PacketSwitchIsRead, NamesAreRead, SwitchesAreRead, PortsAreRead};
 
 /// What holds of texts, however they are laid out: words and signs that nothing goes on with stay
-/// as they are, blanks and comments add none, and the words and signs alone decide which tokens
-/// the text has and whether it has a fault.
+/// as they are, blanks and comments add none, each stands where it is said to stand, and the words
+/// and signs alone decide which tokens the text has and whether it has a fault.
 pub fn layout_laws()
     ensures lexemes { LexemesAreRead }
     ensures blanks { BlanksAddNothing }
     ensures comments { CommentsAddNothing }
+    ensures last_comment { LastCommentsAddNothing }
+    ensures places { LexemesStandThere }
     ensures tokens { WordsDecide }
     ensures faultless { IsFaultless }
 {}

@@ -25,6 +25,7 @@ pub fn read_tokens(alloc: Global, text: &[u8]) -> Result<Tokens, TokensError>
     ensures tokens { IfOk result (λ list. list ≡ tokens_of text.now) }
     ensures faultless { OnOk result (faults text.now ≡ []) }
     ensures in_order { IfOk result IsInOrder }
+    ensures few { IfOk result (λ list. length list.tokens ≤ 65536) }
     ensures fault { IfErr result (IsErrorOf text.now) }
 {
     let mut list = Vec::new(alloc);

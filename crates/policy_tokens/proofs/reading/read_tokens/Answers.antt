@@ -2,12 +2,12 @@ use Rattle.std.proofs.Common.{◌≡◌, ◌<◌, ◌≤◌, ◌+◌, length, dr
 use Rattle.std.proofs.lemmas.Grind.{common_steps}
 use Rattle.policy_tokens.specs.Faults.{faults}
 use Rattle.policy_tokens.specs.Places.{place_at, behind}
-use Rattle.policy_tokens.specs.Tokens.{IsInOrder, tokens_of}
+use Rattle.policy_tokens.specs.Tokens.{IsInOrder, TokenList, tokens_of}
 use Rattle.policy_tokens.specs.declared.token.Place.{Place}
 use Rattle.policy_tokens.specs.declared.fault.FaultKind.TheVariants.{TooLong}
 use Rattle.policy_tokens.proofs.FirstFaults.{error_first, too_long_first, error_told}
 use Rattle.policy_tokens.proofs.Onwards.{read_rest, some_rest, faults_next, tokens_next, line_next, column_next}
-use Rattle.policy_tokens.proofs.Order.{in_order, place_step}
+use Rattle.policy_tokens.proofs.Order.{few_tokens, in_order, place_step}
 use Rattle.policy_tokens.proofs.Steps.{faults_from}
 use Rattle.policy_tokens.proofs.reading.read_tokens.Goals as goal
 
@@ -51,3 +51,10 @@ pub returns-clause-in_order : goal.returns-clause-in_order
 returns-clause-in_order c =
     let same : c.new.result ≡ tokens_of c.args.text.now = grind (arith, common_steps) in
     subst IsInOrder (sym same) (in_order c.args.text.now)
+
+pub returns-clause-few : goal.returns-clause-few
+returns-clause-few c =
+    let text = c.args.text.now in
+    let same : c.new.result ≡ tokens_of text = grind (arith, common_steps) in
+    let within : length text ≤ 65536 = omega arith in
+    omega (arith, ap (λ (l : TokenList). length l.tokens) same, few_tokens text 0 0 text)
