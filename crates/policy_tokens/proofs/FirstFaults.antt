@@ -1,5 +1,5 @@
 -- The first fault of a text, where it is found.
-use Rattle.std.proofs.Common.{◌≡◌, ℕ, zero, suc, ◌+◌, ◌<◌, ◌≤◌, cond, eqb, ltb, true, false, Bool, List, [], ◌∷◌, ◌++◌, length, drop, get_or, Option, Some, None, Result, Ok, Err, refl, sym, ap, ◌∙◌, arith, ⊎_elim}
+use Rattle.std.proofs.Common.{◌≡◌, ℕ, ◌+◌, ◌<◌, ◌≤◌, cond, ltb, true, false, List, [], ◌∷◌, ◌++◌, length, drop, get_or, Option, Some, None, Result, Ok, Err, refl, sym, ap, ◌∙◌, arith, ⊎_elim}
 use Rattle.std.specs.Option.{option_map}
 use Rattle.std.specs.Result.{result_err}
 use Rattle.std.specs.List.{filter_map, cons_option}
@@ -16,7 +16,7 @@ use Rattle.policy_tokens.specs.Places.{place_at}
 use Rattle.policy_tokens.specs.Words.{token_of}
 use Rattle.policy_tokens.specs.Faults.{Fault, fault_at, strange_bytes, too_long, lexeme_fault, faults, is_before, earliest, told}
 use Rattle.policy_tokens.specs.Reading.{some_token, token_begun, front_token}
-use Rattle.policy_tokens.proofs.Firsts.{From, NoneBefore, BeforeAll, From-weaker, NoneBefore-from_later, BeforeAll-from_later, NoneBefore-append, BeforeAll-append, earliest_head, earliest_behind}
+use Rattle.policy_tokens.proofs.Firsts.{From, NoneBefore, BeforeAll, From-weaker, NoneBefore-from_later, BeforeAll-from_later, NoneBefore-append, earliest_head, earliest_behind}
 use Rattle.policy_tokens.proofs.Steps.{word_faults, faults_from, faults_step}
 use Rattle.policy_tokens.proofs.WordFaults.{kind_of_words}
 

@@ -1,7 +1,6 @@
 -- Which of several faults is the first.
-use Rattle.std.proofs.Common.{◌≡◌, ℕ, suc, ◌+◌, ◌<◌, ◌≤◌, cond, eqb, ltb, true, false, Bool, ◌||◌, ◌&&◌, List, [], ◌∷◌, ◌++◌, Option, Some, None, refl, ap, ◌∙◌, arith}
+use Rattle.std.proofs.Common.{◌≡◌, ℕ, ◌+◌, ◌<◌, ◌≤◌, cond, true, false, List, [], ◌∷◌, ◌++◌, Some, refl, ap, ◌∙◌, arith}
 use Rattle.std.proofs.lemmas.Bool.{cond_both, lt-ltb, le-ltb, ne_eqb, or_left, or_from, and_left}
-use Rattle.policy_tokens.specs.Kinds.{number_of}
 use Rattle.policy_tokens.specs.Faults.{Fault, is_before, earlier, earliest}
 
 -- each of these faults stands at this offset or behind it

@@ -1,5 +1,5 @@
 -- The words and signs of a text, however it is laid out.
-use Rattle.std.proofs.Common.{◌≡◌, ℕ, zero, suc, ◌+◌, ◌≤◌, cond, eqb, true, false, Bool, not, ◌&&◌, map, List, [], ◌∷◌, ◌++◌, length, take, drop, append-nil, Option, Some, None, Result, Ok, Err, refl, sym, ap, ◌∙◌, subst, arith, ⊎_elim}
+use Rattle.std.proofs.Common.{◌≡◌, ℕ, zero, suc, ◌+◌, cond, eqb, true, false, Bool, not, ◌&&◌, map, List, [], ◌∷◌, ◌++◌, length, take, drop, append-nil, Option, Some, None, Result, Ok, Err, refl, sym, ap, ◌∙◌, subst, arith, ⊎_elim}
 use Rattle.std.specs.Option.{option_map}
 use Rattle.std.specs.Result.{result_ok, result_err, is_ok}
 use Rattle.std.specs.List.{filter_map, cons_option, prefix_len, list_all, All}
@@ -15,11 +15,11 @@ use Rattle.policy_tokens.specs.declared.fault.FaultKind.{FaultKind}
 use Rattle.policy_tokens.specs.declared.fault.FaultKind.TheVariants.{NotAscii}
 use Rattle.policy_tokens.specs.Bytes.{is_word_byte, is_blank, is_text_byte, begins_lexeme, begins_comment, begins_equal, may_pair, ends_line}
 use Rattle.policy_tokens.specs.Lexemes.{Lexeme, lexeme, more, begun, past_behind, lexemes_from, lexemes_of}
-use Rattle.policy_tokens.specs.Laws.{words_of, IsOneLexeme, goes_on, EndsAt, LexemesAreRead, BlanksAddNothing, CommentsAddNothing, LastCommentsAddNothing, LexemesStandThere, WordsDecide, IsFaultless}
+use Rattle.policy_tokens.specs.Laws.{words_of, goes_on, EndsAt, LexemesAreRead, BlanksAddNothing, CommentsAddNothing, LastCommentsAddNothing, LexemesStandThere, WordsDecide, IsFaultless}
 use Rattle.policy_tokens.specs.Words.{token_of}
-use Rattle.policy_tokens.specs.Faults.{Fault, fault_at, strange_bytes, too_long, lexeme_fault, faults}
+use Rattle.policy_tokens.specs.Faults.{Fault, fault_at, strange_bytes, lexeme_fault}
 use Rattle.policy_tokens.specs.Places.{place_at}
-use Rattle.policy_tokens.specs.Tokens.{placed, placed_at, tokens_of}
+use Rattle.policy_tokens.specs.Tokens.{placed, placed_at}
 use Rattle.policy_tokens.proofs.FirstFaults.{not_long}
 
 -- the words and signs from an offset on

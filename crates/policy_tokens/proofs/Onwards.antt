@@ -1,5 +1,5 @@
 -- What is kept from one byte of a text to the next.
-use Rattle.std.proofs.Common.{◌≡◌, ℕ, ◌+◌, ◌-◌, ◌<◌, ◌≤◌, List, [], ◌∷◌, ◌++◌, length, take, drop, get_or, Option, Some, None, Result, Ok, Err, refl, sym, ap, subst, ◌∙◌, arith, append_assoc}
+use Rattle.std.proofs.Common.{◌≡◌, ℕ, ◌+◌, ◌-◌, ◌<◌, ◌≤◌, List, ◌++◌, length, take, drop, get_or, Option, Result, Ok, sym, ap, subst, ◌∙◌, arith, append_assoc}
 use Rattle.std.specs.Option.{option_map, option_to_list}
 use Rattle.std.specs.List.{filter_map}
 use Rattle.std.proofs.lemmas.Bool.{cond_both}
@@ -11,7 +11,7 @@ use Rattle.policy_tokens.specs.declared.fault.FaultKind.{FaultKind}
 use Rattle.policy_tokens.specs.Bytes.{ends_line}
 use Rattle.policy_tokens.specs.Lexemes.{past_behind, lexemes_from}
 use Rattle.policy_tokens.specs.Places.{place_at, behind}
-use Rattle.policy_tokens.specs.Faults.{Fault, faults}
+use Rattle.policy_tokens.specs.Faults.{faults}
 use Rattle.policy_tokens.specs.Tokens.{placed, placed_at}
 use Rattle.policy_tokens.specs.Reading.{front_token}
 use Rattle.policy_tokens.proofs.Steps.{faults_from, faults_step, tokens_step}

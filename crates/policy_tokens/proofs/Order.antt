@@ -1,5 +1,5 @@
 -- Tokens stand in the order of the text.
-use Rattle.std.proofs.Common.{◌≡◌, ℕ, zero, suc, ◌+◌, ◌-◌, ◌<◌, ◌≤◌, cond, List, [], ◌∷◌, length, take, get_or, Option, Some, None, Result, Ok, Err, refl, sym, ap, ◌∙◌, subst, arith, inl, inr, ⊎_elim}
+use Rattle.std.proofs.Common.{◌≡◌, ℕ, zero, suc, ◌+◌, ◌-◌, ◌<◌, ◌≤◌, List, [], ◌∷◌, length, get_or, Option, Some, None, Result, Ok, Err, refl, sym, subst, arith, inl, inr, ⊎_elim}
 use Rattle.std.specs.Option.{option_map}
 use Rattle.std.specs.Result.{result_ok}
 use Rattle.std.specs.List.{filter_map, cons_option, All, AllPairs}
@@ -12,7 +12,7 @@ use Rattle.policy_tokens.specs.declared.token.Place.{Place}
 use Rattle.policy_tokens.specs.declared.token.PlacedToken.{PlacedToken}
 use Rattle.policy_tokens.specs.declared.fault.FaultKind.{FaultKind}
 use Rattle.policy_tokens.specs.Bytes.{ends_line}
-use Rattle.policy_tokens.specs.Lexemes.{Lexeme, lexeme, begun, past_behind, lexemes_from, lexemes_of}
+use Rattle.policy_tokens.specs.Lexemes.{Lexeme, lexeme, begun, past_behind, lexemes_from}
 use Rattle.policy_tokens.specs.Places.{first_place, behind, place_at, IsAhead}
 use Rattle.policy_tokens.specs.Words.{token_of}
 use Rattle.policy_tokens.specs.Tokens.{placed, placed_at, tokens_of, IsInOrder}

@@ -1,5 +1,5 @@
 -- Words of names and of parts.
-use Rattle.std.proofs.Common.{◌≡◌, ℕ, eqb, cond, true, false, Bool, List, [], ◌∷◌, Option, Some, None, refl, sym, ap}
+use Rattle.std.proofs.Common.{◌≡◌, ℕ, eqb, cond, true, false, List, [], ◌∷◌, Some, None, refl, sym, ap}
 use Rattle.std.specs.Prelude.{◌↔◌, IsSome, IsTrue, codes}
 use Rattle.std.specs.Option.{option_map}
 use Rattle.std.specs.List.{find, slice_split, onto_first}

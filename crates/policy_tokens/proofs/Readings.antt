@@ -1,5 +1,5 @@
 -- Tokens are read from their spellings.
-use Rattle.std.proofs.Common.{◌≡◌, ℕ, cond, eqb, true, false, Bool, not, ◌&&◌, ◌||◌, List, [], ◌∷◌, ◌++◌, length, Option, Some, None, Result, Ok, Err, refl, sym, ap, ◌∙◌, subst, arith, append-nil, ⊎_elim}
+use Rattle.std.proofs.Common.{◌≡◌, ℕ, cond, eqb, true, false, Bool, not, ◌&&◌, ◌||◌, List, [], ◌∷◌, ◌++◌, length, Some, None, Ok, refl, sym, ap, ◌∙◌, subst, arith, append-nil, ⊎_elim}
 use Rattle.std.specs.Prelude.{codes, nat_le, nat_lt}
 use Rattle.std.specs.Option.{option_map}
 use Rattle.std.specs.List.{All, list_all, find, slice_split}
@@ -9,21 +9,17 @@ use Rattle.std.proofs.lemmas.List.Folds.{list_all-append}
 use Rattle.std.proofs.lemmas.List.Elements.{All-nil, All-cons}
 use Rattle.std.proofs.lemmas.List.Splits.{slice_split_at}
 use Rattle.std.proofs.lemmas.Slice.Eq.{bytes_eq-Decides}
-use Rattle.maple_base.specs.FieldNames.{name_of}
 use Rattle.maple_base.specs.Names.{is_name, is_name_byte, is_first_byte, begins_name, is_keyword}
 use Rattle.maple_base.specs.Numbers.{numeral_of}
-use Rattle.maple_base.specs.declared.key.Field.{Field}
 use Rattle.maple_base.specs.declared.key.Field.TheVariants.{InPort, DlSrc, DlDst, DlVlan, DlType, NwTos, NwProto, NwSrc, NwDst, TpSrc, TpDst}
 use Rattle.policy_tokens.specs.declared.token.Keyword.{Keyword}
 use Rattle.policy_tokens.specs.declared.token.Keyword.TheVariants.{Table, Policy, Learning, Drop, Flood, Out, Route, Let, If, Else, While, Host, Hop, Up, At, As, Is, And, Or, Not, In, Packet}
-use Rattle.policy_tokens.specs.declared.token.Sign.{Sign}
 use Rattle.policy_tokens.specs.declared.token.Sign.TheVariants.{OpenBrace, CloseBrace, OpenParenthesis, CloseParenthesis, OpenBracket, CloseBracket, Semicolon, Comma, Assign, Equal, NotEqual, Less, LessEqual, Plus, Minus}
 use Rattle.policy_tokens.specs.declared.token.Token.{Token}
-use Rattle.policy_tokens.specs.declared.token.Token.TheVariants.{Keyword as keyword_token, Name as name_token, Field as field_token, PacketSwitch, SwitchOf, PortOf, Sign as sign_token}
-use Rattle.policy_tokens.specs.declared.fault.FaultKind.{FaultKind}
-use Rattle.policy_tokens.specs.Bytes.{is_word_byte, is_letter}
-use Rattle.policy_tokens.specs.Spellings.{keyword_text, keywords, sign_text, signs}
-use Rattle.policy_tokens.specs.Words.{plain_token, packet_token, place_token, parts_token, numeral_token, token_or, word_token, sign_of, begins_word, token_of}
+use Rattle.policy_tokens.specs.declared.token.Token.TheVariants.{Keyword as keyword_token, Name as name_token, SwitchOf, PortOf}
+use Rattle.policy_tokens.specs.Bytes.{is_word_byte}
+use Rattle.policy_tokens.specs.Spellings.{keyword_text, keywords}
+use Rattle.policy_tokens.specs.Words.{plain_token, place_token, parts_token, numeral_token, token_or, word_token, sign_of, begins_word, token_of}
 use Rattle.policy_tokens.specs.Laws.{KeywordsAreRead, SignsAreRead, FieldsAreRead, PacketSwitchIsRead, NamesAreRead, SwitchesAreRead, PortsAreRead}
 use Rattle.policy_tokens.proofs.Parts.{plain_keyword, other_parts}
 

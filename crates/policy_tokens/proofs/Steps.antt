@@ -1,24 +1,20 @@
 -- One byte further in a text.
-use Rattle.std.proofs.Common.{◌≡◌, ℕ, zero, suc, ◌+◌, ◌<◌, ◌≤◌, cond, eqb, ltb, true, false, Bool, List, [], ◌∷◌, ◌++◌, length, drop, get_or, Option, Some, None, Result, Ok, Err, refl, sym, ap, ◌∙◌, arith, append_assoc}
+use Rattle.std.proofs.Common.{◌≡◌, ℕ, ◌+◌, ◌<◌, cond, true, false, Bool, List, [], ◌∷◌, ◌++◌, length, drop, get_or, Option, Some, None, Result, Ok, Err, refl, sym, ap, ◌∙◌, arith, append_assoc}
 use Rattle.std.specs.Option.{option_map, option_to_list}
 use Rattle.std.specs.Result.{result_ok, result_err}
 use Rattle.std.specs.List.{filter_map, cons_option}
-use Rattle.std.proofs.lemmas.Bool.{cond_both, cases_Bool, lt-ltb, le-ltb, or_left, or_right, or_from, and_left, and_right, and_from, cases_lt, eq-eqb}
 use Rattle.policy_tokens.specs.declared.token.Token.{Token}
 use Rattle.policy_tokens.specs.declared.token.Place.{Place}
 use Rattle.policy_tokens.specs.declared.token.PlacedToken.{PlacedToken}
 use Rattle.policy_tokens.specs.declared.fault.FaultKind.{FaultKind}
-use Rattle.policy_tokens.specs.declared.fault.FaultKind.TheVariants.{NotAscii, TooLong}
+use Rattle.policy_tokens.specs.declared.fault.FaultKind.TheVariants.{NotAscii}
 use Rattle.policy_tokens.specs.Bytes.{is_text_byte}
-use Rattle.policy_tokens.specs.Kinds.{number_of}
-use Rattle.policy_tokens.specs.Lexemes.{Lexeme, lexeme, begun, past_behind, lexemes_from, lexemes_of}
+use Rattle.policy_tokens.specs.Lexemes.{Lexeme, lexeme, begun, past_behind, lexemes_from}
 use Rattle.policy_tokens.specs.Places.{place_at}
 use Rattle.policy_tokens.specs.Words.{token_of}
-use Rattle.policy_tokens.specs.Faults.{Fault, fault_at, strange_bytes, too_long, lexeme_fault, faults, is_before, earliest}
+use Rattle.policy_tokens.specs.Faults.{Fault, fault_at, strange_bytes, too_long, lexeme_fault, faults}
 use Rattle.policy_tokens.specs.Tokens.{placed, placed_at}
 use Rattle.policy_tokens.specs.Reading.{some_token, token_begun, front_token}
-use Rattle.policy_tokens.proofs.Firsts.{From, NoneBefore, BeforeAll, From-weaker, before, NoneBefore-from_later, BeforeAll-from_later, NoneBefore-append, BeforeAll-append, earliest_head, earliest_behind}
-use Rattle.policy_tokens.proofs.WordFaults.{kind_of_words}
 
 -- the faults of words and signs from an offset on
 abbrev pub word_faults : ℕ → ℕ → List ℕ → List Fault

@@ -1,5 +1,5 @@
 -- Which faults words and signs have.
-use Rattle.std.proofs.Common.{◌≡◌, ℕ, ◌<◌, cond, eqb, true, false, List, Option, Some, None, Result, Ok, Err, refl, subst, arith}
+use Rattle.std.proofs.Common.{◌≡◌, ℕ, ◌<◌, eqb, List, Option, Some, None, Result, Ok, Err, subst, arith}
 use Rattle.std.specs.Option.{option_map}
 use Rattle.std.specs.List.{find, slice_split}
 use Rattle.std.specs.Str.{bytes_eq}
@@ -10,7 +10,7 @@ use Rattle.maple_base.specs.declared.number.Numeral.TheVariants.{Number as numbe
 use Rattle.policy_tokens.specs.declared.token.Token.{Token}
 use Rattle.policy_tokens.specs.declared.token.Token.TheVariants.{Sign as sign_token}
 use Rattle.policy_tokens.specs.declared.fault.FaultKind.{FaultKind}
-use Rattle.policy_tokens.specs.declared.fault.FaultKind.TheVariants.{Token as no_token, NumberRange}
+use Rattle.policy_tokens.specs.declared.fault.FaultKind.TheVariants.{Token as no_token}
 use Rattle.policy_tokens.specs.Kinds.{number_of}
 use Rattle.policy_tokens.specs.Spellings.{sign_text, signs}
 use Rattle.policy_tokens.specs.Words.{plain_token, parts_token, numeral_token, token_or, word_token, sign_of, token_of, begins_word}

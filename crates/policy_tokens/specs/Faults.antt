@@ -3,7 +3,6 @@ use Rattle.std.specs.Prelude.{◌≡◌, ℕ, ◌+◌, Bool, ◌&&◌, ◌||◌,
 use Rattle.std.specs.Option.{option_map}
 use Rattle.std.specs.Result.{result_err}
 use Rattle.std.specs.List.{filter_map}
-use Rattle.policy_tokens.specs.declared.token.Place.{Place}
 use Rattle.policy_tokens.specs.declared.fault.FaultKind.{FaultKind}
 use Rattle.policy_tokens.specs.declared.fault.FaultKind.TheVariants.{NotAscii, TooLong}
 use Rattle.policy_tokens.specs.declared.fault.TokensError.{TokensError}

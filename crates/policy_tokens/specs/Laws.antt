@@ -1,5 +1,5 @@
 -- What holds of the words, signs and tokens of texts, however they are laid out.
-use Rattle.std.specs.Prelude.{◌≡◌, ℕ, ◌≤◌, Bool, true, false, not, ◌&&◌, ◌==◌, if◌then◌else◌, map, List, [], ◌∷◌, ◌++◌, length, take, drop, All, Result, Ok, codes}
+use Rattle.std.specs.Prelude.{◌≡◌, ℕ, ◌≤◌, Bool, true, false, not, ◌&&◌, ◌==◌, if◌then◌else◌, map, List, [], ◌∷◌, ◌++◌, length, take, drop, All, Ok, codes}
 use Rattle.std.specs.Result.{result_ok, is_ok}
 use Rattle.std.specs.List.{filter_map, list_all}
 use Rattle.maple_base.specs.FieldNames.{name_of}

@@ -1,5 +1,5 @@
 -- The tokens of a policy's text.
-use Rattle.std.specs.Prelude.{◌≡◌, ℕ, List, AllPairs, All, length, Option}
+use Rattle.std.specs.Prelude.{ℕ, List, AllPairs, All, length, Option}
 use Rattle.std.specs.Option.{option_map}
 use Rattle.std.specs.Result.{result_ok}
 use Rattle.std.specs.List.{filter_map}

@@ -1,4 +1,4 @@
-use Rattle.std.proofs.Common.{◌≡◌, ◌<◌, ◌≤◌, ◌+◌, length, drop, get_or, ◌∙◌, sym, ap, refl, rules, arith, subst}
+use Rattle.std.proofs.Common.{◌≡◌, ◌<◌, ◌≤◌, ◌+◌, length, drop, get_or, ◌∙◌, sym, ap, arith, subst}
 use Rattle.std.proofs.lemmas.Grind.{common_steps}
 use Rattle.policy_tokens.specs.Faults.{faults}
 use Rattle.policy_tokens.specs.Places.{place_at, behind}
