@@ -2,5 +2,9 @@
 #![tactic(auto)]
 
 pub mod links;
+mod number_map;
+mod up_ports;
+pub mod updates;
 
 pub use links::Links;
+pub use updates::{Update, UpdateError, UpdateRefused};
