@@ -24,6 +24,10 @@ PortSet = set.FinSet nat_cmp
 abbrev pub Table : Type 0
 Table = map.FinMap nat_cmp ℕ
 
+-- the up ports of a switch; one that is not known has none
+abbrev pub ports_in : map.FinMap nat_cmp PortSet → ℕ → PortSet
+ports_in switches switch = unwrap_or (map.get switches switch) set.empty
+
 -- the known switches with their up ports, the hosts with their places, the links from places to places, the tables by their names
 pub record Environment : Type 0 where
   pub switches : map.FinMap nat_cmp PortSet
@@ -39,17 +43,9 @@ nothing_known = record { switches = map.empty; hosts = map.empty; links = map.em
 abbrev pub knows : Environment → ℕ → Bool
 knows e switch = map.contains_key e.switches switch
 
--- the up ports of a switch; one that is not known has none
-abbrev pub up_ports : Environment → ℕ → PortSet
-up_ports e switch = unwrap_or (map.get e.switches switch) set.empty
-
 -- whether a table is declared
 abbrev pub declares : Environment → List ℕ → Bool
 declares e name = map.contains_key e.tables name
-
--- the numbers of a table; one that is not declared has none
-abbrev pub numbers_of : Environment → List ℕ → Table
-numbers_of e name = unwrap_or (map.get e.tables name) map.empty
 
 -- whether a number is that of a port of a switch, by OpenFlow 1.0
 abbrev pub is_port : ℕ → Bool

@@ -2,7 +2,7 @@
 use Rattle.std.specs.Prelude.{◌≢◌, ℕ, ◌≤◌, List, length, All, Contains, IsTrue}
 use Rattle.std.specs.List.{AllPairs}
 use Rattle.maple_base.specs.declared.cells.Place.{Place}
-use Rattle.env_cells.specs.Environment.{is_port}
+use Rattle.env_cells.specs.Environment.{Environment, knows, is_port}
 
 -- no two links have the same first place
 abbrev pub StartApart : List (Place × Place) → Type 0
@@ -12,6 +12,11 @@ StartApart links = AllPairs (λ link other. link.0 ≢ other.0) links
 pub record IsBetweenPorts (link : Place × Place) : Type 0 where
   pub start : IsTrue (is_port link.0.port)
   pub end : IsTrue (is_port link.1.port)
+
+-- a link is between known switches
+pub record IsKnown (e : Environment) (link : Place × Place) : Type 0 where
+  pub start : IsTrue (knows e link.0.switch)
+  pub end : IsTrue (knows e link.1.switch)
 
 -- a link is between switches of this list
 pub record IsAmong (switches : List ℕ) (link : Place × Place) : Type 0 where

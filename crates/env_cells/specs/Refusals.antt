@@ -7,7 +7,8 @@ use Rattle.env_cells.specs.declared.updates.Update.{Update}
 use Rattle.env_cells.specs.declared.updates.Update.TheVariants.{Switch, Port, Host, NoHost, Link, NoLink, Set, Unset, Tables}
 use Rattle.env_cells.specs.declared.updates.UpdateRefused.{UpdateRefused}
 use Rattle.env_cells.specs.declared.updates.UpdateRefused.TheVariants.{UnknownTable, UnknownSwitch, PortRange, Full}
-use Rattle.env_cells.specs.Environment.{Environment, name_cmp, knows, up_ports, declares, numbers_of, is_port}
+use Rattle.env_cells.specs.Environment.{Environment, name_cmp, knows, ports_in, declares, is_port}
+use Rattle.env_cells.specs.Named.{numbers_in}
 use Rattle.env_cells.specs.Listed.{listed_up}
 
 -- the table that an update sets a number in is declared
@@ -43,10 +44,10 @@ else_full (Some r) count limit = Some r
 -- what would pass its limit: the switches, the up ports of a switch, the hosts, the links, the numbers of a table
 abbrev pub full_of : Environment → Update → Option UpdateRefused
 full_of e (Switch switch ports) = else_full (full (map.len (map.insert e.switches switch (listed_up ports))) 64) (set.len (listed_up ports)) 1364
-full_of e (Port switch port true) = full (set.len (set.insert (up_ports e switch) port)) 1364
+full_of e (Port switch port true) = full (set.len (set.insert (ports_in e.switches switch) port)) 1364
 full_of e (Host mac place) = full (map.len (map.insert e.hosts mac place)) 65536
 full_of e (Link from to) = full (map.len (map.insert e.links from to)) 4096
-full_of e (Set table key value) = full (map.len (map.insert (numbers_of e table) key value)) 65536
+full_of e (Set table key value) = full (map.len (map.insert (numbers_in e.tables table) key value)) 65536
 full_of e u = None
 
 -- the first reason to refuse an update

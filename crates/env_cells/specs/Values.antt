@@ -7,7 +7,8 @@ use Rattle.maple_base.specs.declared.cells.Cell.{Cell}
 use Rattle.maple_base.specs.declared.cells.Cell.TheVariants.{Host, Hop, Up, Num}
 use Rattle.maple_base.specs.declared.cells.Value.{Value}
 use Rattle.maple_base.specs.declared.cells.Value.TheVariants.{Nothing, At, Number, Flag}
-use Rattle.env_cells.specs.Environment.{Environment, up_ports, numbers_of}
+use Rattle.env_cells.specs.Environment.{Environment, ports_in}
+use Rattle.env_cells.specs.Named.{numbers_in}
 
 abbrev pub at_or_nothing : Option Place → Value
 at_or_nothing None = Nothing
@@ -21,8 +22,8 @@ number_or_nothing (Some n) = Number n
 abbrev pub value_in : Environment → Cell → Value
 value_in e (Host mac) = at_or_nothing (map.get e.hosts mac)
 value_in e (Hop from to) = Nothing
-value_in e (Up switch port) = Flag (set.contains (up_ports e switch) port)
-value_in e (Num table key) = number_or_nothing (map.get (numbers_of e table) key)
+value_in e (Up switch port) = Flag (set.contains (ports_in e.switches switch) port)
+value_in e (Num table key) = number_or_nothing (map.get (numbers_in e.tables table) key)
 
 -- the cell asks for no next hop
 abbrev pub IsNoHop : Cell → Type 0

@@ -1,7 +1,7 @@
 // Links between ports.
-ghost use Rattle.std.specs.Prelude.{◌≡◌};
+ghost use Rattle.std.specs.Prelude.{◌≡◌, ◌≤◌, ◌<◌, length, slice_set, insert, remove, IfOk, OnOk, OnErr};
 
-use maple_base::Place;
+use maple_base::{NoMemory, Place};
 use std::marker::Model;
 
 /// Links, each from a port of a switch to a port of a switch, in order.
@@ -32,5 +32,35 @@ impl Links {
         ensures { result.now ≡ self.now }
     {
         &self.list
+    }
+
+    pub(crate) fn replace(&mut self, place: usize, link: (Place, Place))
+        requires { place < length self.old }
+        ensures { self.new ≡ slice_set self.old place link }
+    {
+        self.list[place] = link;
+    }
+
+    pub(crate) fn insert(&mut self, place: usize, link: (Place, Place)) -> Result<(), NoMemory>
+        requires { place ≤ length self.old }
+        ensures ok { OnOk result (self.new ≡ insert self.old place link) }
+        ensures err { OnErr result (self.new ≡ self.old) }
+    {
+        self.list.insert(place, link)?;
+        Ok(())
+    }
+
+    pub(crate) fn remove(&mut self, place: usize)
+        requires { place < length self.old }
+        ensures { self.new ≡ remove self.old place }
+    {
+        self.list.remove(place);
+    }
+
+    pub(crate) fn copy(&self) -> Result<Links, NoMemory>
+        ensures { IfOk result (λ links. links ≡ self.now) }
+    {
+        let list = Vec::from_slice(*self.list.allocator(), &self.list)?;
+        Ok(Links { list })
     }
 }

@@ -1,10 +1,13 @@
 // Finite maps from numbers.
-ghost use Rattle.std.specs.Prelude.{◌≡◌, ◌<◌, ◌^◌, IfOk, OnOk, OnErr};
+ghost use Rattle.std.specs.Prelude.{◌≡◌, ◌<◌, ◌^◌, IfOk, OnOk, OnErr, IsTrue};
 ghost use Rattle.std.specs.Option.{option_copied};
 ghost use Rattle.std.specs.Ordering.{nat_cmp};
 ghost use Rattle.std.specs.Coded.{coded_ℕ};
 ghost use Rattle.std.specs.FinMap as map;
+ghost use Rattle.std.specs.FinSet as set;
+ghost use Rattle.env_cells.specs.Environment.{is_port, ports_in};
 
+use crate::up_ports::UpPorts;
 use maple_base::NoMemory;
 use std::alloc::Global;
 use std::collections::BTreeMap;
@@ -81,5 +84,40 @@ impl<V: Drop> NumberMap<V> {
         ensures { self.new ≡ map.remove self.old key }
     {
         let _ = self.entries.remove(&key);
+    }
+}
+
+impl<V: Clone> NumberMap<V> {
+    /// The same values at the same keys, if a clone is equal to its value.
+    pub fn copy(&self) -> Result<NumberMap<V>, NoMemory>
+        ensures { IfOk result (λ copy. ((v w : V) → V.is_clone v w → w ≡ v) → copy ≡ self.now) }
+    {
+        let entries = self.entries.clone()?;
+        Ok(NumberMap { entries })
+    }
+}
+
+impl NumberMap<UpPorts> {
+    /// A port of a known switch goes up.
+    pub fn raise(&mut self, switch: u64, port: u16) -> Result<(), NoMemory>
+        requires known { IsTrue (map.contains_key self.old switch) }
+        requires port { IsTrue (is_port port) }
+        ensures ok { OnOk result (self.new ≡ map.insert self.old switch (set.insert (ports_in self.old switch) port)) }
+        ensures err { OnErr result (self.new ≡ self.old) }
+    {
+        if let Some(up) = self.entries.get_mut(&switch) {
+            up.insert(port)?;
+        }
+        Ok(())
+    }
+
+    /// A port of a known switch goes down.
+    pub fn lower(&mut self, switch: u64, port: u16)
+        requires known { IsTrue (map.contains_key self.old switch) }
+        ensures { self.new ≡ map.insert self.old switch (set.remove (ports_in self.old switch) port) }
+    {
+        if let Some(up) = self.entries.get_mut(&switch) {
+            up.remove(port);
+        }
     }
 }

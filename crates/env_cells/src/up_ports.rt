@@ -6,7 +6,7 @@ ghost use Rattle.env_cells.specs.Environment.{is_port};
 ghost use Rattle.env_cells.specs.Listed.{is_listed_up, listed_up};
 
 use maple_base::{NoMemory, Port};
-use std::alloc::Global;
+use std::alloc::{AllocError, Global};
 use std::collections::BTreeSet;
 use std::marker::Model;
 
@@ -100,6 +100,15 @@ impl UpPorts {
         ensures { self.new ≡ set.remove self.old port }
     {
         self.numbers.remove(&port);
+    }
+}
+
+impl Clone for UpPorts {
+    ghost is_clone = { λ up copy. copy ≡ up };
+
+    fn clone(&self) -> Result<UpPorts, AllocError> {
+        let numbers = self.numbers.clone()?;
+        Ok(UpPorts { numbers })
     }
 }
 

@@ -1,0 +1,139 @@
+// Tables of numbers by their names.
+ghost use Rattle.std.specs.Prelude.{◌≡◌, true, None, IsTrue, IfSome, IfNone, IfOk, OnOk, OnErr, unwrap_or};
+ghost use Rattle.std.specs.List.{list_any};
+ghost use Rattle.std.specs.Option.{option_copied};
+ghost use Rattle.std.specs.Ordering.{nat_cmp, eq_by_cmp};
+ghost use Rattle.std.specs.FinMap as map;
+ghost use Rattle.std.specs.FinMap.{find};
+ghost use Rattle.env_cells.specs.Environment.{name_cmp};
+ghost use Rattle.env_cells.specs.Named.{IsFirst, numbers_in, tables_named};
+
+use crate::number_map::NumberMap;
+use maple_base::{Name, NoMemory};
+use std::alloc::Global;
+use std::marker::Model;
+
+type Table = (Name, NumberMap<u64>);
+
+/// The declared tables. There are few, so a table is sought among all of them.
+#[derive(Drop)]
+pub struct TableMap {
+    tables: Vec<Table>,
+}
+
+impl Model for TableMap {
+    ghost use Rattle.std.specs.Prelude.{ℕ};
+    ghost use Rattle.std.specs.Ordering.{nat_cmp};
+    ghost use Rattle.std.specs.Coded.{coded_ℕ, coded_list};
+    ghost use Rattle.std.specs.FinMap as map;
+    ghost use Rattle.env_cells.specs.Environment.{name_cmp, table_code};
+
+    ghost Value = { map.FinMap name_cmp (map.FinMap nat_cmp ℕ) };
+
+    ghost coded = { map.code (coded_list coded_ℕ) table_code };
+
+    ghost view = { λ a. map.from_entries a.tables.items };
+}
+
+impl TableMap {
+    /// No tables.
+    pub fn new(alloc: Global) -> Self
+        ensures { result ≡ map.empty }
+    {
+        TableMap {
+            tables: Vec::new(alloc),
+        }
+    }
+
+    /// The numbers of a table.
+    pub fn get(&self, name: &Name) -> Option<&NumberMap<u64>>
+        ensures { option_copied result ≡ map.get self.now name.now }
+    {
+        match place_of(&self.tables, name) {
+            Some(place) => Some(&self.tables[place].1),
+            None => None,
+        }
+    }
+
+    /// A table has this number at the key.
+    pub fn set(&mut self, name: &Name, key: u64, value: u64) -> Result<(), NoMemory>
+        requires declared { IsTrue (map.contains_key self.old name.now) }
+        ensures ok { OnOk result (self.new ≡ map.insert self.old name.now (map.insert (numbers_in self.old name.now) key value)) }
+        ensures err { OnErr result (self.new ≡ self.old) }
+    {
+        if let Some(place) = place_of(&self.tables, name) {
+            let table = &mut self.tables[place];
+            table.1.insert(key, value)?;
+        }
+        Ok(())
+    }
+
+    /// A table has no number at the key.
+    pub fn unset(&mut self, name: &Name, key: u64)
+        requires declared { IsTrue (map.contains_key self.old name.now) }
+        ensures { self.new ≡ map.insert self.old name.now (map.remove (numbers_in self.old name.now) key) }
+    {
+        if let Some(place) = place_of(&self.tables, name) {
+            let table = &mut self.tables[place];
+            table.1.remove(key);
+        }
+    }
+
+    /// Exactly the tables of these names are there: those that were keep their numbers, the others
+    /// are empty.
+    pub fn declare(&mut self, names: &[Name]) -> Result<(), NoMemory>
+        ensures ok { OnOk result (self.new ≡ tables_named self.old names.now) }
+        ensures err { OnErr result (self.new ≡ self.old) }
+    {
+        self.tables.reserve(names.len())?;
+        self.tables.retain(|table| is_among(names, &table.0));
+        for name in names {
+            if place_of(&self.tables, name).is_none() {
+                let numbers = NumberMap::new(*self.tables.allocator());
+                self.tables.push_reserved((*name, numbers));
+            }
+        }
+        Ok(())
+    }
+
+    /// Equal tables.
+    pub fn copy(&self) -> Result<TableMap, NoMemory>
+        ensures { IfOk result (λ tables. tables ≡ self.now) }
+    {
+        let mut tables = Vec::with_capacity(*self.tables.allocator(), self.tables.len())?;
+        for (name, numbers) in &self.tables {
+            tables.push((*name, numbers.copy()?))?;
+        }
+        Ok(TableMap { tables })
+    }
+}
+
+// Where the first table of the name stands.
+fn place_of(tables: &[Table], name: &Name) -> Option<usize>
+    ensures found { IfSome result (IsFirst name_cmp tables.now name.now) }
+    ensures absent { IfNone result (find name_cmp name.now tables.now ≡ None) }
+{
+    for (place, table) in tables.iter().enumerate() {
+        if is_same(name, &table.0) {
+            return Some(place);
+        }
+    }
+    None
+}
+
+fn is_among(names: &[Name], name: &Name) -> bool
+    ensures { result ≡ list_any (eq_by_cmp name_cmp name.now) names.now }
+{
+    for other in names {
+        if is_same(name, other) {
+            return true;
+        }
+    }
+    false
+}
+
+fn is_same(name: &Name, other: &Name) -> bool
+    ensures { result ≡ eq_by_cmp name_cmp name.now other.now }
+{
+    name.text() == other.text()
+}
