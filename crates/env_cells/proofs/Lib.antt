@@ -1,2 +1,4 @@
 pub mod Maps
 pub mod Sets
+pub mod Places
+pub mod PlaceOrder

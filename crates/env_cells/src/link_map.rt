@@ -67,12 +67,10 @@ impl LinkMap {
         ensures err { OnErr result (self.new ≡ self.old) }
     {
         match search(&self.links, &from) {
-            Ok(place) => {
-                self.links.replace(place, (from, to));
-                Ok(())
-            }
-            Err(place) => self.links.insert(place, (from, to)),
+            Ok(place) => self.links.replace(place, (from, to)),
+            Err(place) => self.links.insert(place, (from, to))?,
         }
+        Ok(())
     }
 
     /// No link begins at the place.

@@ -105,9 +105,10 @@ impl NumberMap<UpPorts> {
         ensures ok { OnOk result (self.new ≡ map.insert self.old switch (set.insert (ports_in self.old switch) port)) }
         ensures err { OnErr result (self.new ≡ self.old) }
     {
-        if let Some(up) = self.entries.get_mut(&switch) {
-            up.insert(port)?;
-        }
+        let Some(up) = self.entries.get_mut(&switch) else {
+            return Ok(());
+        };
+        up.insert(port)?;
         Ok(())
     }
 
@@ -116,8 +117,9 @@ impl NumberMap<UpPorts> {
         requires known { IsTrue (map.contains_key self.old switch) }
         ensures { self.new ≡ map.insert self.old switch (set.remove (ports_in self.old switch) port) }
     {
-        if let Some(up) = self.entries.get_mut(&switch) {
-            up.remove(port);
-        }
+        let Some(up) = self.entries.get_mut(&switch) else {
+            return;
+        };
+        up.remove(port);
     }
 }
