@@ -2,3 +2,5 @@ pub mod Maps
 pub mod Sets
 pub mod Places
 pub mod PlaceOrder
+pub mod Firsts
+pub mod NamedTables

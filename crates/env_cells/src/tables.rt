@@ -61,10 +61,11 @@ impl TableMap {
         ensures ok { OnOk result (self.new ≡ map.insert self.old name.now (map.insert (numbers_in self.old name.now) key value)) }
         ensures err { OnErr result (self.new ≡ self.old) }
     {
-        if let Some(place) = place_of(&self.tables, name) {
-            let table = &mut self.tables[place];
-            table.1.insert(key, value)?;
-        }
+        let Some(place) = place_of(&self.tables, name) else {
+            return Ok(());
+        };
+        let (_, numbers) = &mut self.tables[place];
+        numbers.insert(key, value)?;
         Ok(())
     }
 
@@ -73,10 +74,11 @@ impl TableMap {
         requires declared { IsTrue (map.contains_key self.old name.now) }
         ensures { self.new ≡ map.insert self.old name.now (map.remove (numbers_in self.old name.now) key) }
     {
-        if let Some(place) = place_of(&self.tables, name) {
-            let table = &mut self.tables[place];
-            table.1.remove(key);
-        }
+        let Some(place) = place_of(&self.tables, name) else {
+            return;
+        };
+        let (_, numbers) = &mut self.tables[place];
+        numbers.remove(key);
     }
 
     /// Exactly the tables of these names are there: those that were keep their numbers, the others
@@ -124,12 +126,7 @@ fn place_of(tables: &[Table], name: &Name) -> Option<usize>
 fn is_among(names: &[Name], name: &Name) -> bool
     ensures { result ≡ list_any (eq_by_cmp name_cmp name.now) names.now }
 {
-    for other in names {
-        if is_same(name, other) {
-            return true;
-        }
-    }
-    false
+    names.iter().any(|other| is_same(name, other))
 }
 
 fn is_same(name: &Name, other: &Name) -> bool
