@@ -1,12 +1,12 @@
 // Tables of numbers by their names.
-ghost use Rattle.std.specs.Prelude.{◌≡◌, true, None, IsTrue, IfSome, IfNone, IfOk, OnOk, OnErr, unwrap_or};
+ghost use Rattle.std.specs.Prelude.{◌≡◌, ℕ, ◌+◌, ◌≤◌, None, IsTrue, IfSome, IfNone, IfOk, OnOk, OnErr, List, length, filter, is_some, vec_len, vec_capacity};
 ghost use Rattle.std.specs.List.{list_any};
 ghost use Rattle.std.specs.Option.{option_copied};
-ghost use Rattle.std.specs.Ordering.{nat_cmp, eq_by_cmp};
+ghost use Rattle.std.specs.Ordering.{eq_by_cmp};
 ghost use Rattle.std.specs.FinMap as map;
 ghost use Rattle.std.specs.FinMap.{find};
 ghost use Rattle.env_cells.specs.Environment.{name_cmp};
-ghost use Rattle.env_cells.specs.Named.{IsFirst, numbers_in, tables_named};
+ghost use Rattle.env_cells.specs.Named.{IsFirst, numbers_in, tables_named, with_empty};
 
 use crate::number_map::NumberMap;
 use maple_base::{Name, NoMemory};
@@ -88,13 +88,8 @@ impl TableMap {
         ensures err { OnErr result (self.new ≡ self.old) }
     {
         self.tables.reserve(names.len())?;
-        self.tables.retain(|table| is_among(names, &table.0));
-        for name in names {
-            if place_of(&self.tables, name).is_none() {
-                let numbers = NumberMap::new(*self.tables.allocator());
-                self.tables.push_reserved((*name, numbers));
-            }
-        }
+        keep(&mut self.tables, names);
+        add(&mut self.tables, names);
         Ok(())
     }
 
@@ -108,6 +103,34 @@ impl TableMap {
         }
         Ok(TableMap { tables })
     }
+}
+
+// Drops the tables of other names.
+fn keep(tables: &mut Vec<Table>, names: &[Name])
+    ensures items { tables.new.items ≡ filter (λ table. list_any (eq_by_cmp name_cmp table.0) names.now) tables.old.items }
+    ensures shorter { vec_len tables.new ≤ vec_len tables.old }
+    ensures capacity { vec_capacity tables.new ≡ vec_capacity tables.old }
+{
+    tables.retain(|table| is_among(names, &table.0));
+}
+
+// Adds an empty table for each name that has none.
+fn add(tables: &mut Vec<Table>, names: &[Name])
+    requires room { vec_len tables.old + length names.now ≤ vec_capacity tables.old }
+    ensures added { (q : List ℕ) → map.get (map.from_entries {R = name_cmp} tables.new.items) q ≡ with_empty (map.from_entries tables.old.items) names.now q }
+{
+    for name in names {
+        if !is_declared(tables, name) {
+            let numbers = NumberMap::new(*tables.allocator());
+            tables.push_reserved((*name, numbers));
+        }
+    }
+}
+
+fn is_declared(tables: &[Table], name: &Name) -> bool
+    ensures { result ≡ is_some (find name_cmp name.now tables.now) }
+{
+    place_of(tables, name).is_some()
 }
 
 // Where the first table of the name stands.
