@@ -4,3 +4,5 @@ pub mod Places
 pub mod PlaceOrder
 pub mod Firsts
 pub mod NamedTables
+pub mod Limits
+pub mod LinkFacts

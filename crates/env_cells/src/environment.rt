@@ -22,7 +22,7 @@ use crate::number_map::NumberMap;
 use crate::tables::TableMap;
 use crate::up_ports::{UpPorts, is_port};
 use crate::{Links, Update, UpdateError, UpdateRefused};
-use maple_base::{Cell, Name, NoMemory, Place, Ports, Value};
+use maple_base::{Cell, Name, Names, NoMemory, Place, Ports, Value};
 use std::alloc::Global;
 use std::marker::Model;
 
@@ -171,17 +171,14 @@ impl Env {
             }
             Update::Host { mac, place } => self.set_host(*mac, *place),
             Update::NoHost { mac } => {
-                self.hosts.remove(*mac);
+                self.remove_host(*mac);
                 Ok(())
             }
             Update::Link { from, to } => self.set_link(*from, *to),
             Update::NoLink { from } => self.remove_link(*from),
             Update::Set { table, key, value } => self.set_number(table, *key, *value),
             Update::Unset { table, key } => self.remove_number(table, *key),
-            Update::Tables(names) => {
-                self.tables.declare(names.items())?;
-                Ok(())
-            }
+            Update::Tables(names) => self.set_tables(names),
         }
     }
 
@@ -226,6 +223,12 @@ impl Env {
         Ok(())
     }
 
+    fn remove_host(&mut self, mac: u64)
+        ensures { self.new ≡ record self.old { hosts = map.remove self.old.hosts mac } }
+    {
+        self.hosts.remove(mac);
+    }
+
     fn set_link(&mut self, from: Place, to: Place) -> Result<(), UpdateError>
         ensures { Answers self.old (updates.Link from to) result self.new }
     {
@@ -261,10 +264,18 @@ impl Env {
     fn remove_number(&mut self, table: &Name, key: u64) -> Result<(), UpdateError>
         ensures { Answers self.old (updates.Unset table.now key) result self.new }
     {
-        if self.tables.get(table).is_none() {
+        if !self.tables.has(table) {
             return Err(UpdateError::Refused(UpdateRefused::UnknownTable));
         }
         self.tables.unset(table, key);
+        Ok(())
+    }
+
+    fn set_tables(&mut self, names: &Names) -> Result<(), UpdateError>
+        requires { HasRoomForTables (updates.Tables names.now) }
+        ensures { Answers self.old (updates.Tables names.now) result self.new }
+    {
+        self.tables.declare(names.items())?;
         Ok(())
     }
 

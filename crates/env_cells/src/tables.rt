@@ -45,6 +45,13 @@ impl TableMap {
         }
     }
 
+    /// Whether there is such a table.
+    pub fn has(&self, name: &Name) -> bool
+        ensures { result ≡ map.contains_key self.now name.now }
+    {
+        is_declared(&self.tables, name)
+    }
+
     /// The numbers of a table.
     pub fn get(&self, name: &Name) -> Option<&NumberMap<u64>>
         ensures { option_copied result ≡ map.get self.now name.now }
