@@ -64,4 +64,4 @@ module _ {K X : Type 0} {R : K → K → Ordering} (o : IsTotalOrder R) where
     pub from_entries-set : (es : List (K × X)) (k : K) (at : ℕ) (x : K) (v : X) → IsFirst R es k at → eq_by_cmp R k x ≡ true → map.from_entries {R = R} (set es at (x, v)) ≡ map.insert (map.from_entries es) k v
     from_entries-set es k at x v first tied =
         map.same_map o same _ _ (λ q. map.get-from_entries o _ q ∙ find_set es k at x v first tied q
-          ∙ ap (cond (eq_by_cmp R q k) (Some v)) (sym (map.get-from_entries o es q)) ∙ sym (map.get-insert o _ k v q))
+        ∙ ap (cond (eq_by_cmp R q k) (Some v)) (sym (map.get-from_entries o es q)) ∙ sym (map.get-insert o _ k v q))

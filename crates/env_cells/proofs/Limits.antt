@@ -109,6 +109,7 @@ module _ (e : Environment) (within : IsWithinLimits e) where
     where
       small : set.len (ports_in e.switches switch) ≤ 1364
       small = within.ports switch _ (value_there nat_cmp_total e.switches switch known set.empty)
+
       go : (b : Bool) → set.len (set.remove (ports_in e.switches switch) port) ≡ cond b (set.len (ports_in e.switches switch) - 1) (set.len (ports_in e.switches switch)) → set.len (set.remove (ports_in e.switches switch) port) ≤ 1364
       go true is = omega (arith, is, small)
       go false is = omega (arith, is, small)

@@ -48,6 +48,7 @@ listed (k ∷ ks) q one = go (nat_cmp q k) refl one (λ rest. listed ks q rest)
   where
     later : Contains ks q → Contains (k ∷ ks) q
     later at = (suc at.0, omega (arith, at.1), at.2)
+
     go : (r : Ordering) → nat_cmp q k ≡ r → (is_eq r || list_any (eq_by_cmp nat_cmp q) ks) ≡ true → (list_any (eq_by_cmp nat_cmp q) ks ≡ true → Contains ks q) → Contains (k ∷ ks) q
     go Less apart one rest = later (rest one)
     go Equal tied one rest = (0, omega arith, sym (nat_cmp-IsAntisymmetric q k tied))
@@ -77,6 +78,8 @@ module _ (e : Environment) (within : IsWithinLimits e) where
   among switch known = listed (map.keys e.switches) switch (sym (map.contains_key-keys e.switches switch) ∙ known)
 
   pub links_named : NamesFewSwitches links
-  links_named = (map.keys e.switches,
+  links_named = (
+    map.keys e.switches,
     omega (arith, length-map (map.entries e.switches) (λ (p : ℕ × PortSet). p.0), map.len-entries e.switches, within.switches),
-    λ k d lt. record { start = among _ (links_known k d lt).start; end = among _ (links_known k d lt).end })
+    λ k d lt. record { start = among _ (links_known k d lt).start; end = among _ (links_known k d lt).end },
+  )

@@ -45,12 +45,12 @@ module _ {K X : Type 0} {R : K → K → Ordering} (o : IsTotalOrder R) where
     pub from_entries-insert : (es fs : List (K × X)) (k : K) (v : X) → ((q : K) → lookup (is_at (R q)) fs ≡ cond (is_at (R k) q) (Some v) (lookup (is_at (R q)) es)) → map.from_entries {R = R} fs ≡ map.insert (map.from_entries es) k v
     from_entries-insert es fs k v h =
         map.same_map o same _ _ (λ q. get-lookup fs q ∙ h q ∙ ap (λ b. cond b (Some v) (lookup (is_at (R q)) es)) ((eq_by_cmp_equiv o).symm k q)
-          ∙ ap (cond (eq_by_cmp R q k) (Some v)) (sym (get-lookup es q)) ∙ sym (map.get-insert o _ k v q))
+        ∙ ap (cond (eq_by_cmp R q k) (Some v)) (sym (get-lookup es q)) ∙ sym (map.get-insert o _ k v q))
 
     pub from_entries-remove : (es fs : List (K × X)) (k : K) → ((q : K) → lookup (is_at (R q)) fs ≡ cond (is_at (R k) q) None (lookup (is_at (R q)) es)) → map.from_entries {R = R} fs ≡ map.remove (map.from_entries es) k
     from_entries-remove es fs k h =
         map.same_map o same _ _ (λ q. get-lookup fs q ∙ h q ∙ ap (λ b. cond b None (lookup (is_at (R q)) es)) ((eq_by_cmp_equiv o).symm k q)
-          ∙ ap (cond (eq_by_cmp R q k) None) (sym (get-lookup es q)) ∙ sym (map.get-remove o _ k q))
+        ∙ ap (cond (eq_by_cmp R q k) None) (sym (get-lookup es q)) ∙ sym (map.get-remove o _ k q))
 
     -- to insert the value that is there changes nothing
     pub insert_same : (m : map.FinMap R X) (k : K) (v : X) → map.get m k ≡ Some v → map.insert m k v ≡ m

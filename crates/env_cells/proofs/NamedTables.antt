@@ -104,8 +104,8 @@ module _ (m : map.FinMap name_cmp Table) (names : List (List ℕ)) (i : ℕ) (d 
   added_new absent q =
       let none = none_of _ absent in
       missing (map.get (named (es ++ (name, map.empty) ∷ [])) q) (map.get (named es) q) (map.get m q) (list_any (eq_by_cmp name_cmp q) (take i names)) (eq_by_cmp name_cmp q name) map.empty
-        (ap (λ n. map.get n q) (map.from_entries_push nat_list_cmp_total name_cmp-IsAntisymmetric es name map.empty none) ∙ map.get-insert nat_list_cmp_total (named es) name map.empty q)
-        (so_far q) (λ tied. tied_name q tied ∙ none)
+      (ap (λ n. map.get n q) (map.from_entries_push nat_list_cmp_total name_cmp-IsAntisymmetric es name map.empty none) ∙ map.get-insert nat_list_cmp_total (named es) name map.empty q)
+      (so_far q) (λ tied. tied_name q tied ∙ none)
       ∙ sym (one_more q)
 
 get-tables_named : (m : map.FinMap name_cmp Table) (names : List (List ℕ)) (q : List ℕ) → map.get (tables_named m names) q ≡ cond (list_any (eq_by_cmp name_cmp q) names) (Some (numbers_in m q)) None
@@ -134,13 +134,14 @@ among_alike (n ∷ names) q x tied = λ i. is_eq (sym (nat_list_cmp_total.congr 
 pub declared : (es ks fs : List (List ℕ × Table)) (names : List (List ℕ)) → ks ≡ filter (λ t. list_any (eq_by_cmp name_cmp t.0) names) es → ((q : List ℕ) → map.get (named fs) q ≡ with_empty (named ks) names q) → named fs ≡ tables_named (named es) names
 declared es ks fs names kept added =
     map.same_map nat_list_cmp_total name_cmp-IsAntisymmetric _ _ (λ q. added q
-      ∙ narrowed (list_any (eq_by_cmp name_cmp q) names) (map.get (named ks) q) (map.get (named es) q) (get-kept q)
-      ∙ sym (get-tables_named (named es) names q))
+    ∙ narrowed (list_any (eq_by_cmp name_cmp q) names) (map.get (named ks) q) (map.get (named es) q) (get-kept q)
+    ∙ sym (get-tables_named (named es) names q))
   where
     get-kept : (q : List ℕ) → map.get (named ks) q ≡ cond (list_any (eq_by_cmp name_cmp q) names) (map.get (named es) q) None
     get-kept q =
         get-named ks q ∙ ap (find name_cmp q) kept ∙ find-where_key name_cmp (λ x. list_any (eq_by_cmp name_cmp x) names) q (λ x tied. among_alike names q x tied) es
         ∙ ap (λ o. cond (list_any (eq_by_cmp name_cmp q) names) o None) (sym (get-named es q))
+
     narrowed : (b : Bool) (k g : Option Table) → k ≡ cond b g None → cond b (Some (unwrap_or k map.empty)) k ≡ cond b (Some (unwrap_or g map.empty)) None
     narrowed true k g is = ap (λ x. Some (unwrap_or x map.empty)) is
     narrowed false k g is = is

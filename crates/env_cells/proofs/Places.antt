@@ -64,15 +64,15 @@ module _ {K X : Type 0} {R : K → K → Ordering} (o : IsTotalOrder R) where
     absent = tt;
   }
   searched es k sorted (Err at) bound parted =
-    let rising : IsNonDecreasingBy (λ y. ordering_index (R y.0 k)) es = searchable_from_sorted o (λ (e : K × X). e.0) es k (λ i d low lt. ap is_lt (turned o _ _ Less (rises R es i (i + 1) d sorted (omega arith) lt))) in
-    record {
-      found = tt;
-      absent = record {
-        within = bound;
-        before = λ j d lt. turned o _ _ Less ((parted rising).0 j d (omega arith) lt);
-        behind = λ j d le lt. turned o _ _ Greater ((parted rising).1 j d le lt);
-      };
-    }
+      let rising : IsNonDecreasingBy (λ y. ordering_index (R y.0 k)) es = searchable_from_sorted o (λ (e : K × X). e.0) es k (λ i d low lt. ap is_lt (turned o _ _ Less (rises R es i (i + 1) d sorted (omega arith) lt))) in
+      record {
+        found = tt;
+        absent = record {
+          within = bound;
+          before = λ j d lt. turned o _ _ Less ((parted rising).0 j d (omega arith) lt);
+          behind = λ j d le lt. turned o _ _ Greater ((parted rising).1 j d le lt);
+        };
+      }
 
   module _ (same : map.IsAntisymmetric R) where
     pub put_hit : (es : List (K × X)) (k : K) (v : X) (at : ℕ) → IsHit R es k at → put R k v es ≡ set es at (k, v)
@@ -163,12 +163,12 @@ module _ {K X : Type 0} {R : K → K → Ordering} (o : IsTotalOrder R) where
     pub from_entries-put : (es : List (K × X)) (k : K) (v : X) → map.from_entries {R = R} (put R k v es) ≡ map.insert (map.from_entries es) k v
     from_entries-put es k v =
         map.same_map o same _ _ (λ q. map.get-from_entries o _ q ∙ find-put R o q k v es
-          ∙ ap (cond (eq_by_cmp R q k) (Some v)) (sym (map.get-from_entries o es q)) ∙ sym (map.get-insert o _ k v q))
+        ∙ ap (cond (eq_by_cmp R q k) (Some v)) (sym (map.get-from_entries o es q)) ∙ sym (map.get-insert o _ k v q))
 
     pub from_entries-removed : (es : List (K × X)) (k : K) (at : ℕ) → is_sorted R es ≡ true → IsHit R es k at → map.from_entries {R = R} (remove es at) ≡ map.remove (map.from_entries es) k
     from_entries-removed es k at sorted hit =
         map.same_map o same _ _ (λ q. map.get-from_entries o _ q ∙ find_removed es k at sorted hit q
-          ∙ ap (cond (eq_by_cmp R q k) None) (sym (map.get-from_entries o es q)) ∙ sym (map.get-remove o _ k q))
+        ∙ ap (cond (eq_by_cmp R q k) None) (sym (map.get-from_entries o es q)) ∙ sym (map.get-remove o _ k q))
 
     -- to remove what is not there changes nothing
     pub remove_absent : (m : map.FinMap R X) (k : K) → map.get m k ≡ None → m ≡ map.remove m k

@@ -38,12 +38,12 @@ contains-keys ks q = set.contains-from_list nat_cmp_total ks q
 pub from_list-insert : (ks ls : List ℕ) (k : ℕ) → ((q : ℕ) → list_any (is_at (nat_cmp q)) ls ≡ cond (is_at (nat_cmp k) q) true (list_any (is_at (nat_cmp q)) ks)) → set.from_list {R = nat_cmp} ls ≡ set.insert (set.from_list ks) k
 from_list-insert ks ls k h =
     same_keys _ _ (λ q. contains-keys ls q ∙ h q ∙ or_cond (eq_by_cmp nat_cmp k q) (list_any (is_at (nat_cmp q)) ks) ∙ ap (λ b. b || list_any (is_at (nat_cmp q)) ks) ((eq_by_cmp_equiv nat_cmp_total).symm k q)
-      ∙ ap (λ b. eq_by_cmp nat_cmp q k || b) (sym (contains-keys ks q)) ∙ sym (set.contains-insert nat_cmp_total _ k q))
+    ∙ ap (λ b. eq_by_cmp nat_cmp q k || b) (sym (contains-keys ks q)) ∙ sym (set.contains-insert nat_cmp_total _ k q))
 
 pub from_list-remove : (ks ls : List ℕ) (k : ℕ) → ((q : ℕ) → list_any (is_at (nat_cmp q)) ls ≡ cond (is_at (nat_cmp k) q) false (list_any (is_at (nat_cmp q)) ks)) → set.from_list {R = nat_cmp} ls ≡ set.remove (set.from_list ks) k
 from_list-remove ks ls k h =
     same_keys _ _ (λ q. contains-keys ls q ∙ h q ∙ and_cond (eq_by_cmp nat_cmp k q) (list_any (is_at (nat_cmp q)) ks) ∙ ap (λ b. not b && list_any (is_at (nat_cmp q)) ks) ((eq_by_cmp_equiv nat_cmp_total).symm k q)
-      ∙ ap (λ b. not (eq_by_cmp nat_cmp q k) && b) (sym (contains-keys ks q)) ∙ sym (set.contains-remove nat_cmp_total _ k q))
+    ∙ ap (λ b. not (eq_by_cmp nat_cmp q k) && b) (sym (contains-keys ks q)) ∙ sym (set.contains-remove nat_cmp_total _ k q))
 
 none_equal : (k : ℕ) (ks : List ℕ) → AllByRecursion (λ y. nat_cmp k y ≡ Less) ks → list_any (eq_by_cmp nat_cmp k) ks ≡ false
 none_equal k [] h = refl
@@ -81,6 +81,7 @@ ports-remove test (x ∷ ks) all =
     rest : (a b : Bool) → (a && b) ≡ true → b ≡ true
     rest true b h = h
     rest false b h = cc
+
     both : (a b c : Bool) → (a && b) ≡ true → (b ≡ true → c ≡ true) → (a && c) ≡ true
     both true b c h f = f h
     both false b c h f = h
@@ -92,8 +93,10 @@ no_port ks q all out = contains-keys ks q ∙ none ks all
     both : (a b : Bool) → (a && b) ≡ true → (a ≡ true) × (b ≡ true)
     both true b h = (refl, h)
     both false b h = (h, cc)
+
     apart : (x : ℕ) → is_port x ≡ true → is_eq (nat_cmp q x) ≡ false
     apart x inside = by_ranked _ _ _ (nat_cmp q x) (ranked q x _ refl) (λ e _. ap is_eq e) (λ e same. let h : is_port q ≡ is_port x = ap is_port same in cc) (λ e _. ap is_eq e)
+
     none : (xs : List ℕ) → list_all is_port xs ≡ true → list_any (is_at (nat_cmp q)) xs ≡ false
     none [] h = refl
     none (x ∷ xs) h = ap (λ b. b || list_any (is_at (nat_cmp q)) xs) (apart x (both (is_port x) (list_all is_port xs) h).0) ∙ none xs (both (is_port x) (list_all is_port xs) h).1

@@ -28,7 +28,8 @@ Table = map.FinMap nat_cmp ℕ
 abbrev pub ports_in : map.FinMap nat_cmp PortSet → ℕ → PortSet
 ports_in switches switch = unwrap_or (map.get switches switch) set.empty
 
--- the known switches with their up ports, the hosts with their places, the links from places to places, the tables by their names
+-- the known switches with their up ports, the hosts with their places, the links from places to places, the tables by their names;
+-- a switch that is known stays known
 pub record Environment : Type 0 where
   pub switches : map.FinMap nat_cmp PortSet
   pub hosts : map.FinMap nat_cmp Place

@@ -8,3 +8,4 @@ pub mod Sorted
 pub mod Values
 pub mod Limits
 pub mod Lists
+pub mod FewNames

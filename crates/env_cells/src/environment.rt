@@ -27,9 +27,13 @@ use std::alloc::Global;
 use std::marker::Model;
 
 const SWITCHES: u64 = 64;
+
 const UP_PORTS: u64 = 1364;
+
 const HOSTS: u64 = 65536;
+
 const LINKS: u64 = 4096;
+
 const NUMBERS: u64 = 65536;
 
 /// What is known of the network: the switches with their up ports, hosts, links, and tables of

@@ -6,6 +6,8 @@ mod link_map;
 pub mod links;
 mod number_map;
 mod tables;
+#[cfg(test)]
+mod tests;
 mod up_ports;
 pub mod updates;
 

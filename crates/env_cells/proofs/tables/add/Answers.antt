@@ -14,15 +14,15 @@ loop-name-preserved c =
     let there : is_some (find name_cmp c.name-item.result c.deref.result.now) ≡ is_some (find name_cmp (get_or c.args.names.now c.loop-name.name-index c.name-item.result) es) = λ j. is_some (find name_cmp (c.name-item.is j) (c.deref.ensures.value j)) in
     elim c.if-not-is_declared.branch [
       | then-not-is_declared w ↦
-        let items : c.if-not-is_declared.tables.items ≡ es ++ (get_or c.args.names.now c.loop-name.name-index c.name-item.result, map.empty) ∷ [] = ap (λ t. t.items) w.tables-is ∙ w.push_reserved.ensures.items ∙ (λ j. es ++ (c.name-item.is j, w.new-numbers.ensures j) ∷ []) in
-        record {
-          room = omega (arith, ap vec_len w.tables-is, ap vec_capacity w.tables-is, w.push_reserved.ensures.len, w.push_reserved.ensures.capacity, c.loop-name.invariant.room, c.loop-name-test.true);
-          added = λ q. ap (λ l. map.get (named l) q) items
-            ∙ added_new before c.args.names.now c.loop-name.name-index c.name-item.result c.loop-name-test.true es c.loop-name.invariant.added (sym (w.if-not-is_declared.ensures ∙ there)) q;
-        }
+          let items : c.if-not-is_declared.tables.items ≡ es ++ (get_or c.args.names.now c.loop-name.name-index c.name-item.result, map.empty) ∷ [] = ap (λ t. t.items) w.tables-is ∙ w.push_reserved.ensures.items ∙ (λ j. es ++ (c.name-item.is j, w.new-numbers.ensures j) ∷ []) in
+          record {
+            room = omega (arith, ap vec_len w.tables-is, ap vec_capacity w.tables-is, w.push_reserved.ensures.len, w.push_reserved.ensures.capacity, c.loop-name.invariant.room, c.loop-name-test.true);
+            added = λ q. ap (λ l. map.get (named l) q) items
+                ∙ added_new before c.args.names.now c.loop-name.name-index c.name-item.result c.loop-name-test.true es c.loop-name.invariant.added (sym (w.if-not-is_declared.ensures ∙ there)) q;
+          }
       | else-not-is_declared w ↦ record {
         room = omega (arith, ap vec_len w.tables-is, ap vec_capacity w.tables-is, c.loop-name.invariant.room, c.loop-name-test.true);
         added = λ q. ap (λ t. map.get (named t.items) q) w.tables-is
-          ∙ added_there before c.args.names.now c.loop-name.name-index c.name-item.result c.loop-name-test.true es c.loop-name.invariant.added (sym (w.if-not-is_declared.ensures ∙ there)) q;
+            ∙ added_there before c.args.names.now c.loop-name.name-index c.name-item.result c.loop-name-test.true es c.loop-name.invariant.added (sym (w.if-not-is_declared.ensures ∙ there)) q;
       }
     ]

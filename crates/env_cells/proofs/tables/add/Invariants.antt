@@ -8,5 +8,5 @@ use Rattle.env_cells.proofs.tables.add.Given as goal
 abbrev pub invariant-loop-name : goal.invariant-loop-name
 invariant-loop-name l = record {
   room : vec_len l.tables + (length l.names - l.name-index) ≤ vec_capacity l.tables;
-  added : (q : List ℕ) → map.get (map.from_entries {R = name_cmp} l.tables.items) q ≡ with_empty (map.from_entries l.initial.tables.items) (take l.name-index l.names) q
+  added : (q : List ℕ) → map.get (map.from_entries {R = name_cmp} l.tables.items) q ≡ with_empty (map.from_entries l.initial.tables.items) (take l.name-index l.names) q;
 }

@@ -15,6 +15,6 @@ invariant_of-self-2 c =
     let name = c.args.table.now in
     let declared : map.contains_key e.tables name ≡ true = sym (ap is_some c.in-Some.ensures) in
     let same : map.len (map.insert c.in-Some.numbers.now c.args.key c.args.value) ≡ map.len (map.insert (numbers_in e.tables name) c.args.key c.args.value) =
-      ap (λ x. map.len (map.insert (unwrap_or x map.empty) c.args.key c.args.value)) c.in-Some.ensures in
+    ap (λ x. map.len (map.insert (unwrap_or x map.empty) c.args.key c.args.value)) c.in-Some.ensures in
     let small : map.len (map.insert (numbers_in e.tables name) c.args.key c.args.value) ≤ 65536 = omega (arith, same, c.len_with.ensures c.args.value, within_full _ 65536 c.in_ok-check_room.ensures) in
     subst (λ s. IsWithinLimits (record e { tables = s })) (sym c.in_ok-set.ensures.ok) (limits_numbers e c.self.invariant name _ declared small)

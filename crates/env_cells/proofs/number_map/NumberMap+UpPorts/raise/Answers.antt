@@ -18,4 +18,4 @@ returns-in_default-clause-ok c =
 pub returns-in_err-insert-clause-err : goal.returns-in_err-insert-clause-err
 returns-in_err-insert-clause-err c =
     on_err _ (written_back c.self.inside.entries (c.get_mut.follows.lender c.insert.new.self) c.args.switch c.insert.new.self c.in-Some.up.now c.in_err-insert.ensures.err
-      (c.get_mut.follows.holds c.insert.new.self) c.in-Some.ensures.value ∙ c.self.view_is)
+    (c.get_mut.follows.holds c.insert.new.self) c.in-Some.ensures.value ∙ c.self.view_is)

@@ -13,5 +13,5 @@ add-requires c = record { room = omega (arith, c.in_ok-reserve.ensures.ok, c.kee
 pub returns-clause-ok : goal.returns-clause-ok
 returns-clause-ok c =
     declared c.self.inside.tables.items c.keep.new.tables.items c.add.new.tables.items c.args.names.now
-      (c.keep.ensures.items ∙ ap (filter (λ t. list_any (eq_by_cmp name_cmp t.0) c.args.names.now)) c.in_ok-reserve.ensures.items) c.add.ensures.added
+    (c.keep.ensures.items ∙ ap (filter (λ t. list_any (eq_by_cmp name_cmp t.0) c.args.names.now)) c.in_ok-reserve.ensures.items) c.add.ensures.added
     ∙ ap (λ m. tables_named m c.args.names.now) c.self.view_is

@@ -11,8 +11,8 @@ loop-port-preserved c =
     let more = listed_up-more c.args.ports.now c.loop-port.port-index d in
     elim c.if-is_listed_up.branch [
       | then-is_listed_up+in_ok-insert w ↦
-        w.up-is ∙ w.in_ok-insert.ensures.ok
-        ∙ ap (λ s. set.insert s (get_or c.args.ports.now c.loop-port.port-index d).number) c.loop-port.invariant
-        ∙ more true c.loop-port-test.true (sym w.if-is_listed_up.ensures)
+          w.up-is ∙ w.in_ok-insert.ensures.ok
+          ∙ ap (λ s. set.insert s (get_or c.args.ports.now c.loop-port.port-index d).number) c.loop-port.invariant
+          ∙ more true c.loop-port-test.true (sym w.if-is_listed_up.ensures)
       | else-is_listed_up w ↦ w.up-is ∙ c.loop-port.invariant ∙ more false c.loop-port-test.true (sym w.if-is_listed_up.ensures)
     ]
