@@ -1,0 +1,5 @@
+pub mod Graphs
+pub mod NextHops
+pub mod Rows
+pub mod Tables
+pub mod Walks
