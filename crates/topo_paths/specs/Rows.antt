@@ -4,7 +4,7 @@ use Rattle.std.specs.List.{list_any, slice_index_or}
 use Rattle.maple_base.specs.declared.cells.Place.{Place}
 use Rattle.topo_paths.specs.Walks.{Link}
 use Rattle.topo_paths.specs.declared.rows.Ends.{Ends}
-use Rattle.topo_paths.specs.NextHops.{leads_in, distance, next_hop}
+use Rattle.topo_paths.specs.NextHops.{leads_in, distance, hop_over, next_hop}
 
 -- the ends of so many links lead from one place to another
 unfoldable pub ends_lead : List Ends → ℕ → ℕ → ℕ → Bool
@@ -42,3 +42,23 @@ abbrev pub is_nearer : Option ℕ → Option ℕ → Bool
 is_nearer None there = false
 is_nearer (Some here) None = false
 is_nearer (Some here) (Some there) = nat_lt there here
+
+-- the ends at a place
+abbrev pub ends_at : List Ends → ℕ → Ends
+ends_at ends k = slice_index_or ends k (record { from = 0; to = 0 })
+
+-- the link at a place begins at the one switch, and ends nearer
+abbrev pub leads_nearer : List Ends → List (Option ℕ) → ℕ → ℕ → Bool
+leads_nearer ends far from k =
+    (ends_at ends k).from == from && is_nearer (slice_index_or far (ends_at ends k).from None) (slice_index_or far (ends_at ends k).to None)
+
+-- the hop over a link that passes, among so many, by the least port
+abbrev pub IsLeastHop : (ℕ → Bool) → List Link → ℕ → Option Place → Type 0
+IsLeastHop test links count None = (k : ℕ) → k < count → test k ≡ false
+IsLeastHop test links count (Some hop) =
+    (k : ℕ) × (k < count) × (test k ≡ true) × ((d : Link) → hop ≡ hop_over (slice_index_or links k d)) × ((j : ℕ) (d : Link) → j < count → test j ≡ true → hop.port ≤ (slice_index_or links j d).0.port)
+
+-- from each place the hop over one of so many links that ends nearer, by the least port
+pub record AreHops (links : List Link) (ends : List Ends) (far : List (Option ℕ)) (count : ℕ) (row : List (Option Place)) : Type 0 where
+  pub long : length row ≡ 64
+  pub least : (from : ℕ) → from < 64 → IsLeastHop (leads_nearer ends far from) links count (slice_index_or row from None)

@@ -1,7 +1,9 @@
 // How far switches are from one of them, and the next hops to it.
-ghost use Rattle.std.specs.Prelude.{◌≡◌, ℕ, ◌+◌, ◌<◌, ◌≤◌, List, length, All, Option, Some, None};
+ghost use Rattle.std.specs.Prelude.{◌≡◌, ℕ, ◌+◌, ◌<◌, ◌≤◌, List, length, All, AllPairs, Option, Some, None, false, if◌then◌else◌};
 ghost use Rattle.std.specs.List.{slice_index_or};
 ghost use Rattle.maple_base.specs.declared.cells.Place.{Place};
+ghost use Rattle.topo_paths.specs.Graphs.{BeginApart};
+ghost use Rattle.topo_paths.specs.Levels.{AreFound, IsFollowed, unreached};
 ghost use Rattle.topo_paths.specs.NextHops.{hop_over, lesser};
 ghost use Rattle.topo_paths.specs.Rows.{AreWithin, AreDistances, AreEnds, IsRow, is_nearer};
 
@@ -28,7 +30,7 @@ pub fn row_of(links: &[(Place, Place)], ends: &[Ends], to: usize) -> Row
     requires within { All AreWithin ends.now }
     requires long { length ends.now ≡ length links.now }
     requires to { to < 64 }
-    ensures { (switches : List ℕ) → AreEnds links.now switches ends.now → to < length switches → IsRow links.now switches to result }
+    ensures { (switches : List ℕ) → AllPairs BeginApart links.now → AreEnds links.now switches ends.now → to < length switches → IsRow links.now switches to result }
 {
     let distances = distances(ends, to);
     let mut row = [None; SWITCHES];
@@ -91,13 +93,31 @@ fn reach(distances: &mut [Option<usize>], ends: &[Ends], level: usize) -> bool
     requires long { length distances.old ≡ 64 }
     requires within { All AreWithin ends.now }
     requires few { level < 64 }
+    ensures long { length distances.new ≡ 64 }
+    ensures found { (to : ℕ) → AreFound ends.now to level distances.old → AreFound ends.now to (level + 1) distances.new }
+    ensures none { result ≡ false → distances.new ≡ distances.old }
+    ensures some { unreached distances.new + (if result then 1 else 0) ≤ unreached distances.old }
 {
     let mut reached = false;
     for e in ends {
-        if distances[e.to] == Some(level) && distances[e.from].is_none() {
-            distances[e.from] = Some(level + 1);
+        if follow(distances, e, level) {
             reached = true;
         }
     }
     reached
+}
+
+/// Reaches the place at which a link begins, where it has no distance and the link ends at the
+/// level. Whether that was so.
+fn follow(distances: &mut [Option<usize>], e: &Ends, level: usize) -> bool
+    requires long { length distances.old ≡ 64 }
+    requires within { AreWithin e.now }
+    requires few { level < 64 }
+    ensures { IsFollowed e.now level result distances.old distances.new }
+{
+    let found = distances[e.to] == Some(level) && distances[e.from].is_none();
+    if found {
+        distances[e.from] = Some(level + 1);
+    }
+    found
 }

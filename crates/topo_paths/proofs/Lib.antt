@@ -1,0 +1,4 @@
+pub mod Distances
+pub mod LeastHops
+pub mod Levels
+pub mod Making
