@@ -45,6 +45,19 @@ pub fn name_switches(switches: &mut Vec<u64>, links: &[(Place, Place)])
     }
 }
 
+/// The places of the switches between which a link leads.
+fn ends_of(switches: &[u64], from: &Place, to: &Place) -> Ends
+    requires from { Contains switches.now from.now.switch }
+    requires to { Contains switches.now to.now.switch }
+    ensures from { (result.from < length switches.now) × (slice_index switches.now result.from ≡ from.now.switch) }
+    ensures to { (result.to < length switches.now) × (slice_index switches.now result.to ≡ to.now.switch) }
+{
+    Ends {
+        from: index_of(switches, from.switch).unwrap(),
+        to: index_of(switches, to.switch).unwrap(),
+    }
+}
+
 /// Finds the ends of links among the named switches.
 pub fn find_ends(ends: &mut Vec<Ends>, switches: &[u64], links: &[(Place, Place)])
     requires room { length links.now ≤ vec_capacity ends.old }
@@ -57,9 +70,7 @@ pub fn find_ends(ends: &mut Vec<Ends>, switches: &[u64], links: &[(Place, Place)
 {
     ends.clear();
     for (from, to) in links {
-        ends.push_reserved(Ends {
-            from: index_of(switches, from.switch).unwrap(),
-            to: index_of(switches, to.switch).unwrap(),
-        });
+        let e = ends_of(switches, from, to);
+        ends.push_reserved(e);
     }
 }
