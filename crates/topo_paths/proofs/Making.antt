@@ -96,10 +96,10 @@ module _ (links : List Link) (switches : List ℕ) (ends : List Ends) (are : Are
       ends_lead-more ends n k a b d short (name_one (get_or ends k d).from a within.0 la from_is)
       (ends_from_leads n (get_or ends k d).to b within.1 lb (subst (λ x. leads_in links n x (name b) ≡ true) (sym to_is) rest))
 
-abbrev no_place : Place
+abbrev pub no_place : Place
 no_place = record { switch = 0; port = 0 }
 
-abbrev no_link : Link
+abbrev pub no_link : Link
 no_link = (no_place, no_place)
 
 pub place_same : (p q : Place) → p.switch ≡ q.switch → p.port ≡ q.port → p ≡ q

@@ -1,7 +1,7 @@
 // Next hops over links.
 ghost use Rattle.std.specs.Prelude.{◌≡◌, ◌≢◌, ◌⊎◌, ◌≤◌, Some, None, length, IfOk, IfSome, IfNone, MatchOption};
 ghost use Rattle.maple_base.specs.Paths.{IsPath};
-ghost use Rattle.topo_paths.specs.Graphs.{IsGraph};
+ghost use Rattle.topo_paths.specs.Graphs.{IsGraph, IsPortNumber};
 ghost use Rattle.topo_paths.specs.NextHops.{next_hop};
 ghost use Rattle.topo_paths.specs.Walks.{IsNextHop, IsWay, NoWalk};
 
@@ -54,6 +54,7 @@ impl Hops {
         ensures value { result ≡ next_hop self.now from to }
         ensures some { IfSome result (λ hop. IsNextHop self.now from to hop) }
         ensures none { IfNone result ((from ≡ to) ⊎ NoWalk self.now from to) }
+        ensures port { IfSome result (λ hop. IsPortNumber hop.port) }
     {
         self.table.hop(from, to)
     }

@@ -1,7 +1,10 @@
 // The next hops between all switches that links name.
-ghost use Rattle.std.specs.Prelude.{◌≡◌, ℕ, List, length, IfOk};
-ghost use Rattle.topo_paths.specs.Graphs.{IsGraph};
+ghost use Rattle.std.specs.Prelude.{◌≡◌, ℕ, ◌<◌, ◌≤◌, [], List, length, All, AllPairs, IfOk};
+ghost use Rattle.std.specs.List.{slice_index_or};
+ghost use Rattle.std.specs.Vec.{vec_capacity};
+ghost use Rattle.topo_paths.specs.Graphs.{BeginApart, IsGraph};
 ghost use Rattle.topo_paths.specs.NextHops.{next_hop};
+ghost use Rattle.topo_paths.specs.Rows.{AreEnds, AreWithin, IsRow};
 ghost use Rattle.topo_paths.specs.Tables.{HasRoom, IsSquare, IsTableOf};
 ghost use Rattle.topo_paths.specs.Walks.{Link};
 
@@ -42,10 +45,7 @@ impl Table {
     {
         name_switches(&mut self.switches, links);
         find_ends(&mut self.ends, &self.switches, links);
-        self.rows.clear();
-        for to in 0..self.switches.len() {
-            self.rows.push_reserved(row_of(links, &self.ends, to));
-        }
+        make_rows(&mut self.rows, links, &self.ends, self.switches.len());
     }
 
     /// The next hop from one switch to another.
@@ -56,5 +56,22 @@ impl Table {
         let row = index_of(&self.switches, to)?;
         let column = index_of(&self.switches, from)?;
         self.rows[row][column]
+    }
+}
+
+/// Makes the rows of next hops to so many switches.
+fn make_rows(rows: &mut Vec<Row>, links: &[(Place, Place)], ends: &[Ends], count: usize)
+    requires room { count ≤ vec_capacity rows.old }
+    requires few { count ≤ 64 }
+    requires within { All AreWithin ends.now }
+    requires long { length ends.now ≡ length links.now }
+    ensures long { length rows.new.items ≡ count }
+    ensures rows { (switches : List ℕ) → AllPairs BeginApart links.now → AreEnds links.now switches ends.now → (to : ℕ) → to < count → to < length switches → IsRow links.now switches to (slice_index_or rows.new.items to []) }
+    ensures capacity { vec_capacity rows.new ≡ vec_capacity rows.old }
+{
+    rows.clear();
+    for to in 0..count {
+        let row = row_of(links, ends, to);
+        rows.push_reserved(row);
     }
 }
