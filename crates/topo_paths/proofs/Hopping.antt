@@ -1,12 +1,13 @@
 -- What the next hop is, over all walks.
-use Rattle.std.proofs.Common.{◌≡◌, ◌≢◌, ◌⊎◌, ℕ, zero, suc, ◌+◌, ◌<◌, ◌≤◌, Bool, true, false, ◌&&◌, ◌==◌, List, [], ◌∷◌, length, get_or, Option, Some, None, is_some, IfSome, IfNone, Contains, inl, inr, refl, sym, ap, ◌∙◌, subst, ⊎_elim, arith}
+use Rattle.std.proofs.Common.{◌≡◌, ◌≢◌, ◌⊎◌, ℕ, zero, suc, ◌+◌, ◌<◌, ◌≤◌, Bool, true, false, ◌&&◌, ◌==◌, List, [], ◌∷◌, length, get_or, Option, Some, None, is_some, IfSome, IfNone, IsTrue, Contains, inl, inr, refl, sym, ap, ◌∙◌, subst, ⊎_elim, arith}
 use Rattle.std.specs.List.{All}
 use Rattle.std.proofs.lemmas.Bool.{cases_Bool, both_ways, eq-eqb, eqb-true, and_from, and_parts}
 use Rattle.std.proofs.lemmas.List.{get_or_default}
 use Rattle.std.proofs.lemmas.List.Elements.{Contains-get_or}
 use Rattle.maple_base.specs.declared.cells.Place.{Place}
 use Rattle.topo_paths.specs.Walks.{Link, IsWalk, NoWalk, IsShortest, BeginsShortest, IsNextHop}
-use Rattle.topo_paths.specs.Graphs.{LeadsAmong, HasPorts, IsPortNumber}
+use Rattle.env_cells.specs.Lists.{IsAmong, IsBetweenPorts}
+use Rattle.maple_base.specs.Paths.{is_hop}
 use Rattle.topo_paths.specs.NextHops.{leads_in, leads_on, distance, hop_over, hop_at, least_hop, next_hop, AreNear}
 use Rattle.topo_paths.specs.Rows.{IsRow, IsLeastHop}
 use Rattle.topo_paths.proofs.Levels.{some_of}
@@ -46,8 +47,8 @@ module _ (links : List Link) (from to : ℕ) where
         least = λ j lj p. subst (λ (x : Place). x.port ≤ (get_or links j no_link).0.port) same (least j no_link lj p);
       }
 
-  pub is_hop : (hop : Place) → next_hop links from to ≡ Some hop → IsHop links from to hop
-  is_hop hop h = go (distance links from to) refl
+  pub as_hop : (hop : Place) → next_hop links from to ≡ Some hop → IsHop links from to hop
+  as_hop hop h = go (distance links from to) refl
     where
       go : (o : Option ℕ) → distance links from to ≡ o → IsHop links from to hop
       go None e = absurd (none_some _ hop (next_hop-at links from to None e) h)
@@ -64,7 +65,7 @@ module _ (links : List Link) (from to : ℕ) where
       }
     where
       i : IsHop links from to hop
-      i = is_hop hop h
+      i = as_hop hop h
 
       d : IsDistance links from to (suc i.rest)
       d = distance_some links from to (suc i.rest) i.far
@@ -125,16 +126,16 @@ module _ (links : List Link) (from to : ℕ) where
               let passes : leads_on links m from to link ≡ true = and_from (link.0.switch == from) (leads_in links m link.1.switch to) (eq-eqb link.0.switch from begins) rest in
               both_ways _ (l k lt) (subst (λ (x : Link). leads_on links m from to x ≡ true) (sym same) passes)
 
-  pub hop_port : All HasPorts links → (hop : Place) → next_hop links from to ≡ Some hop → IsPortNumber hop.port
+  pub hop_port : All IsBetweenPorts links → (hop : Place) → next_hop links from to ≡ Some hop → IsTrue (is_hop hop)
   hop_port ports hop h =
-      let i = is_hop hop h in
+      let i = as_hop hop h in
       let p = ports i.place no_link i.within in
-      subst (λ (x : Place). IsPortNumber x.port) (sym i.over) p.0
+      subst (λ (x : Place). IsTrue (is_hop x)) (sym i.over) p.start
 
   -- a hop leads one link nearer
   pub hop_nearer : (hop : Place) → next_hop links from to ≡ Some hop → (m : ℕ) × (distance links from to ≡ Some (suc m)) × (distance links hop.switch to ≡ Some m)
   hop_nearer hop h =
-      let i = is_hop hop h in
+      let i = as_hop hop h in
       let d = distance_some links from to (suc i.rest) i.far in
       let link = get_or links i.place no_link in
       let parts = and_parts (link.0.switch == from) (leads_in links i.rest link.1.switch to) i.leads in
@@ -154,16 +155,16 @@ module _ (links : List Link) (from to : ℕ) where
       go (Some (suc m)) e = absurd (never m (distance_some links from to (suc m) e).leads)
 
 -- walks lead among the named switches
-module _ (links : List Link) (switches : List ℕ) (named : All (LeadsAmong switches) links) where
+module _ (links : List Link) (switches : List ℕ) (named : All (IsAmong switches) links) where
   from_named : (n from to : ℕ) → leads_in links (suc n) from to ≡ true → Contains switches from
   from_named n from to h =
       let (k, link, lt, at, begins, rest) = leads_in-first links n from to h in
-      subst (λ s. Contains switches s) (ap (λ (x : Link). x.0.switch) at ∙ begins) (named k link lt).0
+      subst (λ s. Contains switches s) (ap (λ (x : Link). x.0.switch) at ∙ begins) (named k link lt).start
 
   to_named : (n from to : ℕ) → leads_in links (suc n) from to ≡ true → Contains switches to
   to_named zero from to h =
       let (k, link, lt, at, begins, rest) = leads_in-first links zero from to h in
-      subst (λ s. Contains switches s) (ap (λ (x : Link). x.1.switch) at ∙ leads_in-zero links link.1.switch to rest) (named k link lt).1
+      subst (λ s. Contains switches s) (ap (λ (x : Link). x.1.switch) at ∙ leads_in-zero links link.1.switch to rest) (named k link lt).end
   to_named (suc n) from to h =
       let (k, link, lt, at, begins, rest) = leads_in-first links (suc n) from to h in
       to_named n link.1.switch to rest
@@ -194,6 +195,6 @@ pub on_none : (links : List Link) (from to : ℕ) (r : Option Place) → AreNear
 on_none links from to None near e = hop_none links from to near (sym e)
 on_none links from to (Some hop) near e = tt
 
-pub on_port : (links : List Link) (from to : ℕ) (r : Option Place) → All HasPorts links → r ≡ next_hop links from to → IfSome r (λ hop. IsPortNumber hop.port)
+pub on_port : (links : List Link) (from to : ℕ) (r : Option Place) → All IsBetweenPorts links → r ≡ next_hop links from to → IfSome r (λ hop. IsTrue (is_hop hop))
 on_port links from to None ports e = tt
 on_port links from to (Some hop) ports e = hop_port links from to ports hop (sym e)

@@ -8,7 +8,7 @@ use Rattle.std.proofs.lemmas.List.{length-set, get_or-set_other, get_or-replicat
 use Rattle.maple_base.specs.declared.cells.Place.{Place}
 use Rattle.topo_paths.specs.declared.rows.Ends.{Ends}
 use Rattle.topo_paths.specs.Walks.{Link}
-use Rattle.topo_paths.specs.Graphs.{BeginApart}
+use Rattle.env_cells.specs.Lists.{StartApart}
 use Rattle.topo_paths.specs.NextHops.{leads_in, leads_on, distance, hop_over, lesser, hop_at, least_hop, next_hop}
 use Rattle.topo_paths.specs.Rows.{ends_lead, AreDistances, AreEnds, IsRow, AreHops, IsLeastHop, ends_at, leads_nearer, is_nearer}
 use Rattle.topo_paths.proofs.Levels.{held, ends_lead-none, ends_lead-zero, ends_lead-more, ends_lead-first}
@@ -109,7 +109,7 @@ place_same p q s t =
     a ∙ b
 
 -- of links that begin apart, two that begin at one switch by one port are one
-pub begin_one : (links : List Link) (d : Link) (j k : ℕ) → AllPairs BeginApart links → j < length links → k < length links → (get_or links j d).0.switch ≡ (get_or links k d).0.switch → (get_or links j d).0.port ≡ (get_or links k d).0.port → j ≡ k
+pub begin_one : (links : List Link) (d : Link) (j k : ℕ) → StartApart links → j < length links → k < length links → (get_or links j d).0.switch ≡ (get_or links k d).0.switch → (get_or links j d).0.port ≡ (get_or links k d).0.port → j ≡ k
 begin_one links d j k apart lj lk s p =
     let same = place_same (get_or links j d).0 (get_or links k d).0 s p in
     ⊎_elim (λ e. e)
@@ -131,7 +131,7 @@ same_tests : (a b : Bool) → (a ≡ true → b ≡ true) → (b ≡ true → a 
 same_tests a b f g = same_from_decides {P = a ≡ true} a b (λ x. x, λ x. x) (g, f)
 
 -- a full row has the next hops
-module _ (links : List Link) (switches : List ℕ) (ends : List Ends) (far : List (Option ℕ)) (to : ℕ) (row : List (Option Place)) (apart : AllPairs BeginApart links) (are : AreEnds links switches ends) (away : AreDistances ends to far) (lt : to < length switches) (full : AreHops links ends far (length links) row) where
+module _ (links : List Link) (switches : List ℕ) (ends : List Ends) (far : List (Option ℕ)) (to : ℕ) (row : List (Option Place)) (apart : StartApart links) (are : AreEnds links switches ends) (away : AreDistances ends to far) (lt : to < length switches) (full : AreHops links ends far (length links) row) where
   abbrev named : ℕ → ℕ
   named k = get_or switches k 0
 

@@ -8,7 +8,7 @@ use Rattle.std.proofs.lemmas.List.Elements.{Contains-get_or, All-push, All-take}
 use Rattle.maple_base.specs.declared.cells.Place.{Place}
 use Rattle.topo_paths.specs.declared.rows.Ends.{Ends}
 use Rattle.topo_paths.specs.Walks.{Link}
-use Rattle.topo_paths.specs.Graphs.{LeadsAmong}
+use Rattle.env_cells.specs.Lists.{IsAmong}
 use Rattle.topo_paths.specs.Rows.{AreEnds, AreWithin}
 
 -- another element stays where one is removed
@@ -58,8 +58,8 @@ among_more names old new s only all here =
       (λ e. subst (λ x. Contains names x) e here)
       (only (get_or new k d) (Contains-get_or new k d lt))
 
-pub leads_more : (old new : List ℕ) (links : List Link) → ((x : ℕ) → Contains old x → Contains new x) → All (LeadsAmong old) links → All (LeadsAmong new) links
-leads_more old new links kept all = λ k d lt. let h = all k d lt in (kept _ h.0, kept _ h.1)
+pub leads_more : (old new : List ℕ) (links : List Link) → ((x : ℕ) → Contains old x → Contains new x) → All (IsAmong old) links → All (IsAmong new) links
+leads_more old new links kept all = λ k d lt. let h = all k d lt in record { start = kept _ h.start; end = kept _ h.end }
 
 -- one more link with its ends
 pub ends_push : (links : List Link) (switches : List ℕ) (ends : List Ends) (link : Link) (e : Ends) → AreEnds links switches ends → e.from < length switches → e.to < length switches → get_or switches e.from 0 ≡ link.0.switch → get_or switches e.to 0 ≡ link.1.switch → AreEnds (links ++ link ∷ []) switches (ends ++ e ∷ [])

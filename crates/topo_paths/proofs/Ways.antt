@@ -7,7 +7,6 @@ use Rattle.std.proofs.lemmas.List.Folds.{list_all-append}
 use Rattle.maple_base.specs.declared.cells.Place.{Place}
 use Rattle.maple_base.specs.Paths.{is_hop, IsPath}
 use Rattle.topo_paths.specs.Walks.{Link, IsNextHop, IsWay, NoWalk}
-use Rattle.topo_paths.specs.Graphs.{IsPortNumber}
 use Rattle.topo_paths.specs.NextHops.{distance, next_hop}
 use Rattle.topo_paths.proofs.Distances.{distance_some, walk_from_leads}
 use Rattle.topo_paths.proofs.Hopping.{hop_some, hop_nearer}
@@ -38,14 +37,14 @@ way_start links from to =
       ports = refl;
     }
 
-pub way_turn : (links : List Link) (from to at : ℕ) (hops : List Place) (hop : Place) → next_hop links at to ≡ Some hop → IsPortNumber hop.port → IsUnderWay links from to at hops → IsUnderWay links from to hop.switch (hops ++ record { switch = at; port = hop.port } ∷ [])
+pub way_turn : (links : List Link) (from to at : ℕ) (hops : List Place) (hop : Place) → next_hop links at to ≡ Some hop → IsTrue (is_hop hop) → IsUnderWay links from to at hops → IsUnderWay links from to hop.switch (hops ++ record { switch = at; port = hop.port } ∷ [])
 way_turn links from to at hops hop h port w =
     let (m, here, there) = hop_nearer links at to hop h in
     record {
       way = way_push links to from at hops hop w.way (hop_some links at to hop h);
       few = λ far d. few m here there far d;
       known = λ _. ap is_some there;
-      ports = list_all-append is_hop hops (record { switch = at; port = hop.port } ∷ []) ∙ and_from (list_all is_hop hops) _ w.ports (and_from _ true (and_from _ _ (le-leb 1 hop.port port.0) (le-leb hop.port 65280 port.1)) refl);
+      ports = list_all-append is_hop hops (record { switch = at; port = hop.port } ∷ []) ∙ and_from (list_all is_hop hops) _ w.ports (and_from _ true port refl);
     }
   where
     few : (m : ℕ) → distance links at to ≡ Some (suc m) → distance links hop.switch to ≡ Some m → (far : ℕ) → distance links hop.switch to ≡ Some far → length (hops ++ record { switch = at; port = hop.port } ∷ []) + far < 64

@@ -2,5 +2,6 @@ pub mod Graphs
 pub mod Levels
 pub mod NextHops
 pub mod Rows
+pub mod Scenes
 pub mod Tables
 pub mod Walks

@@ -4,7 +4,8 @@ use Rattle.std.specs.Vec.{vec_capacity}
 use Rattle.std.specs.List.{slice_index_or}
 use Rattle.topo_paths.specs.Walks.{Link}
 use Rattle.topo_paths.specs.declared.table.Table.{Table}
-use Rattle.topo_paths.specs.Graphs.{LeadsAmong}
+use Rattle.env_cells.specs.Lists.{IsAmong}
+use Rattle.topo_paths.specs.Graphs.{IsGraph}
 use Rattle.topo_paths.specs.NextHops.{AreNear}
 use Rattle.topo_paths.specs.Rows.{IsRow}
 
@@ -21,7 +22,8 @@ pub record IsSquare (table : Table) : Type 0 where
 
 -- a table has the next hops of these links
 pub record IsTableOf (links : List Link) (table : Table) : Type 0 where
-  pub named : All (LeadsAmong table.switches.items) links
+  pub graph : IsGraph links
+  pub named : All (IsAmong table.switches.items) links
   pub square : IsSquare table
   pub rows : (to : ℕ) → to < length table.switches.items → IsRow links table.switches.items to (slice_index_or table.rows.items to [])
   pub near : AreNear links

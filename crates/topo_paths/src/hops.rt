@@ -1,7 +1,7 @@
 // Next hops over links.
-ghost use Rattle.std.specs.Prelude.{◌≡◌, ◌≢◌, ◌⊎◌, ◌≤◌, Some, None, length, IfOk, IfSome, IfNone, MatchOption};
-ghost use Rattle.maple_base.specs.Paths.{IsPath};
-ghost use Rattle.topo_paths.specs.Graphs.{IsGraph, IsPortNumber};
+ghost use Rattle.std.specs.Prelude.{◌≡◌, ◌≢◌, ◌⊎◌, IfOk, IfSome, IfNone, IsTrue};
+ghost use Rattle.maple_base.specs.Paths.{IsPath, is_hop};
+ghost use Rattle.topo_paths.specs.Graphs.{IsGraph};
 ghost use Rattle.topo_paths.specs.NextHops.{next_hop};
 ghost use Rattle.topo_paths.specs.Walks.{IsNextHop, IsWay, NoWalk};
 
@@ -21,14 +21,13 @@ pub struct Hops {
 impl Model for Hops {
     ghost use Rattle.std.specs.Prelude.{List};
     ghost use Rattle.topo_paths.specs.Walks.{Link};
-    ghost use Rattle.topo_paths.specs.Graphs.{IsGraph};
     ghost use Rattle.topo_paths.specs.Tables.{IsTableOf};
 
     ghost Value = { List Link };
 
     ghost view = { λ a. a.links };
 
-    ghost invariant = { λ a. IsGraph a.links × IsTableOf a.links a.table };
+    ghost invariant = { λ a. IsTableOf a.links a.table };
 }
 
 impl Hops {
@@ -54,7 +53,7 @@ impl Hops {
         ensures value { result ≡ next_hop self.now from to }
         ensures some { IfSome result (λ hop. IsNextHop self.now from to hop) }
         ensures none { IfNone result ((from ≡ to) ⊎ NoWalk self.now from to) }
-        ensures port { IfSome result (λ hop. IsPortNumber hop.port) }
+        ensures port { IfSome result (λ hop. IsTrue (is_hop hop)) }
     {
         self.table.hop(from, to)
     }

@@ -3,7 +3,9 @@
 
 mod hops;
 mod rows;
+mod scene;
 mod switches;
 mod table;
 
 pub use hops::Hops;
+pub use scene::Scene;

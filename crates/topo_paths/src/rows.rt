@@ -2,7 +2,7 @@
 ghost use Rattle.std.specs.Prelude.{◌≡◌, ℕ, ◌+◌, ◌<◌, ◌≤◌, List, length, All, AllPairs, Option, Some, None, false, if◌then◌else◌};
 ghost use Rattle.std.specs.List.{slice_index_or};
 ghost use Rattle.maple_base.specs.declared.cells.Place.{Place};
-ghost use Rattle.topo_paths.specs.Graphs.{BeginApart};
+ghost use Rattle.env_cells.specs.Lists.{StartApart};
 ghost use Rattle.topo_paths.specs.Levels.{AreFound, IsFollowed, unreached};
 ghost use Rattle.topo_paths.specs.NextHops.{hop_over, lesser};
 ghost use Rattle.topo_paths.specs.Rows.{AreWithin, AreDistances, AreEnds, IsRow, is_nearer};
@@ -30,7 +30,7 @@ pub fn row_of(links: &[(Place, Place)], ends: &[Ends], to: usize) -> Row
     requires within { All AreWithin ends.now }
     requires long { length ends.now ≡ length links.now }
     requires to { to < 64 }
-    ensures { (switches : List ℕ) → AllPairs BeginApart links.now → AreEnds links.now switches ends.now → to < length switches → IsRow links.now switches to result }
+    ensures { (switches : List ℕ) → StartApart links.now → AreEnds links.now switches ends.now → to < length switches → IsRow links.now switches to result }
 {
     let distances = distances(ends, to);
     let mut row = [None; SWITCHES];

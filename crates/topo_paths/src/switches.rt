@@ -1,7 +1,8 @@
 // The switches that links name, by their places in a list.
 ghost use Rattle.std.specs.Prelude.{◌≡◌, ◌≢◌, ℕ, ◌<◌, ◌≤◌, ◌⊎◌, [], ◌∷◌, ◌++◌, List, length, All, AllPairs, Contains, MatchOption, slice_index, vec_len};
 ghost use Rattle.std.specs.Vec.{vec_capacity};
-ghost use Rattle.topo_paths.specs.Graphs.{IsGraph, LeadsAmong};
+ghost use Rattle.env_cells.specs.Lists.{IsAmong};
+ghost use Rattle.topo_paths.specs.Graphs.{IsGraph};
 ghost use Rattle.topo_paths.specs.Rows.{AreEnds, AreWithin};
 
 use crate::rows::Ends;
@@ -34,7 +35,7 @@ pub fn name_switches(switches: &mut Vec<u64>, links: &[(Place, Place)])
     requires room { 64 ≤ vec_capacity switches.old }
     requires graph { IsGraph links.now }
     ensures distinct { AllPairs ◌≢◌ switches.new.items }
-    ensures named { All (LeadsAmong switches.new.items) links.now }
+    ensures named { All (IsAmong switches.new.items) links.now }
     ensures few { length switches.new.items ≤ 64 }
     ensures capacity { vec_capacity switches.new ≡ vec_capacity switches.old }
 {
@@ -62,7 +63,7 @@ fn ends_of(switches: &[u64], from: &Place, to: &Place) -> Ends
 pub fn find_ends(ends: &mut Vec<Ends>, switches: &[u64], links: &[(Place, Place)])
     requires room { length links.now ≤ vec_capacity ends.old }
     requires distinct { AllPairs ◌≢◌ switches.now }
-    requires named { All (LeadsAmong switches.now) links.now }
+    requires named { All (IsAmong switches.now) links.now }
     requires few { length switches.now ≤ 64 }
     ensures ends { AreEnds links.now switches.now ends.new.items }
     ensures within { All AreWithin ends.new.items }

@@ -2,7 +2,8 @@
 ghost use Rattle.std.specs.Prelude.{◌≡◌, ℕ, ◌<◌, ◌≤◌, [], List, length, All, AllPairs, IfOk};
 ghost use Rattle.std.specs.List.{slice_index_or};
 ghost use Rattle.std.specs.Vec.{vec_capacity};
-ghost use Rattle.topo_paths.specs.Graphs.{BeginApart, IsGraph};
+ghost use Rattle.env_cells.specs.Lists.{StartApart};
+ghost use Rattle.topo_paths.specs.Graphs.{IsGraph};
 ghost use Rattle.topo_paths.specs.NextHops.{next_hop};
 ghost use Rattle.topo_paths.specs.Rows.{AreEnds, AreWithin, IsRow};
 ghost use Rattle.topo_paths.specs.Tables.{HasRoom, IsSquare, IsTableOf};
@@ -66,7 +67,7 @@ fn make_rows(rows: &mut Vec<Row>, links: &[(Place, Place)], ends: &[Ends], count
     requires within { All AreWithin ends.now }
     requires long { length ends.now ≡ length links.now }
     ensures long { length rows.new.items ≡ count }
-    ensures rows { (switches : List ℕ) → AllPairs BeginApart links.now → AreEnds links.now switches ends.now → (to : ℕ) → to < count → to < length switches → IsRow links.now switches to (slice_index_or rows.new.items to []) }
+    ensures rows { (switches : List ℕ) → StartApart links.now → AreEnds links.now switches ends.now → (to : ℕ) → to < count → to < length switches → IsRow links.now switches to (slice_index_or rows.new.items to []) }
     ensures capacity { vec_capacity rows.new ≡ vec_capacity rows.old }
 {
     rows.clear();

@@ -8,10 +8,10 @@ use Rattle.topo_paths.proofs.Naming.{ends_push}
 use Rattle.topo_paths.proofs.switches.find_ends.Goals as goal
 
 pub ends_of-e-requires-clause-from : goal.ends_of-e-requires-clause-from
-ends_of-e-requires-clause-from c = (c.requires.named c.loop-from.from-index (record { switch = 0; port = 0 }, record { switch = 0; port = 0 }) c.loop-from-test.true).0
+ends_of-e-requires-clause-from c = (c.requires.named c.loop-from.from-index (record { switch = 0; port = 0 }, record { switch = 0; port = 0 }) c.loop-from-test.true).start
 
 pub ends_of-e-requires-clause-to : goal.ends_of-e-requires-clause-to
-ends_of-e-requires-clause-to c = (c.requires.named c.loop-from.from-index (record { switch = 0; port = 0 }, record { switch = 0; port = 0 }) c.loop-from-test.true).1
+ends_of-e-requires-clause-to c = (c.requires.named c.loop-from.from-index (record { switch = 0; port = 0 }, record { switch = 0; port = 0 }) c.loop-from-test.true).end
 
 pub loop-from-preserved : goal.loop-from-preserved
 loop-from-preserved c =

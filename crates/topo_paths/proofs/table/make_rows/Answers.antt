@@ -2,7 +2,7 @@ use Rattle.std.proofs.Common.{◌≡◌, ℕ, ◌+◌, ◌<◌, ◌≤◌, List,
 use Rattle.std.proofs.lemmas.Bool.{cases_lt}
 use Rattle.std.proofs.lemmas.List.{get_or_append_left, get_or_push, length_push}
 use Rattle.maple_base.specs.declared.cells.Place.{Place}
-use Rattle.topo_paths.specs.Graphs.{BeginApart}
+use Rattle.env_cells.specs.Lists.{StartApart}
 use Rattle.topo_paths.specs.Rows.{AreEnds, IsRow}
 use Rattle.topo_paths.proofs.table.make_rows.Goals as goal
 

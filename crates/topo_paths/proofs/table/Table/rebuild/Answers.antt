@@ -1,6 +1,6 @@
 use Rattle.std.proofs.Common.{◌≡◌, ℕ, ◌<◌, ◌≤◌, List, [], Option, true, length, get_or, All, sym, ap, ◌∙◌, subst, is_some, arith}
 use Rattle.maple_base.specs.declared.cells.Place.{Place}
-use Rattle.topo_paths.specs.Graphs.{LeadsAmong}
+use Rattle.env_cells.specs.Lists.{IsAmong}
 use Rattle.topo_paths.specs.NextHops.{AreNear}
 use Rattle.topo_paths.specs.Rows.{AreEnds, IsRow}
 use Rattle.topo_paths.specs.Tables.{IsTableOf}
@@ -8,7 +8,7 @@ use Rattle.topo_paths.proofs.Hopping.{near_all}
 use Rattle.topo_paths.proofs.table.Table.rebuild.Goals as goal
 
 pub find_ends-requires-clause-named : goal.find_ends-requires-clause-named
-find_ends-requires-clause-named c = subst (λ (x : List ℕ). All (LeadsAmong x) c.args.links.now) (sym c.deref.ensures.value) c.name_switches.ensures.named
+find_ends-requires-clause-named c = subst (λ (x : List ℕ). All (IsAmong x) c.args.links.now) (sym c.deref.ensures.value) c.name_switches.ensures.named
 
 pub returns-clause-table : goal.returns-clause-table
 returns-clause-table c =
@@ -20,6 +20,7 @@ returns-clause-table c =
     let long : c.len.result ≡ length switches = omega (arith, c.len.ensures, c.name_switches.new.switches.ok.0) in
     let rows : (to : ℕ) → to < length switches → IsRow links switches to (get_or c.make_rows.new.rows.items to []) = λ to lt. c.make_rows.ensures.rows switches c.requires.graph.apart are' to (omega (arith, lt, long)) lt in
     record {
+      graph = c.requires.graph;
       named = c.name_switches.ensures.named;
       square = record { few = c.name_switches.ensures.few; long = c.make_rows.ensures.long ∙ long };
       rows = rows;
