@@ -106,6 +106,17 @@ module _ (test : ℕ → Bool) where
             least = λ k le p. ⊎_elim (λ e. absurd (both_ways _ no' (subst (λ x. test x ≡ true) (sym e) p))) (λ ne. f.least k (omega (arith, ne, le)) p) (cases_eq from k);
           }
 
+  pub passing_found : (n from k : ℕ) → from ≤ k → k < from + n → test k ≡ true → (m : ℕ) × (first_passing test from n ≡ Some m)
+  passing_found zero from k le lt h = absurd (omega (arith, le, lt))
+  passing_found (suc n) from k le lt h =
+      ⊎_elim
+      (λ yes'. (from, passing_now n from yes'))
+      (λ no'. later no' (passing_found n (from + 1) k (⊎_elim (λ e. absurd (both_ways _ no' (subst (λ x. test x ≡ true) (sym e) h))) (λ ne. omega (arith, ne, le)) (cases_eq from k)) (omega (arith, lt)) h))
+      (cases_Bool (test from))
+    where
+      later : test from ≡ false → (m : ℕ) × (first_passing test (from + 1) n ≡ Some m) → (m : ℕ) × (first_passing test from (suc n) ≡ Some m)
+      later no' (m, e) = (m, passing_later n from no' ∙ e)
+
   pub passing_nowhere : (n from : ℕ) → ((k : ℕ) → from ≤ k → test k ≡ false) → first_passing test from n ≡ None
   passing_nowhere zero from h = passing_none from
   passing_nowhere (suc n) from h = passing_later n from (h from (omega arith)) ∙ passing_nowhere n (from + 1) (λ k le. h k (omega (arith, le)))

@@ -156,12 +156,12 @@ module _ (links : List Link) (from to : ℕ) where
 
 -- walks lead among the named switches
 module _ (links : List Link) (switches : List ℕ) (named : All (IsAmong switches) links) where
-  from_named : (n from to : ℕ) → leads_in links (suc n) from to ≡ true → Contains switches from
+  pub from_named : (n from to : ℕ) → leads_in links (suc n) from to ≡ true → Contains switches from
   from_named n from to h =
       let (k, link, lt, at, begins, rest) = leads_in-first links n from to h in
       subst (λ s. Contains switches s) (ap (λ (x : Link). x.0.switch) at ∙ begins) (named k link lt).start
 
-  to_named : (n from to : ℕ) → leads_in links (suc n) from to ≡ true → Contains switches to
+  pub to_named : (n from to : ℕ) → leads_in links (suc n) from to ≡ true → Contains switches to
   to_named zero from to h =
       let (k, link, lt, at, begins, rest) = leads_in-first links zero from to h in
       subst (λ s. Contains switches s) (ap (λ (x : Link). x.1.switch) at ∙ leads_in-zero links link.1.switch to rest) (named k link lt).end
@@ -174,18 +174,6 @@ module _ (links : List Link) (switches : List ℕ) (named : All (IsAmong switche
 
   pub hop_to_unnamed : (from to : ℕ) → ¬ Contains switches to → next_hop links from to ≡ None
   hop_to_unnamed from to out = next_hop-nowhere links from to (λ n h. out (to_named n from to h))
-
-  -- what each row says of near walks, of all switches
-  pub near_all : ((n a b : ℕ) → a < length switches → b < length switches → leads_in links n (get_or switches a 0) (get_or switches b 0) ≡ true → is_some (distance links (get_or switches a 0) (get_or switches b 0)) ≡ true) → AreNear links
-  near_all each zero from to h =
-      ap is_some (distance_is links from to zero (record { leads = h; near = omega arith; least = λ m l. omega arith }))
-  near_all each (suc n) from to h =
-      let (a, la, is_a) = from_named n from to h in
-      let (b, lb, is_b) = to_named n from to h in
-      let sa : get_or switches a 0 ≡ from = get_or_default switches a 0 from la ∙ is_a in
-      let sb : get_or switches b 0 ≡ to = get_or_default switches b 0 to lb ∙ is_b in
-      let leads : leads_in links (suc n) (get_or switches a 0) (get_or switches b 0) ≡ true = ap (λ s. leads_in links (suc n) s (get_or switches b 0)) sa ∙ ap (λ s. leads_in links (suc n) from s) sb ∙ h in
-      ap is_some (ap (λ s. distance links s to) (sym sa) ∙ ap (λ s. distance links (get_or switches a 0) s) (sym sb)) ∙ each (suc n) a b la lb leads
 
 pub on_some : (links : List Link) (from to : ℕ) (r : Option Place) → r ≡ next_hop links from to → IfSome r (λ hop. IsNextHop links from to hop)
 on_some links from to None e = tt

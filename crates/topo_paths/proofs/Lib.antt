@@ -5,5 +5,6 @@ pub mod LeastHops
 pub mod Levels
 pub mod Making
 pub mod Naming
+pub mod Nearness
 pub mod Shown
 pub mod Ways

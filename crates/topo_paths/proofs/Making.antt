@@ -223,10 +223,4 @@ module _ (links : List Link) (switches : List ℕ) (ends : List Ends) (far : Lis
       record {
         long = full.long;
         hops = λ from lf. hop_case from lf (get_or far from None) refl ∙ ap (λ o. hop_at links (named from) (named to) o) (sym (distance_at from lf (get_or far from None) refl));
-        near = λ n from lf h. known n from lf h;
       }
-    where
-      known : (n from : ℕ) → from < length switches → leads_in links n (named from) (named to) ≡ true → is_some (distance links (named from) (named to)) ≡ true
-      known n from lf h =
-          let (p, at, le) = reaches n from (ends_from_leads links switches ends are n from to lf lt h) in
-          ap is_some (distance_at from lf (Some p) at)

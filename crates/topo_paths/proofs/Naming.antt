@@ -4,7 +4,7 @@ use Rattle.std.specs.List.{All, AllPairs, remove}
 use Rattle.std.proofs.lemmas.Bool.{cases_eq, cases_lt, cases_order}
 use Rattle.std.proofs.lemmas.List.{get_or_default, get_or_append_left, get_or_push, length_push, take_more, take_all}
 use Rattle.std.proofs.lemmas.List.Edits.{length-remove, get_or-remove_below, get_or-remove_above}
-use Rattle.std.proofs.lemmas.List.Elements.{Contains-get_or, All-push, All-take}
+use Rattle.std.proofs.lemmas.List.Elements.{Contains-get_or, All-cons}
 use Rattle.maple_base.specs.declared.cells.Place.{Place}
 use Rattle.topo_paths.specs.declared.rows.Ends.{Ends}
 use Rattle.topo_paths.specs.Walks.{Link}
@@ -37,19 +37,18 @@ few_distinct (x ∷ xs) ys apart all =
       (λ j d short. stays ys k (get_or xs j d) lt (all (suc j) d (omega (arith, short))) (λ e. apart 0 (suc j) d (omega arith) (omega (arith, short)) (sym at ∙ e))) in
     omega (arith, rest, length-remove ys k lt)
 
--- a further one has room
-pub room_for : (names xs : List ℕ) (x : ℕ) → AllPairs ◌≢◌ xs → All (Contains names) xs → Contains names x → ¬ Contains xs x → length xs < length names
-room_for names xs x apart all here new' =
-    few_distinct (x ∷ xs) names pairs each
+-- a further element that is not among others
+pub apart_cons : (x : ℕ) (xs : List ℕ) → AllPairs ◌≢◌ xs → ¬ Contains xs x → AllPairs ◌≢◌ (x ∷ xs)
+apart_cons x xs apart new' = pairs
   where
     pairs : AllPairs ◌≢◌ (x ∷ xs)
     pairs i zero d less short = absurd (omega (arith, less))
     pairs zero (suc j) d less short = λ e. new' (j, omega (arith, short), get_or_default xs j x d (omega (arith, short)) ∙ sym e)
     pairs (suc i) (suc j) d less short = apart i j d (omega (arith, less)) (omega (arith, short))
 
-    each : All (Contains names) (x ∷ xs)
-    each zero d short = here
-    each (suc k) d short = all k d (omega (arith, short))
+-- a further one has room
+pub room_for : (names xs : List ℕ) (x : ℕ) → AllPairs ◌≢◌ xs → All (Contains names) xs → Contains names x → ¬ Contains xs x → length xs < length names
+room_for names xs x apart all here new' = few_distinct (x ∷ xs) names (apart_cons x xs apart new') (All-cons (Contains names) x xs here all)
 
 pub among_more : (names old new : List ℕ) (s : ℕ) → ((x : ℕ) → Contains new x → Contains old x ⊎ (s ≡ x)) → All (Contains names) old → Contains names s → All (Contains names) new
 among_more names old new s only all here =

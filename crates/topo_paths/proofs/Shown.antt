@@ -11,6 +11,7 @@ use Rattle.topo_paths.specs.Walks.{Link, IsNextHop, NoWalk}
 use Rattle.topo_paths.specs.NextHops.{next_hop}
 use Rattle.topo_paths.specs.Scenes.{HopIsShown}
 use Rattle.topo_paths.specs.Tables.{IsTableOf}
+use Rattle.topo_paths.proofs.Nearness.{near_graph}
 use Rattle.topo_paths.proofs.Hopping.{hop_some, hop_none, hop_port}
 
 module _ (links : List Link) (table : Table) (t : IsTableOf links table) (cell : Cell) (from to : ℕ) (is : cell ≡ Hop from to) where
@@ -21,4 +22,4 @@ module _ (links : List Link) (table : Table) (t : IsTableOf links table) (cell :
   shown_hop hop h = subst (λ (x : Cell). HopIsShown links x (At hop)) (sym is) (hop_some links from to hop (sym h))
 
   pub shown_none : None ≡ next_hop links from to → HopIsShown links cell Nothing
-  shown_none h = subst (λ (x : Cell). HopIsShown links x Nothing) (sym is) (refl, hop_none links from to t.near (sym h))
+  shown_none h = subst (λ (x : Cell). HopIsShown links x Nothing) (sym is) (refl, hop_none links from to (near_graph links t.graph) (sym h))

@@ -1,4 +1,5 @@
 pub mod Graphs
+pub mod Laws
 pub mod Levels
 pub mod NextHops
 pub mod Rows

@@ -35,7 +35,6 @@ pub record AreEnds (links : List Link) (switches : List ℕ) (ends : List Ends) 
 pub record IsRow (links : List Link) (switches : List ℕ) (to : ℕ) (row : List (Option Place)) : Type 0 where
   pub long : length row ≡ 64
   pub hops : (from : ℕ) → from < length switches → slice_index_or row from None ≡ next_hop links (slice_index_or switches from 0) (slice_index_or switches to 0)
-  pub near : (n from : ℕ) → from < length switches → leads_in links n (slice_index_or switches from 0) (slice_index_or switches to 0) ≡ true → is_some (distance links (slice_index_or switches from 0) (slice_index_or switches to 0)) ≡ true
 
 -- both distances are known, and the second is less
 abbrev pub is_nearer : Option ℕ → Option ℕ → Bool

@@ -6,7 +6,6 @@ use Rattle.topo_paths.specs.Walks.{Link}
 use Rattle.topo_paths.specs.declared.table.Table.{Table}
 use Rattle.env_cells.specs.Lists.{IsAmong}
 use Rattle.topo_paths.specs.Graphs.{IsGraph}
-use Rattle.topo_paths.specs.NextHops.{AreNear}
 use Rattle.topo_paths.specs.Rows.{IsRow}
 
 -- a table has room for the next hops of 64 switches and so many links
@@ -26,4 +25,3 @@ pub record IsTableOf (links : List Link) (table : Table) : Type 0 where
   pub named : All (IsAmong table.switches.items) links
   pub square : IsSquare table
   pub rows : (to : ℕ) → to < length table.switches.items → IsRow links table.switches.items to (slice_index_or table.rows.items to [])
-  pub near : AreNear links

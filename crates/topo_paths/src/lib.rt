@@ -2,10 +2,12 @@
 #![tactic(auto)]
 
 mod hops;
+mod laws;
 mod rows;
 mod scene;
 mod switches;
 mod table;
 
 pub use hops::Hops;
+pub use laws::hop_laws;
 pub use scene::Scene;

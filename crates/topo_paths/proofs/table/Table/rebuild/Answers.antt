@@ -4,7 +4,6 @@ use Rattle.env_cells.specs.Lists.{IsAmong}
 use Rattle.topo_paths.specs.NextHops.{AreNear}
 use Rattle.topo_paths.specs.Rows.{AreEnds, IsRow}
 use Rattle.topo_paths.specs.Tables.{IsTableOf}
-use Rattle.topo_paths.proofs.Hopping.{near_all}
 use Rattle.topo_paths.proofs.table.Table.rebuild.Goals as goal
 
 pub find_ends-requires-clause-named : goal.find_ends-requires-clause-named
@@ -24,5 +23,4 @@ returns-clause-table c =
       named = c.name_switches.ensures.named;
       square = record { few = c.name_switches.ensures.few; long = c.make_rows.ensures.long ∙ long };
       rows = rows;
-      near = near_all links switches c.name_switches.ensures.named (λ n a b la lb h. (rows b lb).near n a la h);
     }
