@@ -7,6 +7,8 @@ mod rows;
 mod scene;
 mod switches;
 mod table;
+#[cfg(test)]
+mod tests;
 
 pub use hops::Hops;
 pub use laws::hop_laws;
