@@ -1,9 +1,7 @@
 // Next hops, ways and scenes: small networks worked by hand, and a plain search over all walks.
-ghost use Rattle.std.specs.Prelude.{◌≤◌, IfSome};
-
 use crate::{Hops, Scene};
 use env_cells::{Update, UpdateError, UpdateRefused};
-use maple_base::{Cell, EnvNow, NoMemory, Place, Ports, Value};
+use maple_base::{Cell, EnvNow, NoMemory, Path, Place, Ports, Value};
 use std::alloc::Global;
 use std::test::Fail;
 
@@ -11,70 +9,103 @@ fn place(switch: u64, port: u64) -> Place {
     Place { switch, port }
 }
 
-// A link from a port of a switch to a port of a switch.
-fn link(from: Place, to: Place) -> Update {
-    Update::Link { from, to }
+fn put_link(scene: &mut Scene, from: Place, to: Place) -> Result<(), UpdateError> {
+    scene.apply(&Update::Link { from, to })
+}
+
+fn drop_link(scene: &mut Scene, from: Place) -> Result<(), UpdateError> {
+    scene.apply(&Update::NoLink { from })
+}
+
+fn put_switch(alloc: Global, scene: &mut Scene, switch: u64) -> Result<(), UpdateError> {
+    let ports = Ports::new(Vec::new(alloc));
+    scene.apply(&Update::Switch { switch, ports })
+}
+
+fn cell(scene: &Scene, from: u64, to: u64) -> Value {
+    scene.cell(Cell::Hop { from, to })
+}
+
+fn hops(alloc: Global, scene: &Scene) -> Result<Hops, NoMemory> {
+    Hops::build(alloc, scene.links())
+}
+
+fn hop(hops: &Hops, from: u64, to: u64) -> Option<Place> {
+    hops.hop(from, to)
+}
+
+fn path(hops: &Hops, from: u64, to: u64) -> Result<Option<Path>, NoMemory> {
+    hops.path(from, to)
+}
+
+// Whether the next hops lead this way; none do where it is empty.
+fn leads(hops: &Hops, from: u64, to: u64, way: &[Place]) -> Result<bool, NoMemory> {
+    match path(hops, from, to)? {
+        Some(path) => Ok(path.items() == way),
+        None => Ok(way.is_empty()),
+    }
 }
 
 // A scene that knows the switches 1 to `count`.
 fn known(alloc: Global, count: u64) -> Result<Scene, UpdateError> {
     let mut scene = Scene::new(alloc)?;
     for k in 0..count {
-        scene.apply(&Update::Switch {
-            switch: k + 1,
-            ports: Ports::new(Vec::new(alloc)),
-        })?;
+        put_switch(alloc, &mut scene, k + 1)?;
     }
     Ok(scene)
 }
 
-// A scene of the switches 1 to `count` and these links.
-fn linked(alloc: Global, count: u64, links: &[(Place, Place)]) -> Result<Scene, UpdateError> {
+// The next hops over these links between the switches 1 to `count`.
+fn over(alloc: Global, count: u64, links: &[(Place, Place)]) -> Result<Hops, UpdateError> {
     let mut scene = known(alloc, count)?;
     for (from, to) in links {
-        scene.apply(&Update::Link {
-            from: *from,
-            to: *to,
-        })?;
+        put_link(&mut scene, *from, *to)?;
+    }
+    Ok(hops(alloc, &scene)?)
+}
+
+// The switches 1 to `count` in a row, with links that lead up.
+fn row(alloc: Global, count: u64) -> Result<Scene, UpdateError> {
+    let mut scene = known(alloc, count)?;
+    for k in 1..count {
+        put_link(&mut scene, place(k, 1), place(k + 1, 2))?;
     }
     Ok(scene)
 }
 
-fn leads(hops: &Hops, from: u64, to: u64, way: &[Place]) -> Result<bool, NoMemory> {
-    match hops.path(from, to)? {
-        Some(path) => Ok(path.items() == way),
-        None => Ok(way.is_empty()),
-    }
-}
-
-#[test]
-fn two_links(rt: HostRuntime) -> Result<(), Fail> {
+fn three_switches(alloc: Global) -> Result<Hops, UpdateError> {
     let links = [
         (place(1, 1), place(2, 1)),
         (place(2, 1), place(1, 1)),
         (place(2, 2), place(3, 1)),
         (place(3, 1), place(2, 2)),
     ];
-    let scene = linked(rt.alloc(), 3, &links)?;
-    let hops = Hops::build(rt.alloc(), scene.links())?;
-    assert!(rt; leads(&hops, 1, 3, &[place(1, 1), place(2, 2)])?);
-    assert!(rt; leads(&hops, 3, 1, &[place(3, 1), place(2, 1)])?);
-    assert_eq!(rt; hops.hop(1, 3), Some(place(2, 1)));
-    assert_eq!(rt; hops.hop(2, 2), None);
-    assert_eq!(rt; hops.hop(1, 4), None);
-    Ok(())
+    over(alloc, 3, &links)
 }
 
 #[test]
-fn ring(rt: HostRuntime) -> Result<(), Fail> {
+fn there_and_back(rt: HostRuntime) -> Result<(), Fail> {
+    let hops = three_switches(rt.alloc())?;
+    assert!(rt; leads(&hops, 1, 3, &[place(1, 1), place(2, 2)])?);
+    assert!(rt; leads(&hops, 3, 1, &[place(3, 1), place(2, 1)])?);
+    assert_eq!(rt; hop(&hops, 1, 3), Some(place(2, 1)));
+    assert_eq!(rt; hop(&hops, 1, 4), None);
+    Ok(())
+}
+
+fn one_way_ring(alloc: Global) -> Result<Hops, UpdateError> {
     let links = [
         (place(1, 1), place(2, 2)),
         (place(2, 1), place(3, 2)),
         (place(3, 1), place(4, 2)),
         (place(4, 1), place(1, 2)),
     ];
-    let scene = linked(rt.alloc(), 4, &links)?;
-    let hops = Hops::build(rt.alloc(), scene.links())?;
+    over(alloc, 4, &links)
+}
+
+#[test]
+fn ring(rt: HostRuntime) -> Result<(), Fail> {
+    let hops = one_way_ring(rt.alloc())?;
     assert!(rt; leads(&hops, 1, 4, &[place(1, 1), place(2, 1), place(3, 1)])?);
     assert!(rt; leads(&hops, 4, 1, &[place(4, 1)])?);
     assert!(rt; leads(&hops, 3, 3, &[])?);
@@ -82,8 +113,7 @@ fn ring(rt: HostRuntime) -> Result<(), Fail> {
 }
 
 // Two ways of two links lead from 1 to 4, and one of three by the least port.
-#[test]
-fn least_port_of_the_shortest(rt: HostRuntime) -> Result<(), Fail> {
+fn three_ways(alloc: Global) -> Result<Hops, UpdateError> {
     let links = [
         (place(1, 1), place(5, 1)),
         (place(1, 2), place(3, 1)),
@@ -92,164 +122,174 @@ fn least_port_of_the_shortest(rt: HostRuntime) -> Result<(), Fail> {
         (place(3, 2), place(4, 2)),
         (place(5, 2), place(2, 2)),
     ];
-    let scene = linked(rt.alloc(), 5, &links)?;
-    let hops = Hops::build(rt.alloc(), scene.links())?;
-    assert_eq!(rt; hops.hop(1, 4), Some(place(3, 2)));
-    assert!(rt; leads(&hops, 1, 4, &[place(1, 2), place(3, 2)])?);
-    Ok(())
+    over(alloc, 5, &links)
 }
 
-// Two links from 1 to 2, one from 1 to itself, and none back.
-#[test]
-fn odd_links(rt: HostRuntime) -> Result<(), Fail> {
+// Two links lead from 1 to 2, one from 1 to itself, and none back.
+fn odd_links(alloc: Global) -> Result<Hops, UpdateError> {
     let links = [
         (place(1, 1), place(1, 9)),
         (place(1, 5), place(2, 1)),
         (place(1, 3), place(2, 2)),
     ];
-    let scene = linked(rt.alloc(), 3, &links)?;
-    let hops = Hops::build(rt.alloc(), scene.links())?;
-    assert_eq!(rt; hops.hop(1, 2), Some(place(2, 3)));
-    assert_eq!(rt; hops.hop(1, 1), None);
-    assert_eq!(rt; hops.hop(2, 1), None);
-    assert_eq!(rt; hops.hop(1, 3), None);
-    Ok(())
+    over(alloc, 3, &links)
 }
 
-// The links of `count` switches in a row.
-fn row(alloc: Global, count: u64) -> Result<Scene, UpdateError> {
-    let mut scene = known(alloc, count)?;
-    for k in 1..count {
-        scene.apply(&link(place(k, 1), place(k + 1, 2)))?;
-    }
-    Ok(scene)
+#[test]
+fn least_ports(rt: HostRuntime) -> Result<(), Fail> {
+    let ways = three_ways(rt.alloc())?;
+    assert_eq!(rt; hop(&ways, 1, 4), Some(place(3, 2)));
+    let odd = odd_links(rt.alloc())?;
+    assert_eq!(rt; hop(&odd, 1, 2), Some(place(2, 3)));
+    assert_eq!(rt; hop(&odd, 1, 1), None);
+    assert_eq!(rt; hop(&odd, 2, 1), None);
+    Ok(())
 }
 
 #[test]
 fn longest_row(rt: HostRuntime) -> Result<(), Fail> {
     let scene = row(rt.alloc(), 64)?;
-    let hops = Hops::build(rt.alloc(), scene.links())?;
-    let path = hops.path(1, 64)?.ok_or("no path")?;
+    let hops = hops(rt.alloc(), &scene)?;
+    let path = path(&hops, 1, 64)?.ok_or("no path")?;
     assert_eq!(rt; path.items().len(), 63);
-    assert_eq!(rt; path.items().last().copied(), Some(place(63, 1)));
-    assert_eq!(rt; hops.hop(64, 1), None);
+    assert_eq!(rt; hop(&hops, 63, 64), Some(place(64, 1)));
+    assert_eq!(rt; hop(&hops, 64, 1), None);
     Ok(())
+}
+
+fn is_copied(scene: &Scene) -> Result<bool, NoMemory> {
+    let copy = scene.copy()?;
+    let same = cell(&copy, 1, 4) == cell(scene, 1, 4) && copy.knows(4) && !copy.knows(5);
+    Ok(same && copy.links().items() == scene.links().items())
+}
+
+fn is_path_copied(hops: &Hops) -> Result<bool, NoMemory> {
+    match path(hops, 1, 4)? {
+        Some(path) => Ok(path.copy()?.items() == path.items()),
+        None => Ok(false),
+    }
 }
 
 #[test]
 fn equal_copies(rt: HostRuntime) -> Result<(), Fail> {
     let scene = row(rt.alloc(), 4)?;
-    let copy = scene.copy()?;
-    assert!(rt; copy.links().items() == scene.links().items());
-    assert_eq!(rt; copy.cell(Cell::Hop { from: 1, to: 4 }), Value::At(place(2, 1)));
-    assert!(rt; copy.knows(4) && !copy.knows(5));
-    let hops = Hops::build(rt.alloc(), copy.links())?;
-    let path = hops.path(1, 4)?.ok_or("no path")?;
-    assert!(rt; path.copy()?.items() == path.items());
+    assert!(rt; is_copied(&scene)?);
+    let hops = hops(rt.alloc(), &scene)?;
+    assert!(rt; is_path_copied(&hops)?);
     Ok(())
+}
+
+fn is_refused(scene: &mut Scene) -> bool {
+    let answer = put_link(scene, place(1, 0), place(3, 7));
+    matches!(answer, Err(UpdateError::Refused(UpdateRefused::PortRange)))
 }
 
 #[test]
 fn scene_keeps_up(rt: HostRuntime) -> Result<(), Fail> {
     let mut scene = row(rt.alloc(), 3)?;
-    let cell = Cell::Hop { from: 1, to: 3 };
-    scene.apply(&link(place(1, 7), place(3, 7)))?;
-    assert_eq!(rt; scene.cell(cell), Value::At(place(3, 7)));
-    let refused = scene.apply(&link(place(1, 0), place(3, 7)));
-    assert!(rt; refused == Err(UpdateError::Refused(UpdateRefused::PortRange)));
-    assert_eq!(rt; scene.cell(cell), Value::At(place(3, 7)));
-    scene.apply(&Update::NoLink { from: place(1, 7) })?;
-    assert_eq!(rt; scene.cell(cell), Value::At(place(2, 1)));
-    scene.apply(&Update::NoLink { from: place(2, 1) })?;
-    assert_eq!(rt; scene.cell(cell), Value::Nothing);
+    put_link(&mut scene, place(1, 7), place(3, 7))?;
+    assert_eq!(rt; cell(&scene, 1, 3), Value::At(place(3, 7)));
+    assert!(rt; is_refused(&mut scene));
+    assert_eq!(rt; cell(&scene, 1, 3), Value::At(place(3, 7)));
+    drop_link(&mut scene, place(1, 7))?;
+    assert_eq!(rt; cell(&scene, 1, 3), Value::At(place(2, 1)));
+    drop_link(&mut scene, place(2, 1))?;
+    assert_eq!(rt; cell(&scene, 1, 3), Value::Nothing);
     Ok(())
 }
 
-#[test]
-fn other_cells(rt: HostRuntime) -> Result<(), Fail> {
-    let mut scene = row(rt.alloc(), 2)?;
-    scene.apply(&Update::Host { mac: 9, place: place(2, 5) })?;
-    scene.apply(&Update::Port { switch: 1, port: 4, up: true })?;
-    assert_eq!(rt; scene.cell(Cell::Host(9)), Value::At(place(2, 5)));
-    assert_eq!(rt; scene.cell(Cell::Up { switch: 1, port: 4 }), Value::Flag(true));
-    assert_eq!(rt; scene.cell(Cell::Hop { from: 1, to: 2 }), Value::At(place(2, 1)));
-    Ok(())
-}
-
-// The fewest links of a walk of at most so many.
-fn fewest(links: &[(Place, Place)], from: u64, to: u64, most: u8) -> Option<u8>
-    ensures { IfSome result (λ count. count ≤ most) }
-{
-    if from == to {
-        return Some(0);
+// How many links the shortest walk has that begins with this one, of at most three links.
+fn fewest(links: &[(Place, Place)], first: &(Place, Place), to: u64) -> Option<u64> {
+    let at = first.1.switch;
+    if at == to {
+        return Some(1);
     }
-    if most == 0 {
-        return None;
-    }
-    let mut best: Option<u8> = None;
     for (start, end) in links {
-        if start.switch == from {
-            if let Some(rest) = fewest(links, end.switch, to, most - 1) {
-                if best.is_none_or(|count| rest + 1 < count) {
-                    best = Some(rest + 1);
+        if start.switch == at && end.switch == to {
+            return Some(2);
+        }
+    }
+    for (start, end) in links {
+        if start.switch == at && has_link(links, end.switch, to) {
+            return Some(3);
+        }
+    }
+    None
+}
+
+fn has_link(links: &[(Place, Place)], from: u64, to: u64) -> bool {
+    for (start, end) in links {
+        if start.switch == from && end.switch == to {
+            return true;
+        }
+    }
+    false
+}
+
+// Whether so many links by this port come before the best so far.
+fn is_before(count: u64, port: u64, best: Option<(u64, Place)>) -> bool {
+    match best {
+        Some((least, hop)) => count < least || (count == least && port < hop.port),
+        None => true,
+    }
+}
+
+// The hop by the least port of those that begin a walk of the fewest links.
+fn best_hop(links: &[(Place, Place)], from: u64, to: u64) -> Option<Place> {
+    let mut best: Option<(u64, Place)> = None;
+    for link in links {
+        if link.0.switch == from {
+            if let Some(count) = fewest(links, link, to) {
+                if is_before(count, link.0.port, best) {
+                    best = Some((count, place(link.1.switch, link.0.port)));
                 }
             }
         }
     }
-    best
-}
-
-// Whether a hop is the one by the least port of those that begin a walk of the fewest links.
-fn is_best(links: &[(Place, Place)], from: u64, to: u64, hop: Option<Place>) -> bool {
-    let mut best: Option<(u8, Place)> = None;
-    for (start, end) in links {
-        if start.switch == from && from != to {
-            if let Some(rest) = fewest(links, end.switch, to, 5) {
-                let better = match best {
-                    Some((count, place)) => rest < count || rest == count && start.port < place.port,
-                    None => true,
-                };
-                if better {
-                    best = Some((rest, place(end.switch, start.port)));
-                }
-            }
-        }
+    match best {
+        Some((_, hop)) => Some(hop),
+        None => None,
     }
-    hop == best.map(|(_, place)| place)
 }
 
-// A network of 6 switches and up to 12 links, by a fixed sequence of numbers.
+// A network of 4 switches and up to 7 links, by a fixed sequence of numbers.
 fn random(alloc: Global, seed: u64) -> Result<Scene, UpdateError> {
-    let mut scene = known(alloc, 6)?;
+    let mut scene = known(alloc, 4)?;
     let mut state = seed;
-    for _ in 0..12 {
+    for _ in 0..7 {
         state = state
             .wrapping_mul(6364136223846793005)
             .wrapping_add(1442695040888963407);
         let numbers = state >> 33;
-        let from = place(numbers % 6 + 1, numbers / 6 % 3 + 1);
-        let to = place(numbers / 18 % 6 + 1, numbers / 108 % 3 + 1);
-        scene.apply(&link(from, to))?;
+        let from = place(numbers % 4 + 1, numbers / 4 % 3 + 1);
+        let to = place(numbers / 12 % 4 + 1, numbers / 48 % 3 + 1);
+        put_link(&mut scene, from, to)?;
     }
     Ok(scene)
 }
 
+// Whether each next hop is the one that the search finds.
 fn agrees(hops: &Hops, links: &[(Place, Place)]) -> bool {
-    let mut same = true;
-    for from in 1..7 {
-        for to in 1..7 {
-            same = same && is_best(links, from, to, hops.hop(from, to));
+    for from in 1..5 {
+        for to in 1..5 {
+            if from != to && hop(hops, from, to) != best_hop(links, from, to) {
+                return false;
+            }
         }
     }
-    same
+    true
+}
+
+fn agrees_at(alloc: Global, seed: u64) -> Result<bool, UpdateError> {
+    let scene = random(alloc, seed)?;
+    let hops = hops(alloc, &scene)?;
+    Ok(agrees(&hops, scene.links().items()))
 }
 
 #[test]
 fn search_over_all_walks(rt: HostRuntime) -> Result<(), Fail> {
-    for seed in 0..20 {
-        let scene = random(rt.alloc(), seed)?;
-        let hops = Hops::build(rt.alloc(), scene.links())?;
-        assert!(rt; agrees(&hops, scene.links().items()));
+    for seed in 0..100 {
+        assert!(rt; agrees_at(rt.alloc(), seed)?);
     }
     Ok(())
 }
