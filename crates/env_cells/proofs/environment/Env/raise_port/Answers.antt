@@ -1,0 +1,19 @@
+use Rattle.std.proofs.Common.{◌≡◌, ◌≤◌, true, ap, sym, subst, ◌∙◌, arith}
+use Rattle.std.specs.Prelude.{is_some, unwrap_or}
+use Rattle.std.specs.FinMap as map
+use Rattle.std.specs.FinSet as set
+use Rattle.env_cells.specs.Environment.{Environment, knows, is_port, ports_in}
+use Rattle.env_cells.specs.Named.{numbers_in, tables_named}
+use Rattle.env_cells.specs.Limits.{IsWithinLimits, IsPlaceOf}
+use Rattle.env_cells.specs.declared.updates.UpdateRefused.TheVariants.{UnknownSwitch, PortRange}
+use Rattle.env_cells.proofs.Limits.{within_full, limits_raised}
+use Rattle.env_cells.proofs.environment.Env.raise_port.Goals as goal
+
+pub invariant_of-self-2 : goal.invariant_of-self-2
+invariant_of-self-2 c =
+    let e : Environment = record { switches = c.self.inside.switches; hosts = c.self.inside.hosts; links = c.self.inside.links; tables = c.self.inside.tables } in
+    let known : knows e c.args.switch ≡ true = sym (ap is_some c.in-Some.ensures) in
+    let same : set.len (set.insert c.in-Some.up.now c.args.port) ≡ set.len (set.insert (ports_in e.switches c.args.switch) c.args.port) =
+    ap (λ x. set.len (set.insert (unwrap_or x set.empty) c.args.port)) c.in-Some.ensures in
+    let small : set.len (set.insert (ports_in e.switches c.args.switch) c.args.port) ≤ 1364 = omega (arith, same, c.len_with.ensures, within_full _ 1364 c.in_ok-check_room.ensures) in
+    subst (λ s. IsWithinLimits (record e { switches = s })) (sym c.in_ok-raise.ensures.ok) (limits_raised e c.self.invariant c.args.switch _ known small)

@@ -1,0 +1,16 @@
+use Rattle.std.proofs.Common.{◌≡◌, ◌≤◌, true, ap, sym, subst, ◌∙◌, arith}
+use Rattle.std.specs.Prelude.{is_some, unwrap_or}
+use Rattle.std.specs.FinMap as map
+use Rattle.std.specs.FinSet as set
+use Rattle.env_cells.specs.Environment.{Environment, knows, is_port, ports_in}
+use Rattle.env_cells.specs.Named.{numbers_in, tables_named}
+use Rattle.env_cells.specs.Limits.{IsWithinLimits, IsPlaceOf}
+use Rattle.env_cells.specs.declared.updates.UpdateRefused.TheVariants.{UnknownSwitch, PortRange}
+use Rattle.env_cells.proofs.Limits.{limits_unset}
+use Rattle.env_cells.proofs.environment.Env.remove_number.Goals as goal
+
+pub invariant_of-self : goal.invariant_of-self
+invariant_of-self c =
+    let e : Environment = record { switches = c.self.inside.switches; hosts = c.self.inside.hosts; links = c.self.inside.links; tables = c.self.inside.tables } in
+    let declared : map.contains_key e.tables c.args.table.now ≡ true = sym c.if-not-has.ensures in
+    subst (λ s. IsWithinLimits (record e { tables = s })) (sym c.unset.ensures) (limits_unset e c.self.invariant c.args.table.now c.args.key declared)

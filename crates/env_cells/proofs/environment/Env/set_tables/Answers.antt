@@ -1,0 +1,16 @@
+use Rattle.std.proofs.Common.{◌≡◌, ◌≤◌, true, ap, sym, subst, ◌∙◌, arith}
+use Rattle.std.specs.Prelude.{is_some, unwrap_or}
+use Rattle.std.specs.FinMap as map
+use Rattle.std.specs.FinSet as set
+use Rattle.env_cells.specs.Environment.{Environment, knows, is_port, ports_in}
+use Rattle.env_cells.specs.Named.{numbers_in, tables_named}
+use Rattle.env_cells.specs.Limits.{IsWithinLimits, IsPlaceOf}
+use Rattle.env_cells.specs.declared.updates.UpdateRefused.TheVariants.{UnknownSwitch, PortRange}
+use Rattle.env_cells.proofs.Limits.{limits_named}
+use Rattle.env_cells.proofs.environment.Env.set_tables.Goals as goal
+
+pub invariant_of-self-2 : goal.invariant_of-self-2
+invariant_of-self-2 c =
+    let e : Environment = record { switches = c.self.inside.switches; hosts = c.self.inside.hosts; links = c.self.inside.links; tables = c.self.inside.tables } in
+    let names = c.args.names.now in
+    subst (λ s. IsWithinLimits (record e { tables = s })) (sym (c.in_ok-declare.ensures.ok ∙ ap (tables_named e.tables) c.items.ensures)) (limits_named e c.self.invariant names c.requires)

@@ -1,0 +1,11 @@
+pub mod Environment
+pub mod Named
+pub mod Listed
+pub mod Changes
+pub mod Refusals
+pub mod Answers
+pub mod Sorted
+pub mod Values
+pub mod Limits
+pub mod Lists
+pub mod FewNames

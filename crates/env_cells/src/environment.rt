@@ -1,0 +1,315 @@
+// What is known of the network.
+ghost use Rattle.std.specs.Prelude.{◌≡◌, ◌≤◌, true, false, None, Some, Ok, Err, if◌then◌else◌, length, IsTrue, All, IfOk, OnOk, OnErr};
+ghost use Rattle.std.specs.FinMap as map;
+ghost use Rattle.maple_base.specs.Kinds.{of_kind};
+ghost use Rattle.env_cells.specs.declared.updates.Update.{Update};
+ghost use Rattle.env_cells.specs.declared.updates.Update.TheVariants as updates;
+ghost use Rattle.env_cells.specs.declared.updates.UpdateRefused.{UpdateRefused};
+ghost use Rattle.env_cells.specs.declared.updates.UpdateRefused.TheVariants.{UnknownSwitch, PortRange};
+ghost use Rattle.env_cells.specs.declared.updates.UpdateError.TheVariants.{Refused};
+ghost use Rattle.maple_base.specs.declared.cells.Cell.TheVariants.{Up, Num};
+ghost use Rattle.maple_base.specs.declared.cells.Value.TheVariants.{Flag};
+ghost use Rattle.env_cells.specs.Environment.{nothing_known, knows, is_port};
+ghost use Rattle.env_cells.specs.Changes.{applied};
+ghost use Rattle.env_cells.specs.Refusals.{refusal_of, full, HasRoomForTables};
+ghost use Rattle.env_cells.specs.Answers.{Answers, Tells};
+ghost use Rattle.env_cells.specs.Values.{value_in, IsNoHop};
+ghost use Rattle.env_cells.specs.Limits.{IsWithinLimits};
+ghost use Rattle.env_cells.specs.Lists.{StartApart, IsBetweenPorts, IsKnown, NamesFewSwitches};
+
+use crate::link_map::LinkMap;
+use crate::number_map::NumberMap;
+use crate::tables::TableMap;
+use crate::up_ports::{UpPorts, is_port};
+use crate::{Links, Update, UpdateError, UpdateRefused};
+use maple_base::{Cell, Name, Names, NoMemory, Place, Ports, Value};
+use std::alloc::Global;
+use std::marker::Model;
+
+const SWITCHES: u64 = 64;
+
+const UP_PORTS: u64 = 1364;
+
+const HOSTS: u64 = 65536;
+
+const LINKS: u64 = 4096;
+
+const NUMBERS: u64 = 65536;
+
+/// What is known of the network: the switches with their up ports, hosts, links, and tables of
+/// numbers. At most 64 switches with 1,364 up ports each, 65,536 hosts, 4,096 links, and 16 tables
+/// of 65,536 numbers.
+#[derive(Drop)]
+pub struct Env {
+    switches: NumberMap<UpPorts>,
+    hosts: NumberMap<Place>,
+    links: LinkMap,
+    tables: TableMap,
+    alloc: Global,
+}
+
+impl Model for Env {
+    ghost use Rattle.env_cells.specs.Environment.{Environment, environment_code};
+    ghost use Rattle.env_cells.specs.Limits.{IsWithinLimits};
+
+    ghost Value = { Environment };
+
+    ghost coded = { environment_code };
+
+    ghost view = { λ a. record { switches = a.switches; hosts = a.hosts; links = a.links; tables = a.tables } };
+
+    ghost invariant = { λ a. IsWithinLimits (record { switches = a.switches; hosts = a.hosts; links = a.links; tables = a.tables }) };
+}
+
+impl Env {
+    /// An environment without switches, hosts, links and tables.
+    pub fn new(alloc: Global) -> Env
+        ensures { result ≡ nothing_known }
+    {
+        Env {
+            switches: NumberMap::new(alloc),
+            hosts: NumberMap::new(alloc),
+            links: LinkMap::new(alloc),
+            tables: TableMap::new(alloc),
+            alloc,
+        }
+    }
+
+    /// Makes an update. `Tables` declares at most 16 tables. An update that is refused, or that
+    /// memory doesn't suffice for, changes nothing.
+    pub fn apply(&mut self, update: &Update) -> Result<(), UpdateError>
+        requires tables { HasRoomForTables update.now }
+        ensures accepted { OnOk result (refusal_of self.old update.now ≡ None) }
+        ensures applied { OnOk result (self.new ≡ applied self.old update.now) }
+        ensures refused { (r : UpdateRefused) → result ≡ Err (Refused r) → refusal_of self.old update.now ≡ Some r }
+        ensures unchanged { OnErr result (self.new ≡ self.old) }
+    {
+        self.change(update)
+    }
+
+    /// What the environment has in a cell. Next hops take more than the links: their cells are not
+    /// asked here.
+    pub fn value(&self, cell: Cell) -> Value
+        requires no_hop { IsNoHop cell }
+        ensures told { result ≡ value_in self.now cell }
+        ensures kind { IsTrue (of_kind cell result) }
+    {
+        match cell {
+            Cell::Host(mac) => match self.hosts.get(mac) {
+                Some(place) => Value::At(*place),
+                None => Value::Nothing,
+            },
+            Cell::Hop { .. } => Value::Nothing,
+            Cell::Up { switch, port } => Value::Flag(self.is_up(switch, port)),
+            Cell::Num { table, key } => self.number(&table, key),
+        }
+    }
+
+    /// The links, in the order of their first places.
+    pub fn links(&self) -> &Links
+        ensures links { result.now ≡ map.entries self.now.links }
+        ensures apart { StartApart result.now }
+        ensures few { length result.now ≤ 4096 }
+        ensures ports { All IsBetweenPorts result.now }
+        ensures known { All (IsKnown self.now) result.now }
+        ensures switches { map.len self.now.switches ≤ 64 }
+        ensures named { NamesFewSwitches result.now }
+    {
+        self.links.links()
+    }
+
+    /// Whether a switch is known.
+    pub fn knows(&self, switch: u64) -> bool
+        ensures { result ≡ knows self.now switch }
+    {
+        self.switches.has(switch)
+    }
+
+    /// An equal environment.
+    pub fn copy(&self) -> Result<Env, NoMemory>
+        ensures equal { IfOk result (λ env. env ≡ self.now) }
+        ensures limits { IsWithinLimits self.now }
+    {
+        Ok(Env {
+            switches: self.switches.copy()?,
+            hosts: self.hosts.copy()?,
+            links: self.links.copy()?,
+            tables: self.tables.copy()?,
+            alloc: self.alloc,
+        })
+    }
+
+    fn is_up(&self, switch: u64, port: u64) -> bool
+        ensures { Flag result ≡ value_in self.now (Up switch port) }
+    {
+        match self.switches.get(switch) {
+            Some(up) => up.has(port),
+            None => false,
+        }
+    }
+
+    fn number(&self, table: &Name, key: u64) -> Value
+        ensures { result ≡ value_in self.now (Num table.now key) }
+    {
+        match self.tables.get(table) {
+            Some(numbers) => match numbers.get(key) {
+                Some(number) => Value::Number(*number),
+                None => Value::Nothing,
+            },
+            None => Value::Nothing,
+        }
+    }
+
+    fn change(&mut self, update: &Update) -> Result<(), UpdateError>
+        requires tables { HasRoomForTables update.now }
+        ensures { Answers self.old update.now result self.new }
+    {
+        match update {
+            Update::Switch { switch, ports } => self.set_switch(*switch, ports),
+            Update::Port { switch, port, up } => {
+                if *up {
+                    self.raise_port(*switch, *port)
+                } else {
+                    self.lower_port(*switch, *port)
+                }
+            }
+            Update::Host { mac, place } => self.set_host(*mac, *place),
+            Update::NoHost { mac } => {
+                self.remove_host(*mac);
+                Ok(())
+            }
+            Update::Link { from, to } => self.set_link(*from, *to),
+            Update::NoLink { from } => self.remove_link(*from),
+            Update::Set { table, key, value } => self.set_number(table, *key, *value),
+            Update::Unset { table, key } => self.remove_number(table, *key),
+            Update::Tables(names) => self.set_tables(names),
+        }
+    }
+
+    fn set_switch(&mut self, switch: u64, ports: &Ports) -> Result<(), UpdateError>
+        ensures { Answers self.old (updates.Switch switch ports.now) result self.new }
+    {
+        check_room(self.switches.len_with(switch), SWITCHES)?;
+        let up = UpPorts::listed(self.alloc, ports.items())?;
+        check_room(up.len(), UP_PORTS)?;
+        self.switches.insert(switch, up)?;
+        Ok(())
+    }
+
+    fn raise_port(&mut self, switch: u64, port: u16) -> Result<(), UpdateError>
+        ensures { Answers self.old (updates.Port switch port true) result self.new }
+    {
+        let Some(up) = self.switches.get(switch) else {
+            return Err(UpdateError::Refused(UpdateRefused::UnknownSwitch));
+        };
+        check_port(u64::from(port))?;
+        check_room(up.len_with(port), UP_PORTS)?;
+        self.switches.raise(switch, port)?;
+        Ok(())
+    }
+
+    fn lower_port(&mut self, switch: u64, port: u16) -> Result<(), UpdateError>
+        ensures { Answers self.old (updates.Port switch port false) result self.new }
+    {
+        self.check_switch(switch)?;
+        check_port(u64::from(port))?;
+        self.switches.lower(switch, port);
+        Ok(())
+    }
+
+    fn set_host(&mut self, mac: u64, place: Place) -> Result<(), UpdateError>
+        ensures { Answers self.old (updates.Host mac place) result self.new }
+    {
+        self.check_switch(place.switch)?;
+        check_port(place.port)?;
+        check_room(self.hosts.len_with(mac), HOSTS)?;
+        self.hosts.insert(mac, place)?;
+        Ok(())
+    }
+
+    fn remove_host(&mut self, mac: u64)
+        ensures { self.new ≡ record self.old { hosts = map.remove self.old.hosts mac } }
+    {
+        self.hosts.remove(mac);
+    }
+
+    fn set_link(&mut self, from: Place, to: Place) -> Result<(), UpdateError>
+        ensures { Answers self.old (updates.Link from to) result self.new }
+    {
+        self.check_switch(from.switch)?;
+        self.check_switch(to.switch)?;
+        check_port(from.port)?;
+        check_port(to.port)?;
+        check_room(self.links.len_with(from), LINKS)?;
+        self.links.insert(from, to)?;
+        Ok(())
+    }
+
+    fn remove_link(&mut self, from: Place) -> Result<(), UpdateError>
+        ensures { Answers self.old (updates.NoLink from) result self.new }
+    {
+        self.check_switch(from.switch)?;
+        check_port(from.port)?;
+        self.links.remove(from);
+        Ok(())
+    }
+
+    fn set_number(&mut self, table: &Name, key: u64, value: u64) -> Result<(), UpdateError>
+        ensures { Answers self.old (updates.Set table.now key value) result self.new }
+    {
+        let Some(numbers) = self.tables.get(table) else {
+            return Err(UpdateError::Refused(UpdateRefused::UnknownTable));
+        };
+        check_room(numbers.len_with(key), NUMBERS)?;
+        self.tables.set(table, key, value)?;
+        Ok(())
+    }
+
+    fn remove_number(&mut self, table: &Name, key: u64) -> Result<(), UpdateError>
+        ensures { Answers self.old (updates.Unset table.now key) result self.new }
+    {
+        if !self.tables.has(table) {
+            return Err(UpdateError::Refused(UpdateRefused::UnknownTable));
+        }
+        self.tables.unset(table, key);
+        Ok(())
+    }
+
+    fn set_tables(&mut self, names: &Names) -> Result<(), UpdateError>
+        requires { HasRoomForTables (updates.Tables names.now) }
+        ensures { Answers self.old (updates.Tables names.now) result self.new }
+    {
+        self.tables.declare(names.items())?;
+        Ok(())
+    }
+
+    fn check_switch(&self, switch: u64) -> Result<(), UpdateRefused>
+        ensures { result ≡ (if knows self.now switch then Ok tt else Err UnknownSwitch) }
+    {
+        if self.knows(switch) {
+            Ok(())
+        } else {
+            Err(UpdateRefused::UnknownSwitch)
+        }
+    }
+}
+
+fn check_port(number: u64) -> Result<(), UpdateRefused>
+    ensures { result ≡ (if is_port number then Ok tt else Err PortRange) }
+{
+    if is_port(number) {
+        Ok(())
+    } else {
+        Err(UpdateRefused::PortRange)
+    }
+}
+
+fn check_room(count: u64, limit: u64) -> Result<(), UpdateRefused>
+    ensures { Tells result (full count limit) }
+{
+    if count <= limit {
+        Ok(())
+    } else {
+        Err(UpdateRefused::Full { count, limit })
+    }
+}

@@ -1,0 +1,10 @@
+pub mod Distances
+pub mod Graphs
+pub mod Hopping
+pub mod LeastHops
+pub mod Levels
+pub mod Making
+pub mod Naming
+pub mod Nearness
+pub mod Shown
+pub mod Ways

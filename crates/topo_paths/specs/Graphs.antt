@@ -1,0 +1,10 @@
+-- Which links have next hops.
+use Rattle.std.specs.Prelude.{ℕ, ◌≤◌, List, length, All}
+use Rattle.topo_paths.specs.Walks.{Link}
+use Rattle.env_cells.specs.Lists.{StartApart, NamesFewSwitches, IsBetweenPorts}
+
+-- no two links begin at one place, all links together name at most 64 switches, and each port is from 1 to 65,280
+pub record IsGraph (links : List Link) : Type 0 where
+  pub apart : StartApart links
+  pub few : NamesFewSwitches links
+  pub ports : All IsBetweenPorts links

@@ -1,0 +1,83 @@
+// Next hops over links.
+ghost use Rattle.std.specs.Prelude.{◌≡◌, ◌≢◌, ◌⊎◌, IfOk, IfSome, IfNone, IsTrue};
+ghost use Rattle.maple_base.specs.Paths.{IsPath, is_hop};
+ghost use Rattle.topo_paths.specs.Graphs.{IsGraph};
+ghost use Rattle.topo_paths.specs.NextHops.{next_hop};
+ghost use Rattle.topo_paths.specs.Walks.{IsNextHop, IsWay, NoWalk};
+
+use crate::table::Table;
+use env_cells::Links;
+use maple_base::{NoMemory, Path, Place};
+use std::alloc::Global;
+use std::marker::Model;
+
+/// The next hops between all switches over links.
+#[derive(Drop)]
+pub struct Hops {
+    links: Links,
+    table: Table,
+}
+
+impl Model for Hops {
+    ghost use Rattle.std.specs.Prelude.{List};
+    ghost use Rattle.topo_paths.specs.Walks.{Link};
+    ghost use Rattle.topo_paths.specs.Tables.{IsTableOf};
+
+    ghost Value = { List Link };
+
+    ghost view = { λ a. a.links };
+
+    ghost invariant = { λ a. IsTableOf a.links a.table };
+}
+
+impl Hops {
+    /// The next hops over links of which no two begin at one place, which name at most 64
+    /// switches, and whose ports are from 1 to 65,280.
+    pub fn build(alloc: Global, links: &Links) -> Result<Hops, NoMemory>
+        requires { IsGraph links.now }
+        ensures { IfOk result (λ hops. hops ≡ links.now) }
+    {
+        let list = Vec::from_slice(alloc, links.items())?;
+        let mut table = Table::new(alloc, links.items().len())?;
+        table.rebuild(links.items());
+        Ok(Hops {
+            links: Links::new(list),
+            table,
+        })
+    }
+
+    /// The next hop between two switches: the least port of the first whose link begins a shortest
+    /// walk of links to the second, with the switch at which that link ends. None where the two
+    /// are one or no walk leads from the first to the second.
+    pub fn hop(&self, from: u64, to: u64) -> Option<Place>
+        ensures value { result ≡ next_hop self.now from to }
+        ensures some { IfSome result (λ hop. IsNextHop self.now from to hop) }
+        ensures none { IfNone result ((from ≡ to) ⊎ NoWalk self.now from to) }
+        ensures port { IfSome result (λ hop. IsTrue (is_hop hop)) }
+    {
+        self.table.hop(from, to)
+    }
+
+    /// The next hops from one switch to another, one after the other: 1 to 64 hops, each the
+    /// switch that is left and the port. None where there is no next hop.
+    pub fn path(&self, from: u64, to: u64) -> Result<Option<Path>, NoMemory>
+        ensures some { IfOk result (λ answer. IfSome answer (λ path. IsWay self.now to from to path)) }
+        ensures path { IfOk result (λ answer. IfSome answer (λ path. IsPath path)) }
+        ensures none { IfOk result (λ answer. IfNone answer ((from ≡ to) ⊎ NoWalk self.now from to)) }
+        ensures apart { IfOk result (λ answer. IfSome answer (λ path. from ≢ to)) }
+    {
+        let mut hops = Vec::new(*self.table.switches.allocator());
+        let mut at = from;
+        while let Some(next) = self.hop(at, to) {
+            hops.push(Place {
+                switch: at,
+                port: next.port,
+            })?;
+            at = next.switch;
+        }
+        if hops.is_empty() {
+            return Ok(None);
+        }
+        Ok(Some(Path::new(hops)))
+    }
+}

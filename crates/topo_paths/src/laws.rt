@@ -1,0 +1,7 @@
+// What holds of next hops, whoever keeps them.
+ghost use Rattle.topo_paths.specs.Laws.{NextHopIsShortest};
+
+/// The law of next hops: what a clause that cites the function says of all walks.
+pub fn hop_laws()
+    ensures { NextHopIsShortest }
+{}

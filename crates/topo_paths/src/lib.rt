@@ -1,0 +1,15 @@
+//! Next hops over the links between switches, and the environment with them.
+#![tactic(auto)]
+
+mod hops;
+mod laws;
+mod rows;
+mod scene;
+mod switches;
+mod table;
+#[cfg(test)]
+mod tests;
+
+pub use hops::Hops;
+pub use laws::hop_laws;
+pub use scene::Scene;

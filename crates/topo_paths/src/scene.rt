@@ -1,0 +1,121 @@
+// The environment with next hops.
+ghost use Rattle.std.specs.Prelude.{◌≡◌, ◌≤◌, length, None, Some, Err, IsTrue, IfOk, OnOk, OnErr};
+ghost use Rattle.maple_base.specs.Kinds.{of_kind};
+ghost use Rattle.env_cells.specs.declared.updates.UpdateRefused.{UpdateRefused};
+ghost use Rattle.env_cells.specs.declared.updates.UpdateError.TheVariants.{Refused};
+ghost use Rattle.env_cells.specs.Environment.{nothing_known, knows};
+ghost use Rattle.env_cells.specs.Changes.{applied};
+ghost use Rattle.env_cells.specs.Refusals.{refusal_of, HasRoomForTables};
+ghost use Rattle.topo_paths.specs.Graphs.{IsGraph};
+ghost use Rattle.topo_paths.specs.Scenes.{links_in, cell_in, HopIsShown};
+
+use crate::table::Table;
+use env_cells::{Env, Links, Update, UpdateError};
+use maple_base::{Cell, EnvNow, NoMemory, Place, Value};
+use std::alloc::Global;
+use std::marker::Model;
+
+/// Most links of an environment.
+const LINKS: usize = 4096;
+
+/// The environment, with the next hops over its links.
+#[derive(Drop)]
+pub struct Scene {
+    env: Env,
+    table: Table,
+}
+
+impl Model for Scene {
+    ghost use Rattle.env_cells.specs.Environment.{Environment, environment_code};
+
+    ghost Value = { Environment };
+
+    ghost coded = { environment_code };
+
+    ghost use Rattle.topo_paths.specs.Scenes.{links_in};
+    ghost use Rattle.topo_paths.specs.Tables.{HasRoom, IsTableOf};
+
+    ghost view = { λ a. a.env };
+
+    ghost invariant = { λ a. HasRoom a.table 4096 × IsTableOf (links_in a.env) a.table };
+}
+
+impl Scene {
+    /// The empty environment.
+    pub fn new(alloc: Global) -> Result<Scene, NoMemory>
+        ensures { IfOk result (λ scene. scene ≡ nothing_known) }
+    {
+        let env = Env::new(alloc);
+        let mut table = Table::new(alloc, LINKS)?;
+        table.rebuild(links_of(&env));
+        Ok(Scene { env, table })
+    }
+
+    /// Makes an update, as the environment does. `Tables` declares at most 16 tables. An update that
+    /// is refused, or that memory doesn't suffice for, changes nothing.
+    pub fn apply(&mut self, update: &Update) -> Result<(), UpdateError>
+        requires tables { HasRoomForTables update.now }
+        ensures accepted { OnOk result (refusal_of self.old update.now ≡ None) }
+        ensures applied { OnOk result (self.new ≡ applied self.old update.now) }
+        ensures refused { (r : UpdateRefused) → result ≡ Err (Refused r) → refusal_of self.old update.now ≡ Some r }
+        ensures unchanged { OnErr result (self.new ≡ self.old) }
+    {
+        self.env.apply(update)?;
+        if let Update::Link { .. } | Update::NoLink { .. } = update {
+            self.table.rebuild(links_of(&self.env));
+        }
+        Ok(())
+    }
+
+    /// Whether a switch is known.
+    pub fn knows(&self, switch: u64) -> bool
+        ensures { result ≡ knows self.now switch }
+    {
+        self.env.knows(switch)
+    }
+
+    /// The links, in the order of their first places.
+    pub fn links(&self) -> &Links
+        ensures links { result.now ≡ links_in self.now }
+        ensures graph { IsGraph result.now }
+    {
+        self.env.links()
+    }
+
+    /// An equal scene.
+    pub fn copy(&self) -> Result<Scene, NoMemory>
+        ensures { IfOk result (λ scene. scene ≡ self.now) }
+    {
+        let env = self.env.copy()?;
+        let mut table = Table::new(*self.table.switches.allocator(), LINKS)?;
+        table.rebuild(links_of(&env));
+        Ok(Scene { env, table })
+    }
+}
+
+impl EnvNow for Scene {
+    ghost has = { λ scene cell. cell_in scene cell };
+
+    fn cell(&self, cell: Cell) -> Value
+        ensures told { result ≡ cell_in self.now cell }
+        ensures kind { IsTrue (of_kind cell result) }
+        ensures hop { HopIsShown (links_in self.now) cell result }
+    {
+        match cell {
+            Cell::Hop { from, to } => match self.table.hop(from, to) {
+                Some(place) => Value::At(place),
+                None => Value::Nothing,
+            },
+            _ => self.env.value(cell),
+        }
+    }
+}
+
+/// The links of an environment, which have next hops.
+fn links_of(env: &Env) -> &[(Place, Place)]
+    ensures links { result.now ≡ links_in env.now }
+    ensures few { length result.now ≤ 4096 }
+    ensures graph { IsGraph result.now }
+{
+    env.links().items()
+}

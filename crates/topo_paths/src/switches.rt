@@ -1,0 +1,77 @@
+// The switches that links name, by their places in a list.
+ghost use Rattle.std.specs.Prelude.{◌≡◌, ◌≢◌, ℕ, ◌<◌, ◌≤◌, ◌⊎◌, [], ◌∷◌, ◌++◌, List, length, All, AllPairs, Contains, MatchOption, slice_index, vec_len};
+ghost use Rattle.std.specs.Vec.{vec_capacity};
+ghost use Rattle.env_cells.specs.Lists.{IsAmong};
+ghost use Rattle.topo_paths.specs.Graphs.{IsGraph};
+ghost use Rattle.topo_paths.specs.Rows.{AreEnds, AreWithin};
+
+use crate::rows::Ends;
+use maple_base::Place;
+
+/// The place of a switch among the named ones.
+pub fn index_of(switches: &[u64], switch: u64) -> Option<usize>
+    ensures { MatchOption result (¬ Contains switches.now switch) (λ i. (i < length switches.now) × (slice_index switches.now i ≡ switch)) }
+{
+    switches.iter().position(|s| *s == switch)
+}
+
+/// Names a switch that is not named yet.
+fn name(switches: &mut Vec<u64>, switch: u64)
+    requires distinct { AllPairs ◌≢◌ switches.old.items }
+    requires room { (¬ Contains switches.old.items switch) → vec_len switches.old < vec_capacity switches.old }
+    ensures distinct { AllPairs ◌≢◌ switches.new.items }
+    ensures named { Contains switches.new.items switch }
+    ensures kept { (s : ℕ) → Contains switches.old.items s → Contains switches.new.items s }
+    ensures only { (s : ℕ) → Contains switches.new.items s → Contains switches.old.items s ⊎ (switch ≡ s) }
+    ensures capacity { vec_capacity switches.new ≡ vec_capacity switches.old }
+{
+    if index_of(switches, switch).is_none() {
+        switches.push_reserved(switch);
+    }
+}
+
+/// Names the switches of links, each once.
+pub fn name_switches(switches: &mut Vec<u64>, links: &[(Place, Place)])
+    requires room { 64 ≤ vec_capacity switches.old }
+    requires graph { IsGraph links.now }
+    ensures distinct { AllPairs ◌≢◌ switches.new.items }
+    ensures named { All (IsAmong switches.new.items) links.now }
+    ensures few { length switches.new.items ≤ 64 }
+    ensures capacity { vec_capacity switches.new ≡ vec_capacity switches.old }
+{
+    switches.clear();
+    for (from, to) in links {
+        name(switches, from.switch);
+        name(switches, to.switch);
+    }
+}
+
+/// The places of the switches between which a link leads.
+fn ends_of(switches: &[u64], from: &Place, to: &Place) -> Ends
+    requires from { Contains switches.now from.now.switch }
+    requires to { Contains switches.now to.now.switch }
+    ensures from { (result.from < length switches.now) × (slice_index switches.now result.from ≡ from.now.switch) }
+    ensures to { (result.to < length switches.now) × (slice_index switches.now result.to ≡ to.now.switch) }
+{
+    Ends {
+        from: index_of(switches, from.switch).unwrap(),
+        to: index_of(switches, to.switch).unwrap(),
+    }
+}
+
+/// Finds the ends of links among the named switches.
+pub fn find_ends(ends: &mut Vec<Ends>, switches: &[u64], links: &[(Place, Place)])
+    requires room { length links.now ≤ vec_capacity ends.old }
+    requires distinct { AllPairs ◌≢◌ switches.now }
+    requires named { All (IsAmong switches.now) links.now }
+    requires few { length switches.now ≤ 64 }
+    ensures ends { AreEnds links.now switches.now ends.new.items }
+    ensures within { All AreWithin ends.new.items }
+    ensures capacity { vec_capacity ends.new ≡ vec_capacity ends.old }
+{
+    ends.clear();
+    for (from, to) in links {
+        let e = ends_of(switches, from, to);
+        ends.push_reserved(e);
+    }
+}
