@@ -1,0 +1,5 @@
+pub mod Grammar
+pub mod Hexadecimal
+pub mod PacketFields
+pub mod Verbs
+pub mod Words
