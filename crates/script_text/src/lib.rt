@@ -2,6 +2,7 @@
 #![tactic(auto)]
 
 mod command;
+mod frame;
 mod hexadecimal;
 mod packet_fields;
 mod packet_spec;
@@ -10,5 +11,6 @@ mod verb;
 mod words;
 
 pub use command::{Command, LineError};
+pub use frame::frame_of;
 pub use packet_spec::PacketSpec;
 pub use reading::read_line;
