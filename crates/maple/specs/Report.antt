@@ -1,5 +1,5 @@
--- The report of a run of packet lines: what one switch and its controller do with each packet, as runs are learned.
-use Rattle.std.specs.Prelude.{ℕ, ◌+◌, Bool, ◌==◌, nat_lt, if◌then◌else◌, List, [], ◌∷◌, ◌++◌, length, Option, Some, None, codes}
+-- The report of a script: what one switch and its controller do with each frame, as runs are learned.
+use Rattle.std.specs.Prelude.{ℕ, ◌+◌, Bool, ◌==◌, nat_lt, if◌then◌else◌, List, [], ◌∷◌, ◌++◌, length, Option, Some, None, Result, Ok, Err, codes}
 use Rattle.std.specs.Fmt.{decimal}
 use Rattle.std.specs.List.{list_any}
 use Rattle.maple_base.specs.declared.key.Key.{Key}
@@ -17,9 +17,16 @@ use Rattle.policy_lang.specs.Courses.{course_of, items_of, outcome_at}
 use Rattle.trace_tree.specs.declared.node.Trace.{Trace}
 use Rattle.trace_tree.specs.Growth.{found, scratch}
 use Rattle.maple.specs.declared.report.Line.{Line}
-use Rattle.maple.specs.declared.report.Line.TheVariants.{Hit, Miss, Answer, SpentRun}
+use Rattle.maple.specs.declared.report.Line.TheVariants.{Hit, Miss, Malformed, Answer, SpentRun, RefusedScript}
 use Rattle.maple.specs.declared.report.Learnt.{Learnt}
 use Rattle.maple.specs.declared.report.Learnt.TheVariants.{Learned, Rows}
+use Rattle.maple.specs.declared.report.ScriptRefusal.{ScriptRefusal}
+use Rattle.maple.specs.declared.report.ScriptRefusal.TheVariants.{Grammar, TooLong, Switch, Later}
+use Rattle.maple.specs.declared.step.Step.{Step}
+use Rattle.maple.specs.declared.step.Step.TheVariants.{Silent, Arrival}
+use Rattle.packet_key.specs.declared.malformed.Malformed.{Malformed as Fault}
+use Rattle.packet_key.specs.declared.malformed.Malformed.TheVariants.{Ethernet, Tag, Ip, Transport}
+use Rattle.packet_key.specs.Frames.{key_of}
 use Rattle.rule_builder.specs.Rules.{rules_of, rules_needed}
 
 -- ports, joined by commas
@@ -53,6 +60,12 @@ abbrev pub spelled_learnt : Learnt → List ℕ
 spelled_learnt Learned = codes "learned"
 spelled_learnt (Rows need capacity) = codes "unlearned rows " ++ (decimal need ++ (codes " " ++ decimal capacity))
 
+abbrev pub spelled_refusal : ScriptRefusal → List ℕ
+spelled_refusal Grammar = codes "Grammar"
+spelled_refusal TooLong = codes "TooLong"
+spelled_refusal Switch = codes "Switch"
+spelled_refusal Later = codes "Later"
+
 -- a line of the report
 abbrev pub spelled : Line → List ℕ
 spelled (Hit port actions) = codes "hit c1 " ++ (decimal port ++ (codes " " ++ (spelled_actions actions ++ codes "\n")))
@@ -60,6 +73,8 @@ spelled (Miss port reason) = codes "miss c1 " ++ (decimal port ++ (codes " " ++ 
 spelled (Answer port decision learnt) =
     codes "answer s1 " ++ (decimal port ++ (codes " " ++ (spelled_decision decision ++ (codes " " ++ (spelled_learnt learnt ++ codes "\n")))))
 spelled (SpentRun port) = codes "spent s1 " ++ (decimal port ++ codes "\n")
+spelled (Malformed kind) = codes "malformed c1 " ++ (decimal kind ++ codes "\n")
+spelled (RefusedScript line kind) = codes "refused script " ++ (decimal line ++ (codes " " ++ (spelled_refusal kind ++ codes "\n")))
 
 abbrev pub text_of : List Line → List ℕ
 text_of [] = []
@@ -68,6 +83,13 @@ text_of (l ∷ ls) = spelled l ++ text_of ls
 abbrev pub decided : Outcome → Decision
 decided (Decided d) = d
 decided Spent = Drop
+
+-- the number of a frame's fault
+abbrev pub fault_number : Fault → ℕ
+fault_number Ethernet = 1
+fault_number Tag = 2
+fault_number Ip = 3
+fault_number Transport = 4
 
 -- what the switch does by an outcome
 abbrev pub outcome_actions : Outcome → List ℕ
@@ -119,7 +141,27 @@ module _ (policy : Policy) where
   after runs k (Some run) = runs
   after runs k None = learned runs k (plain k)
 
-  -- the lines of packets, where these runs were learned before
-  abbrev pub report : List Trace → List Key → List Line
+  -- the lines of a frame at this port, by its key or its fault
+  abbrev pub arrival_said : List Trace → ℕ → Result Key Fault → List Line
+  arrival_said runs port (Ok k) = said runs k (found runs k)
+  arrival_said runs port (Err fault) = Miss port 0 ∷ Malformed (fault_number fault) ∷ []
+
+  -- the runs behind it
+  abbrev pub arrival_after : List Trace → Result Key Fault → List Trace
+  arrival_after runs (Ok k) = after runs k (found runs k)
+  arrival_after runs (Err fault) = runs
+
+  -- the lines of a step of the script, where these runs were learned before
+  abbrev pub step_said : List Trace → Step → List Line
+  step_said runs Silent = []
+  step_said runs (Arrival port bytes) = arrival_said runs port (key_of port bytes)
+
+  -- the runs behind a step
+  abbrev pub step_after : List Trace → Step → List Trace
+  step_after runs Silent = runs
+  step_after runs (Arrival port bytes) = arrival_after runs (key_of port bytes)
+
+  -- the lines of steps, where these runs were learned before
+  abbrev pub report : List Trace → List Step → List Line
   report runs [] = []
-  report runs (k ∷ ks) = said runs k (found runs k) ++ report (after runs k (found runs k)) ks
+  report runs (s ∷ ss) = step_said runs s ++ report (step_after runs s) ss

@@ -1,6 +1,6 @@
 // The lines of a report.
 ghost use Rattle.std.specs.Prelude.{◌≡◌, ◌++◌, string_bytes, decimal, OnOk, codes};
-ghost use Rattle.maple.specs.Report.{spelled, spelled_actions, spelled_port, spelled_decision, spelled_hop, spelled_learnt, joined_ports, joined_hops};
+ghost use Rattle.maple.specs.Report.{spelled, spelled_actions, spelled_port, spelled_decision, spelled_hop, spelled_learnt, spelled_refusal, joined_ports, joined_hops};
 
 use maple_base::{Actions, Decision, NoMemory, Place};
 
@@ -11,6 +11,19 @@ pub enum Learnt {
     Learned,
     /// Nothing, since the tree with its run needs more rules than the switch has room for.
     Rows { need: u64, capacity: u32 },
+}
+
+/// Why a line of a script is refused.
+#[derive(Clone, Copy, Debug, PartialEq, Eq)]
+pub enum ScriptRefusal {
+    /// It isn't in the grammar.
+    Grammar,
+    /// It has more than 8,192 bytes.
+    TooLong,
+    /// It names a place that isn't among the devices.
+    Switch,
+    /// Its command is still to come.
+    Later,
 }
 
 /// A line of the report.
@@ -36,6 +49,15 @@ pub enum Line {
     SpentRun {
         port: u16,
     },
+    /// Its headers can't be read, for a fault of this number, 1 to 4.
+    Malformed {
+        kind: u8,
+    },
+    /// The line of this number is refused, counted in the input from 1 on.
+    RefusedScript {
+        line: u32,
+        kind: ScriptRefusal,
+    },
 }
 
 /// Writes a line of the report at the end of a text.
@@ -59,6 +81,16 @@ pub fn push_line(text: &mut String, line: &Line) -> Result<(), NoMemory>
         Line::SpentRun { port } => {
             text.push_str("spent s1 ")?;
             push_number(text, *port as u64)?;
+        }
+        Line::Malformed { kind } => {
+            text.push_str("malformed c1 ")?;
+            push_number(text, *kind as u64)?;
+        }
+        Line::RefusedScript { line, kind } => {
+            text.push_str("refused script ")?;
+            push_number(text, *line as u64)?;
+            text.push_str(" ")?;
+            push_refusal(text, *kind)?;
         }
     }
     text.push_str("\n")?;
@@ -190,5 +222,17 @@ fn push_learnt(text: &mut String, learnt: Learnt) -> Result<(), NoMemory>
             push_number(text, capacity as u64)?;
         }
     }
+    Ok(())
+}
+
+fn push_refusal(text: &mut String, kind: ScriptRefusal) -> Result<(), NoMemory>
+    ensures { OnOk result (string_bytes text.new ≡ string_bytes text.old ++ spelled_refusal kind) }
+{
+    text.push_str(match kind {
+        ScriptRefusal::Grammar => "Grammar",
+        ScriptRefusal::TooLong => "TooLong",
+        ScriptRefusal::Switch => "Switch",
+        ScriptRefusal::Later => "Later",
+    })?;
     Ok(())
 }

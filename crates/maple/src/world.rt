@@ -10,11 +10,14 @@ ghost use Rattle.trace_tree.specs.Bounds.{items_within};
 ghost use Rattle.trace_tree.specs.Growth.{admits, found, insert, leaf_of, leaves_of};
 ghost use Rattle.rule_builder.specs.Rules.{barriers_of, facts_of, levels_of};
 ghost use Rattle.maple.specs.Knowing.{Knows};
-ghost use Rattle.maple.specs.Report.{said, after, answered, learned, plain, text_of};
+ghost use Rattle.maple.specs.Report.{said, after, arrival_said, arrival_after, step_said, step_after, answered, learned, plain, fault_number, text_of};
+ghost use Rattle.packet_key.specs.Frames.{key_of};
 
 use crate::choosing::{Choice, choose};
 use crate::report::{Learnt, Line, push_answer, push_line};
+use crate::step::Step;
 use maple_base::{Blank, Cells, Decision, Items, Key, NoMemory, Outcome, RuleList};
+use packet_key::{Malformed, key_of};
 use policy_lang::Policy;
 use rule_builder::{rules, rules_needed_with};
 use std::alloc::Global;
@@ -42,6 +45,46 @@ impl World {
         World {
             tree: Tree::new(alloc),
             rules: RuleList::new(Vec::new(alloc), Vec::new(alloc)),
+        }
+    }
+
+    /// Does a step of a script, and writes its lines at the end of a text.
+    pub fn step(
+        &mut self,
+        alloc: Global,
+        policy: &Policy,
+        step: &Step,
+        text: &mut String,
+    ) -> Result<(), NoMemory>
+        requires known { (runs : List TraceData) × Knows policy.now runs self.old }
+        ensures { (runs : List TraceData) → Knows policy.now runs self.old → OnOk result ((string_bytes text.new ≡ string_bytes text.old ++ text_of (step_said policy.now runs step.now)) × Knows policy.now (step_after policy.now runs step.now) self.new) }
+    {
+        match step {
+            Step::Silent => Ok(()),
+            Step::Arrival { port, frame } => self.frame(alloc, policy, *port, frame.items(), text),
+        }
+    }
+
+    /// Writes the lines of a frame that comes by a port: those of its packet, or, where its headers
+    /// can't be read, a miss and its fault. From such a frame nothing is learned.
+    pub fn frame(
+        &mut self,
+        alloc: Global,
+        policy: &Policy,
+        port: u16,
+        frame: &[u8],
+        text: &mut String,
+    ) -> Result<(), NoMemory>
+        requires known { (runs : List TraceData) × Knows policy.now runs self.old }
+        ensures { (runs : List TraceData) → Knows policy.now runs self.old → OnOk result ((string_bytes text.new ≡ string_bytes text.old ++ text_of (arrival_said policy.now runs port (key_of port frame.now))) × Knows policy.now (arrival_after policy.now runs (key_of port frame.now)) self.new) }
+    {
+        match key_of(port, frame) {
+            Ok(key) => self.packet(alloc, policy, &key, text),
+            Err(fault) => {
+                push_line(text, &Line::Miss { port, reason: 0 })?;
+                let kind = fault_number(fault);
+                push_line(text, &Line::Malformed { kind })
+            }
         }
     }
 
@@ -124,5 +167,16 @@ impl World {
         };
         self.rules = rules(alloc, &self.tree)?;
         Ok(())
+    }
+}
+
+fn fault_number(fault: Malformed) -> u8
+    ensures { result ≡ fault_number fault }
+{
+    match fault {
+        Malformed::Ethernet => 1,
+        Malformed::Tag => 2,
+        Malformed::Ip => 3,
+        Malformed::Transport => 4,
     }
 }
