@@ -18,9 +18,9 @@ invariant_of-result c =
     } in
     run_lawful run (ap is_plain c.of.ensures ∙ c.requires.plain) c.requires.key c.requires.budget.few (c.new-3.ensures ∙ c.new-2.ensures.items)
     (whole_recorded c.args.policy.now c.of.result.value c.body.result.now c.args.budget c.args.key.now c.new-items.result.items c.record_policy.new.items.items c.new.result c.in_ok-ending.ending c.outcome_of.result
-    c.body.ensures c.new-items.ensures.items c.of.ensures c.new.ensures c.outcome_of.ensures c.in_ok-ending.ensures)
+    c.body.ensures.body c.new-items.ensures.items c.of.ensures c.new.ensures c.outcome_of.ensures c.in_ok-ending.ensures)
 
 pub returns-clause-whole : goal.returns-clause-whole
 returns-clause-whole c =
     whole_recorded c.args.policy.now c.args.policy.now c.body.result.now c.args.budget c.args.key.now c.new-items.result.items c.record_policy.new.items.items c.new.result c.in_ok-ending.ending
-    c.outcome_of.result c.body.ensures c.new-items.ensures.items refl c.new.ensures c.outcome_of.ensures c.in_ok-ending.ensures
+    c.outcome_of.result c.body.ensures.body c.new-items.ensures.items refl c.new.ensures c.outcome_of.ensures c.in_ok-ending.ensures
