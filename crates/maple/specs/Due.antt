@@ -7,7 +7,7 @@ use Rattle.maple.specs.declared.status.Status.TheVariants.{Done, Usage, Policy a
 use Rattle.maple.specs.Fronts.{IsFront}
 use Rattle.maple.specs.Lines.{policy_part, script_lines, first_number}
 use Rattle.policy_text.specs.PolicyText.{IsTextOf}
-use Rattle.maple.specs.declared.report.ScriptRefusal.{ScriptRefusal}
+use Rattle.report_text.specs.declared.line.ScriptRefusal.{ScriptRefusal}
 use Rattle.maple.specs.Running.{told_of}
 use Rattle.maple.specs.Statuses.{last_line}
 use Rattle.maple.specs.Steps.{refused_from}

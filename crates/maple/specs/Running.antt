@@ -2,11 +2,12 @@
 use Rattle.std.specs.Prelude.{ℕ, List, ◌++◌, Option, Some, None}
 use Rattle.policy_lang.specs.declared.Policy.{Policy}
 use Rattle.trace_tree.specs.declared.node.Trace.{Trace}
-use Rattle.maple.specs.declared.report.Line.TheVariants.{RefusedScript}
-use Rattle.maple.specs.declared.report.ScriptRefusal.{ScriptRefusal}
+use Rattle.report_text.specs.declared.line.Line.TheVariants.{RefusedScript}
+use Rattle.report_text.specs.declared.line.ScriptRefusal.{ScriptRefusal}
+use Rattle.report_text.specs.Report.{spelled}
 use Rattle.maple.specs.declared.status.Status.{Status}
 use Rattle.maple.specs.declared.status.Status.TheVariants.{Done, Script}
-use Rattle.maple.specs.Report.{report, spelled, text_of}
+use Rattle.maple.specs.Report.{report, text_of}
 use Rattle.maple.specs.Statuses.{last_line}
 use Rattle.maple.specs.Steps.{refused_from, steps_of}
 

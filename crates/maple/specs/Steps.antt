@@ -4,8 +4,8 @@ use Rattle.script_text.specs.declared.command.Command.{Command}
 use Rattle.script_text.specs.declared.command.Command.TheVariants.{Nothing, Packet, Frame}
 use Rattle.script_text.specs.Frames.{frame}
 use Rattle.script_text.specs.Grammar.{line_command}
-use Rattle.maple.specs.declared.report.ScriptRefusal.{ScriptRefusal}
-use Rattle.maple.specs.declared.report.ScriptRefusal.TheVariants.{Grammar, TooLong, Switch, Later}
+use Rattle.report_text.specs.declared.line.ScriptRefusal.{ScriptRefusal}
+use Rattle.report_text.specs.declared.line.ScriptRefusal.TheVariants.{Grammar, TooLong, Switch, Later}
 use Rattle.maple.specs.declared.step.Step.{Step}
 use Rattle.maple.specs.declared.step.StepStop.{StepStop}
 use Rattle.maple.specs.declared.step.StepStop.TheVariants.{Refused, NoMemory}

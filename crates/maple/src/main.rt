@@ -6,7 +6,6 @@ pub mod finish;
 pub mod input;
 pub mod lines;
 pub mod output;
-pub mod report;
 pub mod sim;
 pub mod status;
 pub mod step;

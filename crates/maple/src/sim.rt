@@ -4,19 +4,19 @@ ghost use Rattle.maple_io.specs.Counts.{HasRisen};
 ghost use Rattle.policy_lang.specs.Plain.{is_plain};
 ghost use Rattle.maple.specs.Ends.{Ends};
 ghost use Rattle.maple.specs.Lines.{ended_lines, without_end};
-ghost use Rattle.maple.specs.Report.{spelled};
 ghost use Rattle.maple.specs.Running.{due_of, told_of};
 ghost use Rattle.maple.specs.Steps.{refused_from};
-ghost use Rattle.maple.specs.declared.report.Line.{Line as LineOf};
+ghost use Rattle.report_text.specs.Report.{spelled};
+ghost use Rattle.report_text.specs.declared.line.Line.{Line as LineOf};
 
 use crate::finish::{finish, put_text};
 use crate::lines::{cut_line, without_end};
-use crate::report::{Line, ScriptRefusal, push_line};
 use crate::status::Status;
 use crate::step::{StepStop, step_of};
 use crate::world::World;
 use maple_io::Sink;
 use policy_lang::Policy;
+use report_text::{Line, ScriptRefusal, write_line};
 use std::alloc::Global;
 
 /// Runs the lines of a script under a plain policy, and writes the report and the last line. The
@@ -42,11 +42,11 @@ pub fn run_script<O: Sink>(
             Err(StepStop::Refused(kind)) => return refuse(alloc, output, number, kind),
             Err(StepStop::NoMemory) => return Status::NoMemory,
         };
-        let mut text = String::new(alloc);
+        let mut text = Vec::new(alloc);
         let Ok(()) = world.step(alloc, policy, &step, &mut text) else {
             return Status::NoMemory;
         };
-        match put_text(output, text.as_bytes(), Status::Done) {
+        match put_text(output, &text, Status::Done) {
             Status::Done => {}
             status => return status,
         }
@@ -60,9 +60,9 @@ pub fn run_script<O: Sink>(
 fn refuse<O: Sink>(alloc: Global, output: &mut O, line: u32, kind: ScriptRefusal) -> Status
     ensures { Ends (HasRisen (O.failed output.old) (O.failed output.new)) (O.taken output.old) (O.taken output.new) Status.Script (spelled (LineOf.RefusedScript line kind)) result }
 {
-    let mut text = String::new(alloc);
-    let Ok(()) = push_line(&mut text, &Line::RefusedScript { line, kind }) else {
+    let mut text = Vec::new(alloc);
+    let Ok(()) = write_line(&Line::RefusedScript { line, kind }, &mut text) else {
         return Status::NoMemory;
     };
-    put_text(output, text.as_bytes(), Status::Script)
+    put_text(output, &text, Status::Script)
 }

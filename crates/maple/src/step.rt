@@ -3,8 +3,8 @@ ghost use Rattle.std.specs.Prelude.{◌≡◌, IfErr, IfOk, Ok};
 ghost use Rattle.script_text.specs.Frames.{frame};
 ghost use Rattle.maple.specs.Steps.{IsStop, arrival, step_by, step_of};
 
-use crate::report::ScriptRefusal;
 use maple_base::{Bytes, NoMemory};
+use report_text::ScriptRefusal;
 use script_text::{Command, LineError, PacketSpec, frame_of, read_line};
 use std::alloc::Global;
 
