@@ -55,7 +55,7 @@ typed_by k frame p tagged f tag kind rest =
     let type : type_of frame ≡ k.dl_type = ap (λ t. number_at (cond t 16 12) 2 frame) tag ∙ kind in
     let long : is_length frame ≡ false = ap (λ n. nat_lt n 0x0600) type ∙ not_short k.dl_type 0x0600 f.low in
     let snap : has_snap frame ≡ false =
-        ap (λ t. t && nat_le 8 (length (payload frame)) && number_at 0 6 (payload frame) == 0xaaaa03000000 && nat_le 0x0600 (number_at 6 2 (payload frame))) long in
+    ap (λ t. t && nat_le 8 (length (payload frame)) && number_at 0 6 (payload frame) == 0xaaaa03000000 && nat_le 0x0600 (number_at 6 2 (payload frame))) long in
     let behind : payload frame ≡ p = ap (λ t. drop (cond t 16 12 + 2) frame) tag ∙ rest in
     record {
       kind = ap (λ t. cond t (number_at 6 2 (payload frame)) (cond (is_length frame) 0x05ff (type_of frame))) snap ∙ ap (λ t. cond t 0x05ff (type_of frame)) long ∙ type;
@@ -78,8 +78,8 @@ opened_plain k p f vlan =
       long = not_short (length frame) 14 (omega arith);
       whole = ap (λ t. t && nat_lt (length frame) 18) tag;
       link = link_same k.in_port (number_at 6 6 frame) k.dl_src (number_at 0 6 frame) k.dl_dst (cond (is_tagged frame) (number_at 14 2 frame % 2 ^ 12) 0xffff) k.dl_vlan
-      (cond (is_tagged frame) (number_at 14 2 frame / 2 ^ 13) 0) k.dl_pcp (dl_type_of frame) k.dl_type (number_back 6 k.dl_src f.src) (number_back 6 k.dl_dst f.dst)
-      (ap (λ t. cond t (number_at 14 2 frame % 2 ^ 12) 0xffff) tag ∙ sym vlan) (ap (λ t. cond t (number_at 14 2 frame / 2 ^ 13) 0) tag ∙ sym f.pcp) typed.kind;
+          (cond (is_tagged frame) (number_at 14 2 frame / 2 ^ 13) 0) k.dl_pcp (dl_type_of frame) k.dl_type (number_back 6 k.dl_src f.src) (number_back 6 k.dl_dst f.dst)
+          (ap (λ t. cond t (number_at 14 2 frame % 2 ^ 12) 0xffff) tag ∙ sym vlan) (ap (λ t. cond t (number_at 14 2 frame / 2 ^ 13) 0) tag ∙ sym f.pcp) typed.kind;
       kind = typed.kind;
       rest = typed.rest;
     }
@@ -95,8 +95,8 @@ opened_tagged k p f small =
       long = not_short (length frame) 14 (omega arith);
       whole = not_short (length frame) 18 (omega arith);
       link = link_same k.in_port (number_at 6 6 frame) k.dl_src (number_at 0 6 frame) k.dl_dst (number_at 14 2 frame % 2 ^ 12) k.dl_vlan (number_at 14 2 frame / 2 ^ 13) k.dl_pcp
-      (dl_type_of frame) k.dl_type (number_back 6 k.dl_src f.src) (number_back 6 k.dl_dst f.dst) (ap (λ n. n % 2 ^ 12) id ∙ mod-eq_of_lt small)
-      (ap (λ n. n / 2 ^ 13) id ∙ omega (arith, f.pcp)) typed.kind;
+          (dl_type_of frame) k.dl_type (number_back 6 k.dl_src f.src) (number_back 6 k.dl_dst f.dst) (ap (λ n. n % 2 ^ 12) id ∙ mod-eq_of_lt small)
+          (ap (λ n. n / 2 ^ 13) id ∙ omega (arith, f.pcp)) typed.kind;
       kind = typed.kind;
       rest = typed.rest;
     }

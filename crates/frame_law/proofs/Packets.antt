@@ -33,9 +33,9 @@ ip_back k total w segment f width long src dst =
     let room : nat_lt (length (segment_in packet)) (2 * width_in packet) ≡ false = ap (λ n. nat_lt (length segment) (2 * n)) wide ∙ not_short (length segment) (2 * w) long in
     let tos : 4 * (number_at 1 1 packet / 4) ≡ k.nw_tos = ap (λ n. 4 * (n / 4)) (number_back 1 k.nw_tos f.tos) ∙ omega (arith, f.even) in
     let key : with_packet (link_part k) packet ≡ k =
-        ip_same (link_part k) (4 * (number_at 1 1 packet / 4)) k.nw_tos (number_at 9 1 packet) k.nw_proto (number_at 12 4 packet) k.nw_src (number_at 16 4 packet) k.nw_dst
-        (number_at 0 (width_in packet) (segment_in packet)) k.tp_src (number_at (width_in packet) (width_in packet) (segment_in packet)) k.tp_dst tos proto
-        (number_back 4 k.nw_src f.src) (number_back 4 k.nw_dst f.dst) (ap (λ n. number_at 0 n segment) wide ∙ src) (ap (λ n. number_at n n segment) wide ∙ dst) in
+    ip_same (link_part k) (4 * (number_at 1 1 packet / 4)) k.nw_tos (number_at 9 1 packet) k.nw_proto (number_at 12 4 packet) k.nw_src (number_at 16 4 packet) k.nw_dst
+    (number_at 0 (width_in packet) (segment_in packet)) k.tp_src (number_at (width_in packet) (width_in packet) (segment_in packet)) k.tp_dst tos proto
+    (number_back 4 k.nw_src f.src) (number_back 4 k.nw_dst f.dst) (ap (λ n. number_at 0 n segment) wide ∙ src) (ap (λ n. number_at n n segment) wide ∙ dst) in
     ap (λ t. cond (not t) (Err Ip) (cond (nat_lt (length (segment_in packet)) (2 * width_in packet)) (Err Transport) (Ok (with_packet (link_part k) packet)))) head
     ∙ ap (λ t. cond t (Err Transport) (Ok (with_packet (link_part k) packet))) room
     ∙ ap Ok key
