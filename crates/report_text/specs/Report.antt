@@ -21,9 +21,9 @@ use Rattle.report_text.specs.declared.line.Learnt.TheVariants.{Learned, Known, L
 use Rattle.report_text.specs.declared.line.UpdateRefusal.{UpdateRefusal}
 use Rattle.report_text.specs.declared.line.UpdateRefusal.TheVariants.{UnknownTable, UnknownSwitch, PortRange, Full as full}
 use Rattle.report_text.specs.declared.line.PolicyRefusal.{PolicyRefusal}
-use Rattle.report_text.specs.declared.line.PolicyRefusal.TheVariants.{NotAscii, Token, Syntax, UnknownName, Twice as twice, TypeMismatch, NumberRange, Nesting, Nodes, TooLong}
+use Rattle.report_text.specs.declared.line.PolicyRefusal.TheVariants.{NotAscii, Token, Syntax, UnknownName, Twice as twice, TypeMismatch, NumberRange, Nesting, Nodes, TooLong, Later}
 use Rattle.report_text.specs.declared.line.ScriptRefusal.{ScriptRefusal}
-use Rattle.report_text.specs.declared.line.ScriptRefusal.TheVariants.{Grammar, TooLong as too_long, Switch}
+use Rattle.report_text.specs.declared.line.ScriptRefusal.TheVariants.{Grammar, TooLong as too_long, Switch, Later as later}
 
 -- one text and then another
 infixr 8 ◌&◌
@@ -138,11 +138,13 @@ spelled_policy NumberRange = codes "NumberRange"
 spelled_policy Nesting = codes "Nesting"
 spelled_policy Nodes = codes "Nodes"
 spelled_policy TooLong = codes "TooLong"
+spelled_policy Later = codes "Later"
 
 unfoldable pub spelled_script : ScriptRefusal → List ℕ
 spelled_script Grammar = codes "Grammar"
 spelled_script too_long = codes "TooLong"
 spelled_script Switch = codes "Switch"
+spelled_script later = codes "Later"
 
 -- a line, with its line feed
 abbrev pub spelled : Line → List ℕ

@@ -3,6 +3,8 @@
 
 mod line;
 mod match_text;
+#[cfg(test)]
+mod tests;
 mod writing;
 
 pub use line::{Learnt, Line, PolicyRefusal, ScriptRefusal, UpdateRefusal, Why};

@@ -183,6 +183,8 @@ pub enum PolicyRefusal {
     Nesting,
     Nodes,
     TooLong,
+    /// What this program can't do yet.
+    Later,
 }
 
 /// Why a line of a script was refused.
@@ -194,6 +196,8 @@ pub enum ScriptRefusal {
     TooLong,
     /// It names a place that isn't among the devices.
     Switch,
+    /// What this program can't do yet.
+    Later,
 }
 
 /// What was learned from a packet.
@@ -271,6 +275,7 @@ impl fmt::Display for PolicyRefusal {
             PolicyRefusal::Nesting => write!(f, "Nesting"),
             PolicyRefusal::Nodes => write!(f, "Nodes"),
             PolicyRefusal::TooLong => write!(f, "TooLong"),
+            PolicyRefusal::Later => write!(f, "Later"),
         }
     }
 }
@@ -287,6 +292,7 @@ impl fmt::Display for ScriptRefusal {
             ScriptRefusal::Grammar => write!(f, "Grammar"),
             ScriptRefusal::TooLong => write!(f, "TooLong"),
             ScriptRefusal::Switch => write!(f, "Switch"),
+            ScriptRefusal::Later => write!(f, "Later"),
         }
     }
 }

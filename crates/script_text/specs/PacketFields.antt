@@ -61,10 +61,11 @@ key_by port m =
       tp_dst = unwrap_or m.tp_dst 0;
     }
 
--- a packet that a line may have: its key is valid, its type is no length (IEEE 802.3, 3.2.6) and no tag, and ICMP's type and code are bytes (RFC 792)
+-- a packet that a line may have: its key is valid, a tag has priority 0, its type is no length (IEEE 802.3, 3.2.6) and no tag, and ICMP's type and
+-- code are bytes (RFC 792)
 abbrev pub is_packet : Key → Bool
 is_packet k =
-    valid_key k && nat_le 0x0600 k.dl_type && not (k.dl_type == 0x8100)
+    valid_key k && k.dl_pcp == 0 && nat_le 0x0600 k.dl_type && not (k.dl_type == 0x8100)
     && (not (k.nw_proto == 1) || (nat_lt k.tp_src 256 && nat_lt k.tp_dst 256))
 
 abbrev pub packet_of : Key → Option Key
