@@ -1,0 +1,9 @@
+pub mod FirstFaults
+pub mod Firsts
+pub mod LaidOut
+pub mod Onwards
+pub mod Order
+pub mod Parts
+pub mod Readings
+pub mod Steps
+pub mod WordFaults

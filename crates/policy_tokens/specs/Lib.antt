@@ -1,0 +1,10 @@
+pub mod Bytes
+pub mod Faults
+pub mod Kinds
+pub mod Laws
+pub mod Lexemes
+pub mod Places
+pub mod Reading
+pub mod Spellings
+pub mod Tokens
+pub mod Words
