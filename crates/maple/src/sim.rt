@@ -43,7 +43,7 @@ pub fn run_script<O: Sink>(
             Err(StepStop::NoMemory) => return Status::NoMemory,
         };
         let mut text = Vec::new(alloc);
-        let Ok(()) = world.step(alloc, policy, &step, &mut text) else {
+        let Ok(()) = world.step(alloc, policy, step, &mut text) else {
             return Status::NoMemory;
         };
         match put_text(output, &text, Status::Done) {

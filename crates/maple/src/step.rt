@@ -26,14 +26,6 @@ pub enum StepStop {
     NoMemory,
 }
 
-impl From<NoMemory> for StepStop {
-    fn from(_: NoMemory) -> StepStop
-        ensures { result ≡ StepStop.NoMemory }
-    {
-        StepStop::NoMemory
-    }
-}
-
 /// What a line of a script has the program do: the frame of a `packet` line or of a `frame` line
 /// comes to the switch.
 ///
@@ -60,7 +52,9 @@ fn step_by(alloc: Global, command: Command) -> Result<Step, StepStop>
     match command {
         Command::Nothing => Ok(Step::Silent),
         Command::Packet(place, packet) => {
-            let frame = frame(alloc, &packet)?;
+            let Ok(frame) = frame(alloc, &packet) else {
+                return Err(StepStop::NoMemory);
+            };
             arrival(place, packet.key().in_port, frame)
         }
         Command::Frame(place, port, frame) => arrival(place, port, frame),

@@ -60,15 +60,15 @@ impl World {
         &mut self,
         alloc: Global,
         policy: &Policy,
-        step: &Step,
+        step: Step,
         text: &mut Vec<u8>,
     ) -> Result<(), NoMemory>
         requires known { (runs : List TraceData) × Knows policy.now runs self.old }
-        ensures { (runs : List TraceData) → Knows policy.now runs self.old → OnOk result ((text.new.items ≡ text.old.items ++ text_of (step_said policy.now runs step.now)) × Knows policy.now (step_after policy.now runs step.now) self.new) }
+        ensures { (runs : List TraceData) → Knows policy.now runs self.old → OnOk result ((text.new.items ≡ text.old.items ++ text_of (step_said policy.now runs step)) × Knows policy.now (step_after policy.now runs step) self.new) }
     {
         match step {
             Step::Silent => Ok(()),
-            Step::Arrival { port, frame } => self.frame(alloc, policy, *port, frame.items(), text),
+            Step::Arrival { port, frame } => self.frame(alloc, policy, port, frame.items(), text),
         }
     }
 
