@@ -1,4 +1,4 @@
-use Rattle.std.proofs.Common.{◌≡◌, ◌+◌, inl, inr, length, ap, ◌∙◌}
+use Rattle.std.proofs.Common.{◌≡◌, inl, inr, length, ap, ◌∙◌}
 use Rattle.maple.specs.Lines.{ended_lines, policy_part}
 use Rattle.maple.proofs.top.run_text.Goals as goal
 
