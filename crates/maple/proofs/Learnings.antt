@@ -40,11 +40,13 @@ use Rattle.rule_builder.proofs.Choice.{choice_law, table_law}
 use Rattle.rule_builder.proofs.Counted.{needed_count}
 use Rattle.rule_builder.proofs.Spans.{barrier_least, none_in, the_one}
 use Rattle.maple.specs.declared.world.World.{World}
-use Rattle.maple.specs.declared.report.Line.TheVariants.{Hit, Miss, Answer, SpentRun}
-use Rattle.maple.specs.declared.report.Learnt.TheVariants.{Learned, Rows}
+use Rattle.packet_key.specs.declared.malformed.Malformed.{Malformed as Fault}
+use Rattle.report_text.specs.declared.line.Line.TheVariants.{Hit, Miss, Malformed, Answer, Spent as SpentRun}
+use Rattle.report_text.specs.declared.line.Learnt.TheVariants.{Learned, Rows}
+use Rattle.report_text.specs.Report.{spelled}
 use Rattle.maple.specs.Choosing.{NoneFits, table_of}
 use Rattle.maple.specs.Knowing.{IsOwn, AreOwn, Knows}
-use Rattle.maple.specs.Report.{decided, outcome_actions, plain, run_of, with_run, need, reason, answered, said, learned, after, spelled, text_of}
+use Rattle.maple.specs.Report.{decided, outcome_actions, fault_number, plain, run_of, with_run, need, reason, answered, said, learned, after, arrival_said, arrival_after, text_of}
 
 -- no more runs than rules
 mutual
@@ -157,6 +159,16 @@ clashes_none policy (y ∷ ys) k h e =
     ))
     (cases_Bool (meets k y.items))
 
+-- a frame whose headers can't be read is a miss and its fault
+pub malformed_step : (policy : Policy) (runs : List Trace) (world : World) → Knows policy runs world → (port n : ℕ) (fault : Fault) (read : Result Key Fault) → Err fault ≡ read → n ≡ fault_number fault
+    → (old mid new : List ℕ) → mid ≡ old ++ spelled (Miss 1 port 0) → new ≡ mid ++ spelled (Malformed 1 n)
+    → (new ≡ old ++ text_of (arrival_said policy runs port read)) × Knows policy (arrival_after policy runs read) world
+malformed_step policy runs world knows port n fault read is e old mid new first then' =
+    let tail : spelled (Malformed 1 n) ≡ spelled (Malformed 1 (fault_number fault)) ++ [] = ap (λ m. spelled (Malformed 1 m)) e ∙ sym (append-nil (spelled (Malformed 1 (fault_number fault)))) in
+    let both : new ≡ old ++ (spelled (Miss 1 port 0) ++ spelled (Malformed 1 n)) = then' ∙ ap (λ t. t ++ spelled (Malformed 1 n)) first ∙ append_assoc old (spelled (Miss 1 port 0)) (spelled (Malformed 1 n)) in
+    subst (λ r. (new ≡ old ++ text_of (arrival_said policy runs port r)) × Knows policy (arrival_after policy runs r) world) is
+    (both ∙ ap (λ t. old ++ (spelled (Miss 1 port 0) ++ t)) tail, knows)
+
 module _ (policy : Policy) (runs : List Trace) (world : World) (knows : Knows policy runs world) (k : Key) (valid : valid_key k ≡ true) where
   admitted : AreAdmitted Empty runs
   admitted = scratch_apart runs knows.apart
@@ -171,7 +183,7 @@ module _ (policy : Policy) (runs : List Trace) (world : World) (knows : Knows po
   evaluated = ends_as_evaluated policy 4096 blank_value 1 k knows.plainly valid
 
   -- a fact that is chosen does what plain evaluation decides
-  pub hit_step : (r : Rule) (actions : List ℕ) (old new : List ℕ) → Contains world.rules.facts r → MayChoose (table_of world.rules) k r → r.actions ≡ actions → new ≡ old ++ spelled (Hit k.in_port actions)
+  pub hit_step : (r : Rule) (actions : List ℕ) (old new : List ℕ) → Contains world.rules.facts r → MayChoose (table_of world.rules) k r → r.actions ≡ actions → new ≡ old ++ spelled (Hit 1 k.in_port actions)
       → (new ≡ old ++ text_of (said policy runs k (found runs k))) × Knows policy (after policy runs k (found runs k)) world
   hit_step r actions old new c may does e =
       let inside = Contains-permutation world.rules.facts (facts_of (scratch runs) anything 0) r (IsPermutation-sym (facts_of (scratch runs) anything 0) world.rules.facts knows.facts) c in
@@ -179,7 +191,7 @@ module _ (policy : Policy) (runs : List Trace) (world : World) (knows : Knows po
       let d : plain policy k ≡ Decided f.0.decision = sym evaluated ∙ decides_alike policy runs k f.0 knows.own f.1 in
       let begins : begins_at 1 (Decided f.0.decision) ≡ true = ap (begins_at 1) (sym d) ∙ begins_here policy 4096 blank_value 1 k valid in
       let acts : actions ≡ outcome_actions (plain policy k) = sym does ∙ f.2.does ∙ fact_here f.0.decision begins ∙ sym (ap outcome_actions d) in
-      let line : new ≡ old ++ text_of (said policy runs k (Some f.0)) = e ∙ ap (λ x. old ++ spelled (Hit k.in_port x)) acts ∙ ap (λ t. old ++ t) (sym (append-nil (spelled (Hit k.in_port (outcome_actions (plain policy k)))))) in
+      let line : new ≡ old ++ text_of (said policy runs k (Some f.0)) = e ∙ ap (λ x. old ++ spelled (Hit 1 k.in_port x)) acts ∙ ap (λ t. old ++ t) (sym (append-nil (spelled (Hit 1 k.in_port (outcome_actions (plain policy k)))))) in
       subst (λ o. (new ≡ old ++ text_of (said policy runs k o)) × Knows policy (after policy runs k o) world) (sym f.1) (line, knows)
 
   -- a chosen barrier is a miss with reason 1
@@ -193,12 +205,12 @@ module _ (policy : Policy) (runs : List Trace) (world : World) (knows : Knows po
   unfit_miss h = (chooses.unfit (table_of world.rules) holds h, sym (ap (λ b. cond b 1 0) (none_any k (rules_of (scratch runs)) (λ r c. h r (holds.all r c)))))
 
   -- a miss and its answer
-  pub miss_step : (world' : World) (seen : ℕ) (old mid new : List ℕ) → (found runs k ≡ None) × (seen ≡ reason policy runs k) → mid ≡ old ++ spelled (Miss k.in_port seen)
+  pub miss_step : (world' : World) (seen : ℕ) (old mid new : List ℕ) → (found runs k ≡ None) × (seen ≡ reason policy runs k) → mid ≡ old ++ spelled (Miss 1 k.in_port seen)
       → (new ≡ mid ++ text_of (answered policy runs k (plain policy k))) × Knows policy (learned policy runs k (plain policy k)) world'
       → (new ≡ old ++ text_of (said policy runs k (found runs k))) × Knows policy (after policy runs k (found runs k)) world'
   miss_step world' seen old mid new miss e h =
-      let front : mid ≡ old ++ spelled (Miss k.in_port (reason policy runs k)) = e ∙ ap (λ n. old ++ spelled (Miss k.in_port n)) miss.1 in
-      let line : new ≡ old ++ text_of (said policy runs k None) = h.0 ∙ ap (λ t. t ++ text_of (answered policy runs k (plain policy k))) front ∙ append_assoc old (spelled (Miss k.in_port (reason policy runs k))) (text_of (answered policy runs k (plain policy k))) in
+      let front : mid ≡ old ++ spelled (Miss 1 k.in_port (reason policy runs k)) = e ∙ ap (λ n. old ++ spelled (Miss 1 k.in_port n)) miss.1 in
+      let line : new ≡ old ++ text_of (said policy runs k None) = h.0 ∙ ap (λ t. t ++ text_of (answered policy runs k (plain policy k))) front ∙ append_assoc old (spelled (Miss 1 k.in_port (reason policy runs k))) (text_of (answered policy runs k (plain policy k))) in
       subst (λ o. (new ≡ old ++ text_of (said policy runs k o)) × Knows policy (after policy runs k o) world') (sym miss.0) (line, h.1)
 
   pub ordered : IsOrdered world.tree
@@ -230,29 +242,29 @@ module _ (policy : Policy) (runs : List Trace) (world : World) (knows : Knows po
     pub grows : insert next.items (leaf_of next) world.tree ≡ scratch (with_run policy runs k)
     grows = ap (insert next.items (leaf_of next)) knows.tree ∙ sym (grown_push runs Empty next)
 
-    pub spent_step : (old new : List ℕ) → plain policy k ≡ Spent → new ≡ old ++ spelled (SpentRun k.in_port)
+    pub spent_step : (old new : List ℕ) → plain policy k ≡ Spent → new ≡ old ++ spelled (SpentRun 1 k.in_port)
         → (new ≡ old ++ text_of (answered policy runs k (plain policy k))) × Knows policy (learned policy runs k (plain policy k)) world
     spent_step old new o e =
         subst (λ x. (new ≡ old ++ text_of (answered policy runs k x)) × Knows policy (learned policy runs k x) world) (sym o)
-        (e ∙ ap (λ t. old ++ t) (sym (append-nil (spelled (SpentRun k.in_port)))), knows)
+        (e ∙ ap (λ t. old ++ t) (sym (append-nil (spelled (SpentRun 1 k.in_port)))), knows)
 
     module _ (d : Decision) (o : plain policy k ≡ Decided d) where
       abbrev Answered : List ℕ → List ℕ → World → Type 0
       Answered old new world' = (new ≡ old ++ text_of (answered policy runs k (plain policy k))) × Knows policy (learned policy runs k (plain policy k)) world'
 
-      pub full_step : (old new : List ℕ) → nat_lt 1024 (need policy runs k) ≡ true → new ≡ old ++ spelled (Answer k.in_port d (Rows (need policy runs k) 1024)) → Answered old new world
+      pub full_step : (old new : List ℕ) → nat_lt 1024 (need policy runs k) ≡ true → new ≡ old ++ spelled (Answer 1 k.in_port d (Rows (need policy runs k) 1024)) → Answered old new world
       full_step old new lacks e =
           subst (λ x. (new ≡ old ++ text_of (answered policy runs k x)) × Knows policy (learned policy runs k x) world) (sym o)
-          (subst (λ b. (new ≡ old ++ text_of (Answer k.in_port d (cond b (Rows (need policy runs k) 1024) Learned) ∷ [])) × Knows policy (cond b runs (with_run policy runs k)) world) (sym lacks)
-          (e ∙ ap (λ t. old ++ t) (sym (append-nil (spelled (Answer k.in_port d (Rows (need policy runs k) 1024))))), knows))
+          (subst (λ b. (new ≡ old ++ text_of (Answer 1 k.in_port d (cond b (Rows (need policy runs k) 1024) Learned) ∷ [])) × Knows policy (cond b runs (with_run policy runs k)) world) (sym lacks)
+          (e ∙ ap (λ t. old ++ t) (sym (append-nil (spelled (Answer 1 k.in_port d (Rows (need policy runs k) 1024))))), knows))
 
-      pub learned_step : (world' : World) (old new : List ℕ) → nat_lt 1024 (need policy runs k) ≡ false → new ≡ old ++ spelled (Answer k.in_port d Learned)
+      pub learned_step : (world' : World) (old new : List ℕ) → nat_lt 1024 (need policy runs k) ≡ false → new ≡ old ++ spelled (Answer 1 k.in_port d Learned)
           → world'.tree ≡ insert next.items (leaf_of next) world.tree → IsPermutation (facts_of world'.tree anything 0) world'.rules.facts → IsPermutation (barriers_of world'.tree anything 0) world'.rules.barriers
           → Answered old new world'
       learned_step world' old new fits_in e is facts barriers =
           subst (λ x. (new ≡ old ++ text_of (answered policy runs k x)) × Knows policy (learned policy runs k x) world') (sym o)
-          (subst (λ b. (new ≡ old ++ text_of (Answer k.in_port d (cond b (Rows (need policy runs k) 1024) Learned) ∷ [])) × Knows policy (cond b runs (with_run policy runs k)) world') (sym fits_in) (
-            e ∙ ap (λ t. old ++ t) (sym (append-nil (spelled (Answer k.in_port d Learned)))),
+          (subst (λ b. (new ≡ old ++ text_of (Answer 1 k.in_port d (cond b (Rows (need policy runs k) 1024) Learned) ∷ [])) × Knows policy (cond b runs (with_run policy runs k)) world') (sym fits_in) (
+            e ∙ ap (λ t. old ++ t) (sym (append-nil (spelled (Answer 1 k.in_port d Learned)))),
             record {
               plainly = knows.plainly;
               own = own_push policy runs next knows.own (record { key = k; valid = valid; items = refl; decided = evaluated ∙ o ∙ ap Decided (sym same) });

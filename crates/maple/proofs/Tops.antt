@@ -1,16 +1,15 @@
 -- What follows for each status from the way in which a run goes.
-use Rattle.std.proofs.Common.{◌≡◌, ℕ, ◌<◌, Bool, true, false, cond, List, [], ◌++◌, length, Option, Some, None, refl, sym, ap, ◌∙◌, subst, inl, inr, ⊎_elim, arith}
+use Rattle.std.proofs.Common.{◌≡◌, ℕ, ◌<◌, List, [], length, Option, Some, None, refl, sym, ◌∙◌, subst, inl, inr, arith}
 use Rattle.std.specs.Prelude.{IfSome}
 use Rattle.std.specs.Io.KnownBytes.{Appends}
-use Rattle.std.proofs.lemmas.Bool.{cases_Bool}
 use Rattle.policy_lang.specs.declared.Policy.{Policy}
+use Rattle.report_text.specs.declared.line.ScriptRefusal.{ScriptRefusal}
 use Rattle.maple.specs.declared.status.Status.{Status}
 use Rattle.maple.specs.declared.status.Status.TheVariants.{Done, Usage, Policy as PolicyRefused, Script, ReadFault, WriteFault, NoMemory, TooLong}
-use Rattle.maple.specs.Due.{AreSim, IsFit, HasPolicy, IsDue, IsOrFails, IsText, Reports, WritesSome, report_text, last_line}
+use Rattle.maple.specs.Due.{AreSim, IsFit, HasPolicy, IsScript, IsNoScript, IsDue, IsOrFails, IsText, Reports, WritesSome, refused, report_text}
 use Rattle.maple.specs.Ends.{Ends, IsGiven, WritesFront}
-use Rattle.maple.specs.Lines.{script_lines}
-use Rattle.maple.specs.PacketLine.{all_packets}
-use Rattle.maple.specs.Running.{due_of, told_of}
+use Rattle.maple.specs.Running.{due_of}
+use Rattle.maple.specs.Statuses.{last_line}
 use Rattle.maple.specs.Runs.{IsRunOf, RunsText, refused_words, failed_read, read_too_long, lacked_memory, ran}
 
 given_is : (risen : Type 0) (old new : Option (List ℕ)) (due : Status) (text : List ℕ) (s : Status) → IsGiven s → Ends risen old new due text s → (s ≡ due) × Appends old new text
@@ -26,21 +25,17 @@ given_is risen old new due text TooLong h e = e
 -- what a run of a text that ended with its own status is due and wrote
 abbrev RanAs : Option (List ℕ) → Option (List ℕ) → List ℕ → Status → Type 0
 RanAs old new input PolicyRefused = ((policy : Policy) → ¬ (HasPolicy policy input)) × Appends old new (last_line PolicyRefused)
-RanAs old new input Script = ((policy : Policy) × HasPolicy policy input × Appends old new (report_text policy input ++ last_line Script)) × (all_packets (script_lines input) ≡ false)
-RanAs old new input Done = ((policy : Policy) × HasPolicy policy input × Appends old new (report_text policy input ++ last_line Done)) × (all_packets (script_lines input) ≡ true)
+RanAs old new input Script = Reports old new input × IsNoScript input
+RanAs old new input Done = Reports old new input × IsScript input
 RanAs old new input s = ⊥
 
 ran_as : (risen : Type 0) (old new : Option (List ℕ)) (input : List ℕ) (s : Status) → IsGiven s → RunsText risen old new input s → RanAs old new input s
 ran_as risen old new input s h (inl (policy, has, e)) =
-    let g = given_is risen old new (due_of (script_lines input)) (told_of policy [] (script_lines input)) s h e in
-    ⊎_elim
-    (λ t.
-    let d : s ≡ Done = g.0 ∙ ap (λ b. cond b Done Script) t in
-    subst (RanAs old new input) (sym d) ((policy, has, subst (Appends old new) (ap (λ b. report_text policy input ++ last_line (cond b Done Script)) t) g.1), t))
-    (λ f.
-    let d : s ≡ Script = g.0 ∙ ap (λ b. cond b Done Script) f in
-    subst (RanAs old new input) (sym d) ((policy, has, subst (Appends old new) (ap (λ b. report_text policy input ++ last_line (cond b Done Script)) f) g.1), f))
-    (cases_Bool (all_packets (script_lines input)))
+    let g = given_is risen old new (due_of (refused input)) (report_text policy input) s h e in ran_by (refused input) refl g.0 g.1
+  where
+    ran_by : (o : Option (ℕ × ScriptRefusal)) → refused input ≡ o → s ≡ due_of o → Appends old new (report_text policy input) → RanAs old new input s
+    ran_by None is d a = subst (RanAs old new input) (sym d) ((policy, has, a), is)
+    ran_by (Some r) is d a = subst (RanAs old new input) (sym d) ((policy, has, a), (r, is))
 ran_as risen old new input s h (inr (inl (n, e))) =
     let g = given_is risen old new PolicyRefused (last_line PolicyRefused) s h e in subst (RanAs old new input) (sym g.0) (n, g.1)
 ran_as risen old new input s h (inr (inr (e, a))) = absurd (subst IsGiven e h)
@@ -72,13 +67,13 @@ module _ (left rest : Option (List ℕ)) (unread risen : Type 0) (old new : Opti
   pub script_due : Run Script → IfSome left (λ bytes. IsDue Script words bytes)
   script_due h = if_told left _ (λ bytes is. let r = ran_whole Script tt (λ e. cc) (λ e. cc) (λ e. cc) h bytes is in (r.0, r.1, (r.2.0.0, r.2.0.1), r.2.1))
 
-  pub script_told : Run Script → IfSome left (λ bytes. Reports old new Script bytes)
+  pub script_told : Run Script → IfSome left (λ bytes. Reports old new bytes)
   script_told h = if_told left _ (λ bytes is. (ran_whole Script tt (λ e. cc) (λ e. cc) (λ e. cc) h bytes is).2.0)
 
   pub done_due : Run Done → IfSome left (λ bytes. IsDue Done words bytes)
   done_due h = if_told left _ (λ bytes is. let r = ran_whole Done tt (λ e. cc) (λ e. cc) (λ e. cc) h bytes is in (r.0, r.1, (r.2.0.0, r.2.0.1), r.2.1))
 
-  pub done_told : Run Done → IfSome left (λ bytes. Reports old new Done bytes)
+  pub done_told : Run Done → IfSome left (λ bytes. Reports old new bytes)
   done_told h = if_told left _ (λ bytes is. (ran_whole Done tt (λ e. cc) (λ e. cc) (λ e. cc) h bytes is).2.0)
 
   ran_due : (s : Status) (bytes : List ℕ) → AreSim words → IsFit bytes → RanAs old new bytes s → IsDue s words bytes
@@ -122,11 +117,11 @@ module _ (left rest : Option (List ℕ)) (unread risen : Type 0) (old new : Opti
   due_once bytes Script TooLong d e = absurd (omega (arith, d.1, e.1))
   due_once bytes Script PolicyRefused d e = absurd (e.2 d.2.0 d.2.1)
   due_once bytes Script Script d e = refl
-  due_once bytes Script Done d e = absurd (let f = sym d.3 ∙ e.3 in cc)
+  due_once bytes Script Done (w, f, p, (r, d)) e = absurd (let g = sym d ∙ e.3 in cc)
   due_once bytes Done Usage d e = absurd (e d.0)
   due_once bytes Done TooLong d e = absurd (omega (arith, d.1, e.1))
   due_once bytes Done PolicyRefused d e = absurd (e.2 d.2.0 d.2.1)
-  due_once bytes Done Script d e = absurd (let f = sym d.3 ∙ e.3 in cc)
+  due_once bytes Done Script d (w, f, p, (r, e)) = absurd (let g = sym d.3 ∙ e in cc)
   due_once bytes Done Done d e = refl
   due_once bytes ReadFault t d e = absurd d
   due_once bytes WriteFault t d e = absurd d
@@ -151,9 +146,9 @@ module _ (left rest : Option (List ℕ)) (unread risen : Type 0) (old new : Opti
   in_front : (bytes : List ℕ) (status : Status) (text : List ℕ) → IsText unread status words bytes text → WritesFront old new text → WritesSome unread words bytes old new
   in_front bytes status text t (front, is, a) = (front, (status, text, t, is), a)
 
-  policy_text : (bytes : List ℕ) (policy : Policy) → AreSim words → IsFit bytes → HasPolicy policy bytes → (b : Bool) → all_packets (script_lines bytes) ≡ b → IsText unread (cond b Done Script) words bytes (report_text policy bytes ++ last_line (cond b Done Script))
-  policy_text bytes policy w f h true e = ((w, f, (policy, h), e), (policy, h, refl))
-  policy_text bytes policy w f h false e = ((w, f, (policy, h), e), (policy, h, refl))
+  policy_text : (bytes : List ℕ) (policy : Policy) → AreSim words → IsFit bytes → HasPolicy policy bytes → (o : Option (ℕ × ScriptRefusal)) → refused bytes ≡ o → IsText unread (due_of o) words bytes (report_text policy bytes)
+  policy_text bytes policy w f h None e = ((w, f, (policy, h), e), (policy, h, refl))
+  policy_text bytes policy w f h (Some r) e = ((w, f, (policy, h), (r, e)), (policy, h, refl))
 
   front_of : (s : Status) → ((due : Status) (text : List ℕ) → Ends risen old new due text s → WritesFront old new text) → Run s → (bytes : List ℕ) → left ≡ Some bytes → WritesSome unread words bytes old new
   front_of s f (refused_words n e) bytes is = in_front bytes Usage (last_line Usage) (n, refl) (f Usage (last_line Usage) e)
@@ -167,8 +162,7 @@ module _ (left rest : Option (List ℕ)) (unread risen : Type 0) (old new : Opti
     where
       run_front : (bytes : List ℕ) → IsFit bytes → AreSim words → RunsText risen old new bytes s → WritesSome unread words bytes old new
       run_front bytes fit w (inl (policy, has, e)) =
-          in_front bytes (due_of (script_lines bytes)) (told_of policy [] (script_lines bytes)) (policy_text bytes policy w fit has (all_packets (script_lines bytes)) refl)
-          (f (due_of (script_lines bytes)) (told_of policy [] (script_lines bytes)) e)
+          in_front bytes (due_of (refused bytes)) (report_text policy bytes) (policy_text bytes policy w fit has (refused bytes) refl) (f (due_of (refused bytes)) (report_text policy bytes) e)
       run_front bytes fit w (inr (inl (n, e))) = in_front bytes PolicyRefused (last_line PolicyRefused) ((w, fit, n), refl) (f PolicyRefused (last_line PolicyRefused) e)
       run_front bytes fit w (inr (inr (e, a))) = in_front bytes NoMemory [] refl ([], ([], refl), a)
 

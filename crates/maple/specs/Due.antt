@@ -1,14 +1,16 @@
 -- Which status a run of the program is due, and what it writes.
-use Rattle.std.specs.Prelude.{◌≡◌, ◌⊎◌, ℕ, ◌<◌, ◌≤◌, false, List, [], ◌∷◌, ◌++◌, length, IsTrue, Option, codes}
+use Rattle.std.specs.Prelude.{◌≡◌, ◌⊎◌, ℕ, ◌<◌, ◌≤◌, List, [], ◌∷◌, length, Option, Some, None, codes}
 use Rattle.std.specs.Io.KnownBytes.{Appends}
 use Rattle.policy_lang.specs.declared.Policy.{Policy}
 use Rattle.maple.specs.declared.status.Status.{Status}
 use Rattle.maple.specs.declared.status.Status.TheVariants.{Done, Usage, Policy as PolicyRefused, Script, ReadFault, WriteFault, NoMemory, TooLong}
 use Rattle.maple.specs.Fronts.{IsFront}
-use Rattle.maple.specs.Lines.{policy_part, script_lines}
+use Rattle.maple.specs.Lines.{policy_part, script_lines, first_number}
 use Rattle.policy_text.specs.PolicyText.{IsTextOf}
-use Rattle.maple.specs.PacketLine.{packets_in, all_packets}
-use Rattle.maple.specs.Report.{report, text_of}
+use Rattle.report_text.specs.declared.line.ScriptRefusal.{ScriptRefusal}
+use Rattle.maple.specs.Running.{told_of}
+use Rattle.maple.specs.Statuses.{last_line}
+use Rattle.maple.specs.Steps.{refused_from}
 
 -- the words are the one word `sim`
 abbrev pub AreSim : List (List ℕ) → Type 0
@@ -22,28 +24,21 @@ IsFit input = length input ≤ 67108864
 abbrev pub HasPolicy : Policy → List ℕ → Type 0
 HasPolicy policy input = IsTextOf policy (policy_part input)
 
--- the line that each status writes last
-abbrev pub last_line : Status → List ℕ
-last_line Done = codes "end\n"
-last_line Usage = codes "refused usage\n"
-last_line PolicyRefused = codes "refused policy\n"
-last_line Script = codes "refused script\n"
-last_line ReadFault = codes "refused read\n"
-last_line WriteFault = []
-last_line NoMemory = []
-last_line TooLong = codes "refused input\n"
+-- the number of the first refused line of the script among the lines of the input, and why it is refused
+abbrev pub refused : List ℕ → Option (ℕ × ScriptRefusal)
+refused input = refused_from (first_number input) (script_lines input)
 
--- each line of the script is a packet line
+-- no line of the script is refused
 abbrev pub IsScript : List ℕ → Type 0
-IsScript input = IsTrue (all_packets (script_lines input))
+IsScript input = refused input ≡ None
 
--- some line of the script is no packet line
+-- some line of the script is refused
 abbrev pub IsNoScript : List ℕ → Type 0
-IsNoScript input = all_packets (script_lines input) ≡ false
+IsNoScript input = (r : ℕ × ScriptRefusal) × (refused input ≡ Some r)
 
--- the report of the packet lines ahead of the first line that is none
+-- the report of the script ahead of its first refused line, and the last line: that of the refusal, or of a run that is done
 abbrev pub report_text : Policy → List ℕ → List ℕ
-report_text policy input = text_of (report policy [] (packets_in (script_lines input)))
+report_text policy input = told_of policy [] (first_number input) (script_lines input)
 
 -- the status that these words and this input are due where no device fails and memory is left: words first, then length, policy and script
 abbrev pub IsDue : Status → List (List ℕ) → List ℕ → Type 0
@@ -69,8 +64,8 @@ abbrev pub IsText : Type 0 → Status → List (List ℕ) → List ℕ → List 
 IsText risen Usage words input text = IsDue Usage words input × (text ≡ last_line Usage)
 IsText risen TooLong words input text = IsDue TooLong words input × (text ≡ last_line TooLong)
 IsText risen PolicyRefused words input text = IsDue PolicyRefused words input × (text ≡ last_line PolicyRefused)
-IsText risen Script words input text = IsDue Script words input × ((policy : Policy) × HasPolicy policy input × (text ≡ report_text policy input ++ last_line Script))
-IsText risen Done words input text = IsDue Done words input × ((policy : Policy) × HasPolicy policy input × (text ≡ report_text policy input ++ last_line Done))
+IsText risen Script words input text = IsDue Script words input × ((policy : Policy) × HasPolicy policy input × (text ≡ report_text policy input))
+IsText risen Done words input text = IsDue Done words input × ((policy : Policy) × HasPolicy policy input × (text ≡ report_text policy input))
 IsText risen ReadFault words input text = AreSim words × risen × (text ≡ last_line ReadFault)
 IsText risen WriteFault words input text = text ≡ []
 IsText risen NoMemory words input text = text ≡ []
@@ -79,9 +74,9 @@ IsText risen NoMemory words input text = text ≡ []
 abbrev pub IsFrontOfText : Type 0 → List (List ℕ) → List ℕ → List ℕ → Type 0
 IsFrontOfText risen words input front = (status : Status) × (text : List ℕ) × IsText risen status words input text × IsFront front text
 
--- the report of the input's policy and script was written, and the last line of a status
-abbrev pub Reports : Option (List ℕ) → Option (List ℕ) → Status → List ℕ → Type 0
-Reports old new status input = (policy : Policy) × HasPolicy policy input × Appends old new (report_text policy input ++ last_line status)
+-- the report of the input's policy and script was written, with its last line
+abbrev pub Reports : Option (List ℕ) → Option (List ℕ) → List ℕ → Type 0
+Reports old new input = (policy : Policy) × HasPolicy policy input × Appends old new (report_text policy input)
 
 -- a front of what some run on this input writes was written
 abbrev pub WritesSome : Type 0 → List (List ℕ) → List ℕ → Option (List ℕ) → Option (List ℕ) → Type 0

@@ -4,8 +4,8 @@ pub mod Ends
 pub mod Fronts
 pub mod Knowing
 pub mod Lines
-pub mod PacketLine
 pub mod Report
 pub mod Running
 pub mod Runs
 pub mod Statuses
+pub mod Steps

@@ -1,5 +1,5 @@
 -- The lines of a text, and the two parts of an input.
-use Rattle.std.specs.Prelude.{ℕ, ◌+◌, Bool, ◌==◌, if◌then◌else◌, map, List, [], ◌∷◌, codes}
+use Rattle.std.specs.Prelude.{ℕ, ◌+◌, Bool, ◌==◌, if◌then◌else◌, map, List, [], ◌∷◌, length, codes}
 use Rattle.std.specs.List.{concat}
 use Rattle.std.specs.Str.{bytes_eq}
 
@@ -47,3 +47,7 @@ policy_part input = concat (ahead_of_mark (ended_lines input))
 -- the lines of the script: those behind that line
 abbrev pub script_lines : List ℕ → List (List ℕ)
 script_lines input = map without_end (behind_mark (ended_lines input))
+
+-- the number of the first of these among the lines of the input, from 1 on: the policy's lines and that line come first
+abbrev pub first_number : List ℕ → ℕ
+first_number input = length (ended_lines (policy_part input)) + 2

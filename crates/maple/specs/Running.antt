@@ -1,17 +1,26 @@
 -- What a script is due, and what is told of it.
-use Rattle.std.specs.Prelude.{ℕ, if◌then◌else◌, List, ◌++◌}
+use Rattle.std.specs.Prelude.{ℕ, List, ◌++◌, Option, Some, None}
 use Rattle.policy_lang.specs.declared.Policy.{Policy}
 use Rattle.trace_tree.specs.declared.node.Trace.{Trace}
+use Rattle.report_text.specs.declared.line.Line.TheVariants.{RefusedScript}
+use Rattle.report_text.specs.declared.line.ScriptRefusal.{ScriptRefusal}
+use Rattle.report_text.specs.Report.{spelled}
 use Rattle.maple.specs.declared.status.Status.{Status}
 use Rattle.maple.specs.declared.status.Status.TheVariants.{Done, Script}
-use Rattle.maple.specs.Due.{last_line}
-use Rattle.maple.specs.PacketLine.{packets_in, all_packets}
 use Rattle.maple.specs.Report.{report, text_of}
+use Rattle.maple.specs.Statuses.{last_line}
+use Rattle.maple.specs.Steps.{refused_from, steps_of}
 
--- the status that lines are due
-abbrev pub due_of : List (List ℕ) → Status
-due_of lines = if all_packets lines then Done else Script
+-- the status that a script is due by its first refused line
+abbrev pub due_of : Option (ℕ × ScriptRefusal) → Status
+due_of None = Done
+due_of (Some r) = Script
 
--- the report of the packets ahead of the first line that is no packet line, where these runs were learned before, and the last line
-abbrev pub told_of : Policy → List Trace → List (List ℕ) → List ℕ
-told_of policy runs lines = text_of (report policy runs (packets_in lines)) ++ last_line (due_of lines)
+-- the last line of its report
+abbrev pub end_of : Option (ℕ × ScriptRefusal) → List ℕ
+end_of None = last_line Done
+end_of (Some r) = spelled (RefusedScript r.0 r.1)
+
+-- the report of the lines ahead of the first refused one, where these runs were learned before and the first line has this number, and the last line
+abbrev pub told_of : Policy → List Trace → ℕ → List (List ℕ) → List ℕ
+told_of policy runs number lines = text_of (report policy runs (steps_of lines)) ++ end_of (refused_from number lines)

@@ -4,15 +4,15 @@ use Rattle.std.specs.Io.KnownBytes.{Appends, IsAtEnd}
 use Rattle.policy_lang.specs.declared.Policy.{Policy}
 use Rattle.maple.specs.declared.status.Status.{Status}
 use Rattle.maple.specs.declared.status.Status.TheVariants.{Usage, Policy as PolicyRefused, ReadFault, NoMemory, TooLong}
-use Rattle.maple.specs.Due.{AreSim, IsFit, HasPolicy, last_line}
+use Rattle.maple.specs.Due.{AreSim, IsFit, HasPolicy, refused, report_text}
 use Rattle.maple.specs.Ends.{Ends}
-use Rattle.maple.specs.Lines.{script_lines}
-use Rattle.maple.specs.Running.{due_of, told_of}
+use Rattle.maple.specs.Running.{due_of}
+use Rattle.maple.specs.Statuses.{last_line}
 
 -- an input that was read runs by its policy, has none, or finds no memory for it
 abbrev pub RunsText : Type 0 → Option (List ℕ) → Option (List ℕ) → List ℕ → Status → Type 0
 RunsText risen old new input result =
-    ((policy : Policy) × HasPolicy policy input × Ends risen old new (due_of (script_lines input)) (told_of policy [] (script_lines input)) result)
+    ((policy : Policy) × HasPolicy policy input × Ends risen old new (due_of (refused input)) (report_text policy input) result)
     ⊎ ((((policy : Policy) → ¬ (HasPolicy policy input)) × Ends risen old new PolicyRefused (last_line PolicyRefused) result) ⊎ ((result ≡ NoMemory) × Appends old new []))
 
 -- a run whose words are refused, whose input can't be read, is too long or finds no memory, or which runs the input that was read

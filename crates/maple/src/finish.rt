@@ -1,8 +1,8 @@
 // The last line of a run.
 ghost use Rattle.std.specs.Prelude.{◌≡◌, ◌≤◌};
 ghost use Rattle.maple_io.specs.Counts.{HasRisen};
-ghost use Rattle.maple.specs.Due.{last_line};
 ghost use Rattle.maple.specs.Ends.{Ends, IsGiven};
+ghost use Rattle.maple.specs.Statuses.{last_line};
 
 use crate::output::{PutStop, put_all};
 use crate::status::Status;
@@ -37,9 +37,8 @@ fn last_line(status: Status) -> &'static [u8]
         Status::Done => b"end\n",
         Status::Usage => b"refused usage\n",
         Status::Policy => b"refused policy\n",
-        Status::Script => b"refused script\n",
         Status::ReadFault => b"refused read\n",
         Status::TooLong => b"refused input\n",
-        Status::WriteFault | Status::NoMemory => b"",
+        Status::Script | Status::WriteFault | Status::NoMemory => b"",
     }
 }

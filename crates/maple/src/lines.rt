@@ -1,11 +1,12 @@
 // The lines of a text, and the two parts of an input.
-ghost use Rattle.std.specs.Prelude.{◌≡◌, ◌<◌, ◌≤◌, ◌∷◌, ◌++◌, length, map};
+ghost use Rattle.std.specs.Prelude.{◌≡◌, ◌+◌, ◌<◌, ◌≤◌, ◌∷◌, ◌++◌, length, map};
 ghost use Rattle.maple.specs.Lines.{ended_lines, without_end, is_mark, policy_part, script_lines, line_len};
 
 /// The text of the policy, ahead of the first line that is `%%`, and what is behind that line.
 pub fn split_input(input: &[u8]) -> (&[u8], &[u8])
     ensures policy { result.0.now ≡ policy_part input.now }
     ensures script { map without_end (ended_lines result.1.now) ≡ script_lines input.now }
+    ensures within { length result.0.now + length result.1.now ≤ length input.now }
 {
     let mut at = 0;
     while at < input.len() {
@@ -26,6 +27,20 @@ pub fn cut_line(text: &[u8]) -> (&[u8], &[u8])
     ensures some { 0 < length result.0.now }
 {
     text.split_at(line_len(text))
+}
+
+/// How many lines a text has.
+pub fn line_count(text: &[u8]) -> usize
+    ensures count { result ≡ length (ended_lines text.now) }
+    ensures bound { result ≤ length text.now }
+{
+    let mut count = 0;
+    let mut rest = text;
+    while !rest.is_empty() {
+        rest = cut_line(rest).1;
+        count += 1;
+    }
+    count
 }
 
 /// The line without the line feed that ends it.

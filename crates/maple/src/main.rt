@@ -6,10 +6,9 @@ pub mod finish;
 pub mod input;
 pub mod lines;
 pub mod output;
-pub mod packet_line;
-pub mod report;
 pub mod sim;
 pub mod status;
+pub mod step;
 #[cfg(test)]
 mod tests;
 pub mod top;

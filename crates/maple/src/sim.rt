@@ -1,44 +1,68 @@
 // A run of a policy and a script.
-ghost use Rattle.std.specs.Prelude.{◌≡◌, true, ◌++◌, ◌≤◌, [], IsTrue, map};
+ghost use Rattle.std.specs.Prelude.{◌≡◌, true, ◌+◌, ◌<◌, ◌^◌, [], map, length};
 ghost use Rattle.maple_io.specs.Counts.{HasRisen};
 ghost use Rattle.policy_lang.specs.Plain.{is_plain};
-ghost use Rattle.maple.specs.Due.{last_line, IsScript};
 ghost use Rattle.maple.specs.Ends.{Ends};
 ghost use Rattle.maple.specs.Lines.{ended_lines, without_end};
-ghost use Rattle.maple.specs.PacketLine.{packets_in, all_packets};
-ghost use Rattle.maple.specs.Report.{report, text_of};
 ghost use Rattle.maple.specs.Running.{due_of, told_of};
+ghost use Rattle.maple.specs.Steps.{refused_from};
+ghost use Rattle.report_text.specs.Report.{spelled};
+ghost use Rattle.report_text.specs.declared.line.Line.{Line as LineOf};
 
 use crate::finish::{finish, put_text};
 use crate::lines::{cut_line, without_end};
-use crate::packet_line::packet_line;
 use crate::status::Status;
+use crate::step::{StepStop, step_of};
 use crate::world::World;
 use maple_io::Sink;
 use policy_lang::Policy;
+use report_text::{Line, ScriptRefusal, write_line};
 use std::alloc::Global;
 
-/// Runs the packet lines of a script under a plain policy, and writes the report and the last line.
-pub fn run_script<O: Sink>(alloc: Global, policy: &Policy, script: &[u8], output: &mut O) -> Status
+/// Runs the lines of a script under a plain policy, and writes the report and the last line. The
+/// script's first line has this number.
+pub fn run_script<O: Sink>(
+    alloc: Global,
+    policy: &Policy,
+    first: u32,
+    script: &[u8],
+    output: &mut O,
+) -> Status
     requires plain { is_plain policy.now ≡ true }
-    ensures { Ends (HasRisen (O.failed output.old) (O.failed output.new)) (O.taken output.old) (O.taken output.new) (due_of (map without_end (ended_lines script.now))) (told_of policy.now [] (map without_end (ended_lines script.now))) result }
+    requires numbers { first + length script.now < 2 ^ 32 }
+    ensures { Ends (HasRisen (O.failed output.old) (O.failed output.new)) (O.taken output.old) (O.taken output.new) (due_of (refused_from first (map without_end (ended_lines script.now)))) (told_of policy.now [] first (map without_end (ended_lines script.now))) result }
 {
     let mut rest = script;
+    let mut number = first;
     let mut world = World::new(alloc);
     while !rest.is_empty() {
         let (line, behind) = cut_line(rest);
-        let Some(key) = packet_line(without_end(line)) else {
-            return finish(output, Status::Script);
+        let step = match step_of(alloc, without_end(line)) {
+            Ok(step) => step,
+            Err(StepStop::Refused(kind)) => return refuse(alloc, output, number, kind),
+            Err(StepStop::NoMemory) => return Status::NoMemory,
         };
-        let mut text = String::new(alloc);
-        let Ok(()) = world.packet(alloc, policy, &key, &mut text) else {
+        let mut text = Vec::new(alloc);
+        let Ok(()) = world.step(alloc, policy, step, &mut text) else {
             return Status::NoMemory;
         };
-        match put_text(output, text.as_bytes(), Status::Done) {
+        match put_text(output, &text, Status::Done) {
             Status::Done => {}
             status => return status,
         }
         rest = behind;
+        number += 1;
     }
     finish(output, Status::Done)
+}
+
+// Writes the last line of a script whose line of this number is refused.
+fn refuse<O: Sink>(alloc: Global, output: &mut O, line: u32, kind: ScriptRefusal) -> Status
+    ensures { Ends (HasRisen (O.failed output.old) (O.failed output.new)) (O.taken output.old) (O.taken output.new) Status.Script (spelled (LineOf.RefusedScript line kind)) result }
+{
+    let mut text = Vec::new(alloc);
+    let Ok(()) = write_line(&Line::RefusedScript { line, kind }, &mut text) else {
+        return Status::NoMemory;
+    };
+    put_text(output, &text, Status::Script)
 }

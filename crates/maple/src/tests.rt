@@ -193,9 +193,9 @@ fn packet_lines(rt: HostRuntime) -> Result<(), Fail> {
         "packet 1 1 dl_src=281474976710655 dl_dst=1 dl_vlan=4095 nw_tos=252 nw_src=4294967295",
         "packet 1 1 dl_vlan=65535",
         "packet 1 1 dl_type=1536",
-        "packet 1 1 nw_proto=17 tp_src=65535 tp_dst=053",
+        "packet 01 0x1 nw_proto=17 tp_src=65535 tp_dst=053",
         "packet 1 1 nw_proto=1 tp_src=255 tp_dst=0",
-        "packet 1 1 nw_proto=2 nw_dst=1",
+        "packet 1 1 nw_proto=2 nw_dst=10.0.0.1 dl_dst=02:00:00:00:00:09",
     ];
     for line in accepted {
         let input = format!(in alloc; "policy {{ out 2; }}\n%%\n{line}\n")?;
@@ -210,41 +210,156 @@ fn packet_lines(rt: HostRuntime) -> Result<(), Fail> {
     Ok(())
 }
 
+// Runs a script whose second line, the fourth of the input, is refused as this kind.
+fn refuses(rt: &impl Abort, alloc: Global, line: &str, kind: &str) -> Result<(), AllocError> {
+    let input = format!(in alloc; "policy {{ out 2; }}\n%%\npacket 1 1\n{line}\npacket 1 1\n")?;
+    let output = format!(in alloc;
+        "miss c1 1 0\nanswer s1 1 out 2 learned\nrefused script 4 {kind}\n"
+    )?;
+    gives(rt, alloc, input.as_str(), Status::Script, output.as_str())
+}
+
 #[test]
-fn refused_packet_lines(rt: HostRuntime) -> Result<(), Fail> {
+fn lines_out_of_the_grammar(rt: HostRuntime) -> Result<(), Fail> {
     let alloc = rt.alloc();
-    let refused = [
-        "",
-        "# a comment",
+    let lines = [
         "fly 1",
-        "packet",
         "packet 1",
-        "packet 2 1",
-        "packet 01 1",
         "packet 1 65536",
         "packet 1 1 ",
         "packet 1  1",
         "packet 1 1\r",
         "packet 1 1 tp_dst=65536",
-        "packet 1 1 tp_dst=0x50",
-        "packet 1 1 tp_dst=",
-        "packet 1 1 tp_dst",
         "packet 1 1 tp_dst=80 tp_dst=80",
         "packet 1 1 in_port=1",
-        "packet 1 1 dl_pcp=1",
-        "packet 1 1 dl_vlan=4096",
         "packet 1 1 dl_type=1535",
-        "packet 1 1 dl_type=33024",
-        "packet 1 1 dl_type=2054 nw_src=1",
-        "packet 1 1 nw_tos=1",
-        "packet 1 1 nw_proto=1 tp_src=256",
         "packet 1 1 nw_proto=2 tp_dst=1",
+        "packet 2 1 tp_dst",
+        "frame 1 1 000",
+        "turn 1 0",
+        " # a comment",
         "%%",
     ];
-    for line in refused {
-        let input = format!(in alloc; "policy {{ out 2; }}\n%%\npacket 1 1\n{line}\npacket 1 1\n")?;
-        let output = "miss c1 1 0\nanswer s1 1 out 2 learned\nrefused script\n";
-        gives(&rt, alloc, input.as_str(), Status::Script, output)?;
+    for line in lines {
+        refuses(&rt, alloc, line, "Grammar")?;
+    }
+    Ok(())
+}
+
+#[test]
+fn lines_of_another_place_and_of_later_commands(rt: HostRuntime) -> Result<(), Fail> {
+    let alloc = rt.alloc();
+    for line in ["packet 2 1", "packet 0 1", "frame 65 1 00"] {
+        refuses(&rt, alloc, line, "Switch")?;
+    }
+    let later = [
+        "plug 1",
+        "unplug 2",
+        "turn 1 1",
+        "settle",
+        "host 1 1 1",
+        "nohost 1",
+        "link 1 1 2 1",
+        "nolink 1 1",
+        "set t 1 2",
+        "unset t 1",
+        "newpolicy",
+        "rules 1",
+        "quit",
+    ];
+    for line in later {
+        refuses(&rt, alloc, line, "Later")?;
+    }
+    Ok(())
+}
+
+#[test]
+fn long_lines(rt: HostRuntime) -> Result<(), Fail> {
+    let alloc = rt.alloc();
+    let mut long = String::from_str(alloc, "#")?;
+    for _ in 0..8_191 {
+        long.push_str("x")?;
+    }
+    let input = format!(in alloc; "policy {{ drop; }}\n%%\n{long}\n")?;
+    gives(&rt, alloc, input.as_str(), Status::Done, "end\n")?;
+    long.push_str("x")?;
+    refuses(&rt, alloc, long.as_str(), "TooLong")?;
+    Ok(())
+}
+
+// The lines of the policy, its end, empty lines and comments have numbers too.
+#[test]
+fn numbers_of_lines(rt: HostRuntime) -> Result<(), Fail> {
+    let alloc = rt.alloc();
+    gives(
+        &rt,
+        alloc,
+        "policy {\n out 2;\n}\n%%\n\n# a comment\npacket 1 1\nfly 1\nfly 2",
+        Status::Script,
+        "miss c1 1 0\nanswer s1 1 out 2 learned\nrefused script 8 Grammar\n",
+    )?;
+    gives(
+        &rt,
+        alloc,
+        "policy { drop; }\n%%\nfly 1",
+        Status::Script,
+        "refused script 3 Grammar\n",
+    )?;
+    Ok(())
+}
+
+// A first fragment of a TCP packet to port 22, which has no ports, and the same packet whole.
+#[test]
+fn frames(rt: HostRuntime) -> Result<(), Fail> {
+    let alloc = rt.alloc();
+    gives(
+        &rt,
+        alloc,
+        "policy { if pkt.tp_dst is 22 { drop; } out 2; }
+%%
+frame 1 1 02000000000202000000000108004500002800002000400600000a0000010a00000204d20016
+",
+        Status::Done,
+        "miss c1 1 0\nanswer s1 1 out 2 learned\nend\n",
+    )?;
+    gives(
+        &rt,
+        alloc,
+        "policy { if pkt.tp_dst is 22 { drop; } out 2; }
+%%
+frame 1 1 02000000000202000000000108004500002800000000400600000a0000010a00000204d20016
+packet 1 1 dl_dst=02:00:00:00:00:02 tp_dst=22
+",
+        Status::Done,
+        "miss c1 1 0\nanswer s1 1 drop learned\nhit c1 1 drop\nend\n",
+    )?;
+    Ok(())
+}
+
+// A frame cut short in each header, twice.
+#[test]
+fn malformed_frames(rt: HostRuntime) -> Result<(), Fail> {
+    let alloc = rt.alloc();
+    let frames = [
+        ("00", 1),
+        ("0200000000020200000000018100", 2),
+        (
+            "02000000000202000000000108004500002800002000400600000a0000010a0000",
+            3,
+        ),
+        (
+            "02000000000202000000000108004500002800000000400600000a0000010a00000204d2",
+            4,
+        ),
+    ];
+    for (frame, kind) in frames {
+        let input = format!(in alloc;
+            "policy {{ drop; }}\n%%\nframe 1 9 {frame}\nframe 1 9 {frame}"
+        )?;
+        let output = format!(in alloc;
+            "miss c1 9 0\nmalformed c1 {kind}\nmiss c1 9 0\nmalformed c1 {kind}\nend\n"
+        )?;
+        gives(&rt, alloc, input.as_str(), Status::Done, output.as_str())?;
     }
     Ok(())
 }

@@ -1,15 +1,16 @@
 // The top call.
-ghost use Rattle.std.specs.Prelude.{◌≡◌, ◌↔◌, IfSome, IsTrue};
+ghost use Rattle.std.specs.Prelude.{◌≡◌, ◌≤◌, ◌↔◌, IfSome, IsTrue, length};
 ghost use Rattle.std.specs.Io.KnownBytes.{Appends, IsAtEnd};
 ghost use Rattle.maple_io.specs.Counts.{HasRisen};
 ghost use Rattle.maple.specs.declared.status.Status.{Status as StatusOf};
 ghost use Rattle.maple.specs.Ends.{WritesFront};
 ghost use Rattle.maple.specs.Runs.{IsRunOf, RunsText};
-ghost use Rattle.maple.specs.Due.{AreSim, IsDue, IsOrFails, IsOrUnwritten, Reports, WritesSome, last_line};
+ghost use Rattle.maple.specs.Due.{AreSim, IsDue, IsOrFails, IsOrUnwritten, Reports, WritesSome};
+ghost use Rattle.maple.specs.Statuses.{last_line};
 
 use crate::finish::finish;
 use crate::input::{ReadStop, read_all};
-use crate::lines::split_input;
+use crate::lines::{line_count, split_input};
 use crate::sim::run_script;
 use crate::status::Status;
 use maple_base::Words;
@@ -19,8 +20,9 @@ use std::alloc::Global;
 
 /// Runs Maple with the words of a command line.
 ///
-/// The one word `sim` reads the input to its end: a policy, a line `%%`, and packet lines. It
-/// writes what a switch and its controller do with each packet, and then a last line.
+/// The one word `sim` reads the input to its end: a policy, a line `%%`, and a script. It
+/// writes what a switch and its controller do with each frame that the script brings, and then a
+/// last line.
 pub fn maple<R, I: Source, O: Sink>(
     _rt: &R,
     alloc: Global,
@@ -44,9 +46,9 @@ pub fn maple<R, I: Source, O: Sink>(
     ensures policy { result ≡ Status.Policy → IfSome (I.left input.old) (λ bytes. IsDue Status.Policy words.now bytes) }
     ensures policy_text { result ≡ Status.Policy → Appends (O.taken output.old) (O.taken output.new) (last_line Status.Policy) }
     ensures script { result ≡ Status.Script → IfSome (I.left input.old) (λ bytes. IsDue Status.Script words.now bytes) }
-    ensures script_text { result ≡ Status.Script → IfSome (I.left input.old) (λ bytes. Reports (O.taken output.old) (O.taken output.new) Status.Script bytes) }
+    ensures script_text { result ≡ Status.Script → IfSome (I.left input.old) (λ bytes. Reports (O.taken output.old) (O.taken output.new) bytes) }
     ensures done { result ≡ Status.Done → IfSome (I.left input.old) (λ bytes. IsDue Status.Done words.now bytes) }
-    ensures done_text { result ≡ Status.Done → IfSome (I.left input.old) (λ bytes. Reports (O.taken output.old) (O.taken output.new) Status.Done bytes) }
+    ensures done_text { result ≡ Status.Done → IfSome (I.left input.old) (λ bytes. Reports (O.taken output.old) (O.taken output.new) bytes) }
     ensures read_whole { result ≡ Status.Done → IfSome (I.left input.old) (λ bytes. IsAtEnd (I.left input.new)) }
 
     // Each of these comes exactly where it is due, but for a fault or want of memory.
@@ -88,11 +90,15 @@ fn is_sim(words: &Words) -> bool
 
 // Runs an input that was read to its end.
 fn run_text<O: Sink>(alloc: Global, text: &[u8], output: &mut O) -> Status
+    requires fit { length text.now ≤ 67108864 }
     ensures { RunsText (HasRisen (O.failed output.old) (O.failed output.new)) (O.taken output.old) (O.taken output.new) text.now result }
 {
     let (policy, script) = split_input(text);
     match read_policy(alloc, policy) {
-        Ok(policy) => run_script(alloc, &policy, script, output),
+        Ok(accepted) => {
+            let first = line_count(policy) as u32 + 2;
+            run_script(alloc, &accepted, first, script, output)
+        }
         Err(ReadError::Refused { .. }) => finish(output, Status::Policy),
         Err(ReadError::NoMemory) => Status::NoMemory,
     }

@@ -1,5 +1,5 @@
 // One switch and its controller.
-ghost use Rattle.std.specs.Prelude.{◌≡◌, true, ◌++◌, ◌+◌, ◌<◌, ◌≤◌, ◌^◌, ◌∷◌, [], List, None, length, OnOk, IsTrue, string_bytes};
+ghost use Rattle.std.specs.Prelude.{◌≡◌, true, ◌++◌, ◌+◌, ◌<◌, ◌≤◌, ◌^◌, ◌∷◌, [], List, None, length, IfOk, OnOk, IsTrue};
 ghost use Rattle.std.specs.List.Sorted.{IsPermutation};
 ghost use Rattle.maple_base.specs.Keys.{anything, valid_key};
 ghost use Rattle.maple_base.specs.Questions.{asks_once};
@@ -10,12 +10,17 @@ ghost use Rattle.trace_tree.specs.Bounds.{items_within};
 ghost use Rattle.trace_tree.specs.Growth.{admits, found, insert, leaf_of, leaves_of};
 ghost use Rattle.rule_builder.specs.Rules.{barriers_of, facts_of, levels_of};
 ghost use Rattle.maple.specs.Knowing.{Knows};
-ghost use Rattle.maple.specs.Report.{said, after, answered, learned, plain, text_of};
+ghost use Rattle.report_text.specs.declared.line.Line.{Line as LineOf};
+ghost use Rattle.report_text.specs.Report.{spelled};
+ghost use Rattle.maple.specs.Report.{said, after, arrival_said, arrival_after, step_said, step_after, answered, learned, plain, fault_number, text_of};
+ghost use Rattle.packet_key.specs.Frames.{key_of};
 
 use crate::choosing::{Choice, choose};
-use crate::report::{Learnt, Line, push_answer, push_line};
+use crate::step::Step;
 use maple_base::{Blank, Cells, Decision, Items, Key, NoMemory, Outcome, RuleList};
+use packet_key::{Malformed, key_of};
 use policy_lang::Policy;
+use report_text::{Learnt, Line, write_line};
 use rule_builder::{rules, rules_needed_with};
 use std::alloc::Global;
 use trace_record::record;
@@ -26,6 +31,11 @@ pub const BUDGET: u32 = 4_096;
 
 /// The rules that a switch has room for.
 pub const ROWS: u32 = 1_024;
+
+// The place of the switch, and its datapath id.
+const DEVICE: u32 = 1;
+
+const SWITCH: u64 = 1;
 
 /// The tree of the runs that were learned, and the rules of the switch, which are the tree's.
 #[derive(Drop)]
@@ -45,25 +55,85 @@ impl World {
         }
     }
 
+    /// Does a step of a script, and writes its lines at the end of a text.
+    pub fn step(
+        &mut self,
+        alloc: Global,
+        policy: &Policy,
+        step: Step,
+        text: &mut Vec<u8>,
+    ) -> Result<(), NoMemory>
+        requires known { (runs : List TraceData) × Knows policy.now runs self.old }
+        ensures { (runs : List TraceData) → Knows policy.now runs self.old → OnOk result ((text.new.items ≡ text.old.items ++ text_of (step_said policy.now runs step)) × Knows policy.now (step_after policy.now runs step) self.new) }
+    {
+        match step {
+            Step::Silent => Ok(()),
+            Step::Arrival { port, frame } => self.frame(alloc, policy, port, frame.items(), text),
+        }
+    }
+
+    /// Writes the lines of a frame that comes by a port: those of its packet, or, where its headers
+    /// can't be read, a miss and its fault. From such a frame nothing is learned.
+    pub fn frame(
+        &mut self,
+        alloc: Global,
+        policy: &Policy,
+        port: u16,
+        frame: &[u8],
+        text: &mut Vec<u8>,
+    ) -> Result<(), NoMemory>
+        requires known { (runs : List TraceData) × Knows policy.now runs self.old }
+        ensures { (runs : List TraceData) → Knows policy.now runs self.old → OnOk result ((text.new.items ≡ text.old.items ++ text_of (arrival_said policy.now runs port (key_of port frame.now))) × Knows policy.now (arrival_after policy.now runs (key_of port frame.now)) self.new) }
+    {
+        match key_of(port, frame) {
+            Ok(key) => self.packet(alloc, policy, &key, text),
+            Err(fault) => {
+                let device = DEVICE;
+                let reason = 0;
+                let miss = Line::Miss {
+                    device,
+                    port,
+                    reason,
+                };
+                write_line(&miss, text)?;
+                let kind = fault_number(fault);
+                write_line(&Line::Malformed { device, kind }, text)
+            }
+        }
+    }
+
     /// Writes the lines of a packet at the end of a text, and learns its run where no rule decides it.
     pub fn packet(
         &mut self,
         alloc: Global,
         policy: &Policy,
         key: &Key,
-        text: &mut String,
+        text: &mut Vec<u8>,
     ) -> Result<(), NoMemory>
         requires key { IsTrue (valid_key key.now) }
         requires known { (runs : List TraceData) × Knows policy.now runs self.old }
-        ensures { (runs : List TraceData) → Knows policy.now runs self.old → OnOk result ((string_bytes text.new ≡ string_bytes text.old ++ text_of (said policy.now runs key.now (found runs key.now))) × Knows policy.now (after policy.now runs key.now (found runs key.now)) self.new) }
+        ensures { (runs : List TraceData) → Knows policy.now runs self.old → OnOk result ((text.new.items ≡ text.old.items ++ text_of (said policy.now runs key.now (found runs key.now))) × Knows policy.now (after policy.now runs key.now (found runs key.now)) self.new) }
     {
         let port = key.in_port;
         let reason = match choose(&self.rules, key) {
-            Choice::Fact(actions) => return push_line(text, &Line::Hit { port, actions }),
+            Choice::Fact(actions) => {
+                let device = DEVICE;
+                let hit = Line::Hit {
+                    device,
+                    port,
+                    actions,
+                };
+                return write_line(&hit, text);
+            }
             Choice::Barrier => 1,
             Choice::Unfit => 0,
         };
-        push_line(text, &Line::Miss { port, reason })?;
+        let miss = Line::Miss {
+            device: DEVICE,
+            port,
+            reason,
+        };
+        write_line(&miss, text)?;
         self.answer(alloc, policy, key, text)
     }
 
@@ -73,11 +143,11 @@ impl World {
         alloc: Global,
         policy: &Policy,
         key: &Key,
-        text: &mut String,
+        text: &mut Vec<u8>,
     ) -> Result<(), NoMemory>
         requires key { IsTrue (valid_key key.now) }
         requires known { (runs : List TraceData) × Knows policy.now runs self.old × (found runs key.now ≡ None) }
-        ensures { (runs : List TraceData) → Knows policy.now runs self.old → found runs key.now ≡ None → OnOk result ((string_bytes text.new ≡ string_bytes text.old ++ text_of (answered policy.now runs key.now (plain policy.now key.now))) × Knows policy.now (learned policy.now runs key.now (plain policy.now key.now)) self.new) }
+        ensures { (runs : List TraceData) → Knows policy.now runs self.old → found runs key.now ≡ None → OnOk result ((text.new.items ≡ text.old.items ++ text_of (answered policy.now runs key.now (plain policy.now key.now))) × Knows policy.now (learned policy.now runs key.now (plain policy.now key.now)) self.new) }
     {
         let port = key.in_port;
         let number = self.tree.leaves() as u64 + 1;
@@ -87,7 +157,10 @@ impl World {
         let (items, cells, outcome) = run.into_parts();
         let decision = match outcome {
             Outcome::Decided(decision) => decision,
-            Outcome::Spent => return push_line(text, &Line::SpentRun { port }),
+            Outcome::Spent => {
+                let switch = SWITCH;
+                return write_line(&Line::Spent { switch, port }, text);
+            }
         };
         let need = rules_needed_with(&self.tree, &items);
         if need > ROWS as u64 {
@@ -95,9 +168,10 @@ impl World {
                 need,
                 capacity: ROWS,
             };
-            return push_answer(text, port, &decision, learnt);
+            let _ = write_answer(text, port, decision, learnt)?;
+            return Ok(());
         }
-        push_answer(text, port, &decision, Learnt::Learned)?;
+        let decision = write_answer(text, port, decision, Learnt::Learned)?;
         let trace = Trace {
             number,
             items,
@@ -124,5 +198,40 @@ impl World {
         };
         self.rules = rules(alloc, &self.tree)?;
         Ok(())
+    }
+}
+
+// Writes the line of an answer at the end of a text, and gives its decision back.
+fn write_answer(
+    text: &mut Vec<u8>,
+    port: u16,
+    decision: Decision,
+    learnt: Learnt,
+) -> Result<Decision, NoMemory>
+    ensures line { OnOk result (text.new.items ≡ text.old.items ++ spelled (LineOf.Answer 1 port decision learnt)) }
+    ensures decision { IfOk result (λ given. given ≡ decision) }
+{
+    let switch = SWITCH;
+    let line = Line::Answer {
+        switch,
+        port,
+        decision,
+        learnt,
+    };
+    write_line(&line, text)?;
+    match line {
+        Line::Answer { decision, .. } => Ok(decision),
+        _ => unreachable!(),
+    }
+}
+
+fn fault_number(fault: Malformed) -> u8
+    ensures { result ≡ fault_number fault }
+{
+    match fault {
+        Malformed::Ethernet => 1,
+        Malformed::Tag => 2,
+        Malformed::Ip => 3,
+        Malformed::Transport => 4,
     }
 }

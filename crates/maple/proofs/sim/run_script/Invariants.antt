@@ -1,14 +1,17 @@
-use Rattle.std.proofs.Common.{ℕ, List, length}
+use Rattle.std.proofs.Common.{ℕ, ◌+◌, ◌≤◌, List, length}
 use Rattle.std.specs.Prelude.{map}
 use Rattle.trace_tree.specs.declared.node.Trace.{Trace}
 use Rattle.maple.specs.Lines.{ended_lines, without_end}
 use Rattle.maple.proofs.Runs.{Stands}
 use Rattle.maple.proofs.sim.run_script.Given as goal
 
--- some runs were learned, and what was written and what is told of the rest is all that is told
+-- some runs were learned, and what was written and what is told of the rest is all that is told; the lines that are left have numbers
 abbrev pub invariant-loop-rest : goal.invariant-loop-rest
-invariant-loop-rest g l = (runs : List Trace) × (written : List ℕ) ×
-    Stands (g.O.Sink.taken l.fn.output) (g.O.Sink.taken l.output) (g.O.Sink.failed l.fn.output) (g.O.Sink.failed l.output) l.policy l.world (map without_end (ended_lines l.script)) (map without_end (ended_lines l.rest)) runs written
+invariant-loop-rest g l = record {
+  stands : (runs : List Trace) × (written : List ℕ) ×
+      Stands (g.O.Sink.taken l.fn.output) (g.O.Sink.taken l.output) (g.O.Sink.failed l.fn.output) (g.O.Sink.failed l.output) l.policy l.world l.first (map without_end (ended_lines l.script)) l.number (map without_end (ended_lines l.rest)) runs written;
+  numbers : l.number + length l.rest ≤ l.first + length l.script;
+}
 
 abbrev pub decreases-loop-rest : goal.decreases-loop-rest
 decreases-loop-rest g l = length l.rest

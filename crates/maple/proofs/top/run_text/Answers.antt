@@ -1,8 +1,11 @@
-use Rattle.std.proofs.Common.{inl, inr}
+use Rattle.std.proofs.Common.{◌≡◌, inl, inr, length, ap, ◌∙◌}
+use Rattle.maple.specs.Lines.{ended_lines, policy_part}
 use Rattle.maple.proofs.top.run_text.Goals as goal
 
 pub returns-in-Ok : goal.returns-in-Ok
-returns-in-Ok g c = inl (c.in-Ok.policy, rw c.split_input.ensures.policy at c.in-Ok.ensures.policy, rw c.split_input.ensures.script at c.run_script.ensures)
+returns-in-Ok g c =
+    let count : c.line_count.result ≡ length (ended_lines (policy_part c.args.text.now)) = c.line_count.ensures.count ∙ ap (λ t. length (ended_lines t)) c.split_input.ensures.policy in
+    inl (c.in-Ok.accepted, rw c.split_input.ensures.policy at c.in-Ok.ensures.policy, rw count at (rw c.split_input.ensures.script at c.run_script.ensures))
 
 pub returns-in-Err-Refused : goal.returns-in-Err-Refused
 returns-in-Err-Refused g c =

@@ -17,7 +17,7 @@ pub returns-in-Spent : goal.returns-in-Spent
 returns-in-Spent c = λ runs knows unfound.
     let gives : Gives blank_value c.in-Ok.run'.cells = subst (Gives blank_value) (sym c.in-Ok.ensures.cells) tt in
     let o : plain c.args.policy.now c.args.key.now ≡ Spent = sym (c.in-Ok.ensures.outcome blank_value gives) ∙ sym c.into_parts-items.ensures.outcome ∙ c.in-Spent.is in
-    OnOk_map _ _ c.push_line.result (λ e. spent_step c.args.policy.now runs c.args.self.now knows c.args.key.now c.requires.key unfound _ _ o e) c.push_line.ensures
+    OnOk_map _ _ c.write_line.result (λ e. spent_step c.args.policy.now runs c.args.self.now knows c.args.key.now c.requires.key unfound _ _ o e) c.write_line.ensures.line
 
 pub rules_needed_with-need-requires-clause-ordered : goal.rules_needed_with-need-requires-clause-ordered
 rules_needed_with-need-requires-clause-ordered c = ordered c.args.policy.now c.requires.known.0 c.args.self.now c.requires.known.1 c.args.key.now c.requires.key
@@ -42,7 +42,7 @@ learn-requires-clause-room c = let h = leaves_few c.args.policy.now c.requires.k
 
 pub learn-requires-clause-levels : goal.learn-requires-clause-levels
 learn-requires-clause-levels c =
-    let leaf = leaf_of (trace_of (c.leaves.result + 1) c.into_parts-items.result.0 c.into_parts-items.result.1 c.in-Decided.decision) in
+    let leaf = leaf_of (trace_of (c.leaves.result + 1) c.into_parts-items.result.0 c.into_parts-items.result.1 c.in_ok-decision.decision) in
     let l = few_levels (insert c.into_parts-items.result.0 leaf c.args.self.now.tree) in
     let n = c.rules_needed_with-need.ensures leaf in
     omega (arith, l, n, c.if-need.false)
@@ -58,7 +58,7 @@ returns-then-need c = λ runs knows unfound.
     let n : c.rules_needed_with-need.result ≡ need policy runs k =
     c.rules_needed_with-need.ensures (leaf_of own) ∙ ap (λ x. rules_needed (insert x (leaf_of own) c.args.self.now.tree)) is
     ∙ ap rules_needed (grows policy runs c.args.self.now knows k c.requires.key unfound) in
-    OnOk_map _ _ c.push_answer.result (λ e. full_step policy runs c.args.self.now knows k c.requires.key unfound c.in-Decided.decision o _ _ (is_more _ _ n c.if-need.true) (rw n at e)) c.push_answer.ensures
+    full_step policy runs c.args.self.now knows k c.requires.key unfound c.in-Decided.decision o _ _ (is_more _ _ n c.if-need.true) (rw n at c.in_ok-write_answer.ensures.line)
 
 pub returns : goal.returns
 returns c = λ runs knows unfound.
@@ -71,8 +71,8 @@ returns c = λ runs knows unfound.
     let n : c.rules_needed_with-need.result ≡ need policy runs k =
     c.rules_needed_with-need.ensures (leaf_of own) ∙ ap (λ x. rules_needed (insert x (leaf_of own) c.args.self.now.tree)) is
     ∙ ap rules_needed (grows policy runs c.args.self.now knows k c.requires.key unfound) in
-    let d : c.in-Decided.decision ≡ decided (outcome_at (course_of policy 4096) k) = sym (ap decided (ends_as_evaluated policy 4096 blank_value 1 k knows.plainly c.requires.key ∙ o)) in
-    let same = trace_same c.leaves.result _ c.into_parts-items.result.0 _ c.into_parts-items.result.1 c.in-Decided.decision _ (c.leaves.ensures ∙ leaves_are policy runs c.args.self.now knows k c.requires.key) is (c.into_parts-items.ensures.cells ∙ c.in-Ok.ensures.cells) d in
+    let d : c.in_ok-decision.decision ≡ decided (outcome_at (course_of policy 4096) k) = c.in_ok-decision.ensures.decision ∙ sym (ap decided (ends_as_evaluated policy 4096 blank_value 1 k knows.plainly c.requires.key ∙ o)) in
+    let same = trace_same c.leaves.result _ c.into_parts-items.result.0 _ c.into_parts-items.result.1 c.in_ok-decision.decision _ (c.leaves.ensures ∙ leaves_are policy runs c.args.self.now knows k c.requires.key) is (c.into_parts-items.ensures.cells ∙ c.in-Ok.ensures.cells) d in
     on_three _ _ _ _ c.learn.result c.learn.ensures.tree c.learn.ensures.facts c.learn.ensures.barriers
-    (λ t f b. learned_step policy runs c.args.self.now knows k c.requires.key unfound c.in-Decided.decision o c.learn.new.self _ _ (is_no_more _ _ n c.if-need.false) c.in_ok-push_answer.ensures
+    (λ t f b. learned_step policy runs c.args.self.now knows k c.requires.key unfound c.in-Decided.decision o c.learn.new.self _ _ (is_no_more _ _ n c.if-need.false) c.in_ok-decision.ensures.line
     (t ∙ ap (λ x. insert x.items (leaf_of x) c.args.self.now.tree) same) f b)

@@ -9,7 +9,7 @@ use Rattle.maple.proofs.world.World.packet.Goals.{in-Barrier, in-Unfit}
 pub returns-in-Fact : goal.returns-in-Fact
 returns-in-Fact c = λ runs knows.
     let r = c.in-Fact.ensures in
-    OnOk_map _ _ c.push_line.result (λ e. hit_step c.args.policy.now runs c.args.self.now knows c.args.key.now c.requires.key r.0 c.in-Fact.actions _ _ r.1 r.2 r.3 e) c.push_line.ensures
+    OnOk_map _ _ c.write_line.result (λ e. hit_step c.args.policy.now runs c.args.self.now knows c.args.key.now c.requires.key r.0 c.in-Fact.actions _ _ r.1 r.2 r.3 e) c.write_line.ensures.line
 
 pub answer-requires-clause-known : goal.answer-requires-clause-known
 answer-requires-clause-known c =
@@ -35,5 +35,5 @@ returns c = λ runs knows.
           )
     ] in
     OnOk_map _ _ c.answer.result
-    (λ h. miss_step c.args.policy.now runs c.args.self.now knows c.args.key.now c.requires.key c.answer.new.self c.match-choose.reason _ _ _ miss c.in_ok-push_line.ensures h)
+    (λ h. miss_step c.args.policy.now runs c.args.self.now knows c.args.key.now c.requires.key c.answer.new.self c.match-choose.reason _ _ _ miss c.in_ok-write_line.ensures.line h)
     (c.answer.ensures runs knows miss.0)

@@ -1,0 +1,5 @@
+pub mod Facts
+pub mod NumberBack
+pub mod Opening
+pub mod Packets
+pub mod Whole

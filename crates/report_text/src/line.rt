@@ -1,0 +1,316 @@
+// The lines of a report.
+use maple_base::{Actions, Decision, Match};
+use std::fmt;
+
+/// A line of a report. Devices are named by their places among the devices, from 1 on; switches by
+/// their datapath ids.
+#[derive(Drop)]
+pub enum Line {
+    /// `open cC`: a connection of this device was opened.
+    Open {
+        device: u32,
+    },
+    /// `closed cC WHY`: it ended.
+    Closed {
+        device: u32,
+        why: Why,
+    },
+    /// `ready cC sS`: the switch answered the first barrier.
+    Ready {
+        device: u32,
+        switch: u64,
+    },
+    /// `state N pruned K`: a new state of the environment, and how many runs went with the old one.
+    State {
+        state: u64,
+        pruned: u32,
+    },
+    /// `refused update KIND`.
+    RefusedUpdate {
+        kind: UpdateRefusal,
+    },
+    /// `refused policy L:C KIND`: a fault of a policy's text at this line and column, from 1 on.
+    RefusedPolicy {
+        line: u32,
+        column: u32,
+        kind: PolicyRefusal,
+    },
+    /// `refused script L KIND`: a fault of a script at this line, from 1 on.
+    RefusedScript {
+        line: u32,
+        kind: ScriptRefusal,
+    },
+    /// `error cC TYPE CODE`: an ERROR of these numbers came (OpenFlow 1.0, 5.4.4).
+    Error {
+        device: u32,
+        kind: u16,
+        code: u16,
+    },
+    /// `quiet sS retired K`: the switch gets no more rules, and this many of its runs went.
+    Quiet {
+        switch: u64,
+        retired: u32,
+    },
+    /// `malformed cC KIND`: a packet whose headers can't be read, with the number of the fault.
+    Malformed {
+        device: u32,
+        kind: u8,
+    },
+    /// `toobig cC N`: a packet of so many bytes, too many to be sent back.
+    TooBig {
+        device: u32,
+        bytes: u32,
+    },
+    /// `overload cC`: a packet for which there was no room.
+    Overload {
+        device: u32,
+    },
+    /// `answer sS P DECISION LEARNT`: what the controller decided of a packet at this port.
+    Answer {
+        switch: u64,
+        port: u16,
+        decision: Decision,
+        learnt: Learnt,
+    },
+    /// `spent sS P`: the policy took more steps than its budget on a packet at this port.
+    Spent {
+        switch: u64,
+        port: u16,
+    },
+    /// `stale JOB`: an evaluation read what isn't so any more.
+    Stale {
+        job: u64,
+    },
+    /// `hit cC P ACTIONS`: a packet at this port hit a rule of the device.
+    Hit {
+        device: u32,
+        port: u16,
+        actions: Actions,
+    },
+    /// `miss cC P REASON`: a packet at this port went to the controller, by a rule for reason 1, by
+    /// none for reason 0.
+    Miss {
+        device: u32,
+        port: u16,
+        reason: u8,
+    },
+    /// `turned cC N`: the device took so many turns.
+    Turned {
+        device: u32,
+        turns: u32,
+    },
+    /// `settled N`: after so many turns no device had a message to answer.
+    Settled {
+        turns: u32,
+    },
+    /// `unsettled N`: after so many turns some device had a message to answer.
+    Unsettled {
+        turns: u32,
+    },
+    /// `absent cC`: the device isn't plugged in.
+    Absent {
+        device: u32,
+    },
+    /// `gone cC`: the device was left.
+    Gone {
+        device: u32,
+    },
+    /// `present cC`: the device is plugged in already.
+    Present {
+        device: u32,
+    },
+    /// `rule sS PRIORITY ACTIONS MATCH`: a rule of the switch. A VLAN priority in the match isn't
+    /// shown; a normal match fixes none.
+    Rule {
+        switch: u64,
+        priority: u16,
+        actions: Actions,
+        of: Match,
+    },
+    /// `rules sS N`: how many rules the switch has.
+    Rules {
+        switch: u64,
+        count: u32,
+    },
+    /// `end`: the run ended well.
+    End,
+}
+
+/// Why a connection ended.
+#[derive(Clone, Copy, Debug, PartialEq, Eq)]
+pub enum Why {
+    /// `bad PLACE CAUSE`: bytes that are no message, from this place of the stream on, with the
+    /// number of the fault.
+    Bad { place: u64, cause: u8 },
+    /// `version`: a HELLO of version 0.
+    Version,
+    /// `twice DPID`: another live connection has this datapath id.
+    Twice(u64),
+    /// `full`: there was no room for it.
+    Full,
+    /// `clear`: its table couldn't be cleared.
+    Clear,
+    /// `early XID`: a barrier was answered before it was sent.
+    Early(u32),
+    /// `xids`: it had no more transaction ids.
+    Xids,
+    /// `link`: the other side ended it.
+    Link,
+    /// `fault`: sending or receiving failed.
+    Fault,
+}
+
+/// Why an update of the environment was refused.
+#[derive(Clone, Copy, Debug, PartialEq, Eq)]
+pub enum UpdateRefusal {
+    UnknownTable,
+    UnknownSwitch,
+    PortRange,
+    /// `Full COUNT LIMIT`: there would be so many, past this limit.
+    Full { count: u64, limit: u64 },
+}
+
+/// Why the text of a policy was refused.
+#[derive(Clone, Copy, Debug, PartialEq, Eq)]
+pub enum PolicyRefusal {
+    NotAscii,
+    Token,
+    Syntax,
+    UnknownName,
+    Twice,
+    TypeMismatch,
+    NumberRange,
+    Nesting,
+    Nodes,
+    TooLong,
+    /// What this program can't do yet.
+    Later,
+}
+
+/// Why a line of a script was refused.
+#[derive(Clone, Copy, Debug, PartialEq, Eq)]
+pub enum ScriptRefusal {
+    /// It is no command.
+    Grammar,
+    /// It has more than 8,192 bytes.
+    TooLong,
+    /// It names a place that isn't among the devices.
+    Switch,
+    /// What this program can't do yet.
+    Later,
+}
+
+/// What was learned from a packet.
+#[derive(Clone, Copy, Debug, PartialEq, Eq)]
+pub enum Learnt {
+    /// `learned`: its run.
+    Learned,
+    /// `known`: its run was there.
+    Known,
+    /// `unlearned levels NEED LIMIT`: nothing, since the rules would need more priorities than the
+    /// limit.
+    Levels { need: u64, limit: u32 },
+    /// `unlearned rows NEED CAPACITY`: nothing, since there would be more rules than the switch has
+    /// room for.
+    Rows { need: u64, capacity: u32 },
+    /// `unlearned quiet`: nothing, since the switch gets no more rules.
+    Quiet,
+}
+
+#[tactic(auto, unfolding(crate::specs::Report::spelled_why))]
+impl fmt::Display for Why {
+    ghost use Rattle.std.specs.Prelude.{Some};
+    ghost use Rattle.report_text.specs.Report.{spelled_why};
+
+    ghost output = { λ why. Some (spelled_why why) };
+
+    fn fmt<W: fmt::Write>(&self, f: &mut fmt::Formatter<W>) -> fmt::Result {
+        match self {
+            Why::Bad { place, cause } => write!(f, "bad {place} {cause}"),
+            Why::Version => write!(f, "version"),
+            Why::Twice(dpid) => write!(f, "twice {dpid}"),
+            Why::Full => write!(f, "full"),
+            Why::Clear => write!(f, "clear"),
+            Why::Early(xid) => write!(f, "early {xid}"),
+            Why::Xids => write!(f, "xids"),
+            Why::Link => write!(f, "link"),
+            Why::Fault => write!(f, "fault"),
+        }
+    }
+}
+
+#[tactic(auto, unfolding(crate::specs::Report::spelled_update))]
+impl fmt::Display for UpdateRefusal {
+    ghost use Rattle.std.specs.Prelude.{Some};
+    ghost use Rattle.report_text.specs.Report.{spelled_update};
+
+    ghost output = { λ kind. Some (spelled_update kind) };
+
+    fn fmt<W: fmt::Write>(&self, f: &mut fmt::Formatter<W>) -> fmt::Result {
+        match self {
+            UpdateRefusal::UnknownTable => write!(f, "UnknownTable"),
+            UpdateRefusal::UnknownSwitch => write!(f, "UnknownSwitch"),
+            UpdateRefusal::PortRange => write!(f, "PortRange"),
+            UpdateRefusal::Full { count, limit } => write!(f, "Full {count} {limit}"),
+        }
+    }
+}
+
+#[tactic(auto, unfolding(crate::specs::Report::spelled_policy))]
+impl fmt::Display for PolicyRefusal {
+    ghost use Rattle.std.specs.Prelude.{Some};
+    ghost use Rattle.report_text.specs.Report.{spelled_policy};
+
+    ghost output = { λ kind. Some (spelled_policy kind) };
+
+    fn fmt<W: fmt::Write>(&self, f: &mut fmt::Formatter<W>) -> fmt::Result {
+        match self {
+            PolicyRefusal::NotAscii => write!(f, "NotAscii"),
+            PolicyRefusal::Token => write!(f, "Token"),
+            PolicyRefusal::Syntax => write!(f, "Syntax"),
+            PolicyRefusal::UnknownName => write!(f, "UnknownName"),
+            PolicyRefusal::Twice => write!(f, "Twice"),
+            PolicyRefusal::TypeMismatch => write!(f, "TypeMismatch"),
+            PolicyRefusal::NumberRange => write!(f, "NumberRange"),
+            PolicyRefusal::Nesting => write!(f, "Nesting"),
+            PolicyRefusal::Nodes => write!(f, "Nodes"),
+            PolicyRefusal::TooLong => write!(f, "TooLong"),
+            PolicyRefusal::Later => write!(f, "Later"),
+        }
+    }
+}
+
+#[tactic(auto, unfolding(crate::specs::Report::spelled_script))]
+impl fmt::Display for ScriptRefusal {
+    ghost use Rattle.std.specs.Prelude.{Some};
+    ghost use Rattle.report_text.specs.Report.{spelled_script};
+
+    ghost output = { λ kind. Some (spelled_script kind) };
+
+    fn fmt<W: fmt::Write>(&self, f: &mut fmt::Formatter<W>) -> fmt::Result {
+        match self {
+            ScriptRefusal::Grammar => write!(f, "Grammar"),
+            ScriptRefusal::TooLong => write!(f, "TooLong"),
+            ScriptRefusal::Switch => write!(f, "Switch"),
+            ScriptRefusal::Later => write!(f, "Later"),
+        }
+    }
+}
+
+#[tactic(auto, unfolding(crate::specs::Report::spelled_learnt))]
+impl fmt::Display for Learnt {
+    ghost use Rattle.std.specs.Prelude.{Some};
+    ghost use Rattle.report_text.specs.Report.{spelled_learnt};
+
+    ghost output = { λ learnt. Some (spelled_learnt learnt) };
+
+    fn fmt<W: fmt::Write>(&self, f: &mut fmt::Formatter<W>) -> fmt::Result {
+        match self {
+            Learnt::Learned => write!(f, "learned"),
+            Learnt::Known => write!(f, "known"),
+            Learnt::Levels { need, limit } => write!(f, "unlearned levels {need} {limit}"),
+            Learnt::Rows { need, capacity } => write!(f, "unlearned rows {need} {capacity}"),
+            Learnt::Quiet => write!(f, "unlearned quiet"),
+        }
+    }
+}

@@ -1,0 +1,7 @@
+use Rattle.script_text.proofs.Ends.{past_two}
+use Rattle.script_text.proofs.words.two_parts.Goals as goal
+
+pub returns-in-Some : goal.returns-in-Some
+returns-in-Some c =
+    rw (c.cut.ensures.parts, c.in_ok-rest.was, c.cut-2.ensures.parts, c.in-Some.is)
+    (past_two c.args.stop c.cut.result.0.now c.cut-2.result.0.now c.in-Some.field-0.now)

@@ -1,0 +1,18 @@
+//! The lines of a script and of its report, and the frames of a script's packets.
+#![tactic(auto)]
+
+mod command;
+mod frame;
+mod hexadecimal;
+mod packet_fields;
+mod packet_spec;
+mod reading;
+#[cfg(test)]
+mod tests;
+mod verb;
+mod words;
+
+pub use command::{Command, LineError};
+pub use frame::frame_of;
+pub use packet_spec::PacketSpec;
+pub use reading::read_line;
