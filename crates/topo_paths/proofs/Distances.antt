@@ -1,10 +1,8 @@
 -- Walks, and the number of links of a shortest one.
-use Rattle.std.proofs.Common.{◌≡◌, ◌≢◌, ◌⊎◌, ℕ, zero, suc, ◌+◌, ◌<◌, ◌≤◌, Bool, true, false, cond, ◌&&◌, ◌==◌, List, [], ◌∷◌, length, get_or, Option, Some, None, is_some, Contains, inl, inr, refl, sym, ap, ◌∙◌, subst, ⊎_elim, arith, add-one}
-use Rattle.std.specs.List.{list_any}
-use Rattle.std.proofs.lemmas.Bool.{cases_eq, cases_lt, cases_Bool, both_ways, eq-eqb, eqb-true, and_from, and_parts}
+use Rattle.std.proofs.Common.{◌≡◌, ℕ, zero, suc, ◌+◌, ◌<◌, ◌≤◌, Bool, true, false, cond, ◌&&◌, ◌==◌, List, [], ◌∷◌, length, get_or, Some, None, refl, sym, ap, ◌∙◌, subst, ⊎_elim, arith}
+use Rattle.std.proofs.lemmas.Bool.{cases_eq, cases_Bool, both_ways, eq-eqb, eqb-true, and_from, and_parts}
 use Rattle.std.proofs.lemmas.List.Folds.{list_any_at, Any-from_list_any}
-use Rattle.maple_base.specs.declared.cells.Place.{Place}
-use Rattle.topo_paths.specs.Walks.{Link, IsWalk, NoWalk}
+use Rattle.topo_paths.specs.Walks.{Link, IsWalk}
 use Rattle.topo_paths.specs.NextHops.{leads_in, first_passing, distance}
 
 pub leads_in-none : (links : List Link) (from to : ℕ) → from ≡ to → leads_in links zero from to ≡ true

@@ -1,17 +1,17 @@
 -- What the next hop is, over all walks.
-use Rattle.std.proofs.Common.{◌≡◌, ◌≢◌, ◌⊎◌, ℕ, zero, suc, ◌+◌, ◌<◌, ◌≤◌, Bool, true, false, ◌&&◌, ◌==◌, List, [], ◌∷◌, length, get_or, Option, Some, None, is_some, IfSome, IfNone, IsTrue, Contains, inl, inr, refl, sym, ap, ◌∙◌, subst, ⊎_elim, arith}
+use Rattle.std.proofs.Common.{◌≡◌, ◌⊎◌, ℕ, zero, suc, ◌<◌, ◌≤◌, true, ◌==◌, List, ◌∷◌, length, get_or, Option, Some, None, IfSome, IfNone, IsTrue, Contains, inl, inr, refl, sym, ap, ◌∙◌, subst, arith}
 use Rattle.std.specs.List.{All}
-use Rattle.std.proofs.lemmas.Bool.{cases_Bool, both_ways, eq-eqb, eqb-true, and_from, and_parts}
+use Rattle.std.proofs.lemmas.Bool.{both_ways, eq-eqb, eqb-true, and_from, and_parts}
 use Rattle.std.proofs.lemmas.List.{get_or_default}
 use Rattle.std.proofs.lemmas.List.Elements.{Contains-get_or}
 use Rattle.maple_base.specs.declared.cells.Place.{Place}
-use Rattle.topo_paths.specs.Walks.{Link, IsWalk, NoWalk, IsShortest, BeginsShortest, IsNextHop}
+use Rattle.topo_paths.specs.Walks.{Link, IsWalk, NoWalk, IsShortest, IsNextHop}
 use Rattle.env_cells.specs.Lists.{IsAmong, IsBetweenPorts}
 use Rattle.maple_base.specs.Paths.{is_hop}
 use Rattle.topo_paths.specs.NextHops.{leads_in, leads_on, distance, hop_over, hop_at, least_hop, next_hop, AreNear}
-use Rattle.topo_paths.specs.Rows.{IsRow, IsLeastHop}
+use Rattle.topo_paths.specs.Rows.{IsLeastHop}
 use Rattle.topo_paths.proofs.Levels.{some_of}
-use Rattle.topo_paths.proofs.Distances.{leads_in-none, leads_in-zero, leads_in-more, leads_in-first, leads_in-walk, walk_from_leads, IsDistance, distance_is, distance_some, distance_none}
+use Rattle.topo_paths.proofs.Distances.{leads_in-none, leads_in-zero, leads_in-more, leads_in-first, leads_in-walk, walk_from_leads, IsDistance, distance_is, distance_some}
 use Rattle.topo_paths.proofs.LeastHops.{least_hop_is}
 use Rattle.topo_paths.proofs.Making.{no_link}
 
@@ -139,12 +139,15 @@ module _ (links : List Link) (from to : ℕ) where
       let d = distance_some links from to (suc i.rest) i.far in
       let link = get_or links i.place no_link in
       let parts = and_parts (link.0.switch == from) (leads_in links i.rest link.1.switch to) i.leads in
-      let there : hop.switch ≡ link.1.switch = ap (λ (x : Place). x.switch) i.over in
-      (i.rest, i.far, distance_is links hop.switch to i.rest (record {
-        leads = subst (λ s. leads_in links i.rest s to ≡ true) (sym there) parts.1;
-        near = omega (arith, d.near);
-        least = λ n l. omega (arith, d.least (suc n) (leads_in-more links n i.place from to no_link i.within (eqb-true link.0.switch from parts.0) (subst (λ s. leads_in links n s to ≡ true) there l)));
-      }))
+      let there : hop.switch ≡ link.1.switch = ap (λ (x : Place). x.switch) i.over in (
+        i.rest,
+        i.far,
+        distance_is links hop.switch to i.rest (record {
+          leads = subst (λ s. leads_in links i.rest s to ≡ true) (sym there) parts.1;
+          near = omega (arith, d.near);
+          least = λ n l. omega (arith, d.least (suc n) (leads_in-more links n i.place from to no_link i.within (eqb-true link.0.switch from parts.0) (subst (λ s. leads_in links n s to ≡ true) there l)));
+        }),
+      )
 
   next_hop-nowhere : ((n : ℕ) → leads_in links (suc n) from to ≡ true → ⊥) → next_hop links from to ≡ None
   next_hop-nowhere never = go (distance links from to) refl

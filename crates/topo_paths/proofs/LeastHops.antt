@@ -1,6 +1,6 @@
 -- The hop by the least port.
-use Rattle.std.proofs.Common.{◌≡◌, ◌≢◌, ◌⊎◌, ℕ, zero, suc, ◌+◌, ◌<◌, ◌≤◌, Bool, true, false, cond, leb, List, [], ◌∷◌, length, get_or, Option, Some, None, inl, inr, refl, sym, ap, ◌∙◌, subst, ⊎_elim, arith, add-one}
-use Rattle.std.proofs.lemmas.Bool.{cases_eq, cases_lt, cases_Bool, both_ways, leb-true, leb-false}
+use Rattle.std.proofs.Common.{◌≡◌, ◌⊎◌, ℕ, zero, suc, ◌+◌, ◌<◌, ◌≤◌, Bool, true, false, cond, leb, List, [], ◌∷◌, length, get_or, Option, Some, None, inl, inr, refl, sym, ap, ◌∙◌, subst, ⊎_elim, arith}
+use Rattle.std.proofs.lemmas.Bool.{cases_lt, cases_Bool, both_ways, leb-true, leb-false}
 use Rattle.std.proofs.lemmas.List.{get_or_default}
 use Rattle.maple_base.specs.declared.cells.Place.{Place}
 use Rattle.topo_paths.specs.Walks.{Link}
@@ -19,19 +19,29 @@ module _ (test : ℕ → Bool) (links : List Link) where
   pub least_none : (count : ℕ) (r : Option Place) → test count ≡ false → IsLeastHop test links count r → IsLeastHop test links (count + 1) r
   least_none count None not' h =
       λ k lt. ⊎_elim (λ less. h k less) (λ more. subst (λ x. test x ≡ false) (omega (arith, more, lt)) not') (cases_lt k count)
-  least_none count (Some hop) not' (k, lt, passes, is, least) =
-      (k, omega (arith, lt), passes, is, λ j d less p. ⊎_elim
+  least_none count (Some hop) not' (k, lt, passes, is, least) = (
+    k,
+    omega (arith, lt),
+    passes,
+    is,
+    λ j d less p. ⊎_elim
         (λ before. least j d before p)
         (λ more. absurd (both_ways _ not' (subst (λ x. test x ≡ true) (omega (arith, more, less)) p)))
-        (cases_lt j count))
+        (cases_lt j count),
+  )
 
   module _ (count : ℕ) (is_here : test count ≡ true) where
     here_least : (hop : Place) → ((d : Link) → hop ≡ hop_over (get_or links count d)) → ((j : ℕ) (d : Link) → j < count → test j ≡ true → hop.port ≤ (get_or links j d).0.port) → IsLeastHop test links (count + 1) (Some hop)
-    here_least hop is least =
-        (count, omega arith, is_here, is, λ j d less p. ⊎_elim
+    here_least hop is least = (
+      count,
+      omega arith,
+      is_here,
+      is,
+      λ j d less p. ⊎_elim
           (λ before. least j d before p)
           (λ more. at j d (omega (arith, more, less)))
-          (cases_lt j count))
+          (cases_lt j count),
+    )
       where
         at : (j : ℕ) (d : Link) → j ≡ count → hop.port ≤ (get_or links j d).0.port
         at j d e =
@@ -43,11 +53,16 @@ module _ (test : ℕ → Bool) (links : List Link) where
     least_some hop (Some other) is (k, lt, passes, other_is, least) =
         ⊎_elim
         (λ w. subst (λ (x : Place). IsLeastHop test links (count + 1) (Some x)) (sym w.0) (here_least hop is (λ j d less p. omega (arith, w.1, least j d less p))))
-        (λ w. subst (λ (x : Place). IsLeastHop test links (count + 1) (Some x)) (sym w.0)
-        (k, omega (arith, lt), passes, other_is, λ j d less p. ⊎_elim
-          (λ before. least j d before p)
-          (λ more. at j d (omega (arith, more, less)) w.1)
-          (cases_lt j count)))
+        (λ w. subst (λ (x : Place). IsLeastHop test links (count + 1) (Some x)) (sym w.0) (
+          k,
+          omega (arith, lt),
+          passes,
+          other_is,
+          λ j d less p. ⊎_elim
+              (λ before. least j d before p)
+              (λ more. at j d (omega (arith, more, less)) w.1)
+              (cases_lt j count),
+        ))
         (lesser_cases hop other)
       where
         at : (j : ℕ) (d : Link) → j ≡ count → other.port ≤ hop.port → other.port ≤ (get_or links j d).0.port

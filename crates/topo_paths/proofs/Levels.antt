@@ -1,9 +1,8 @@
 -- Distances found level by level.
-use Rattle.std.proofs.Common.{◌≡◌, ◌≢◌, ◌⊎◌, ℕ, zero, suc, ◌+◌, ◌<◌, ◌≤◌, Bool, true, false, cond, eqb, ◌&&◌, ◌==◌, List, length, get_or, set, replicate, Option, Some, None, is_some, is_none, IsSomeAnd, count_by, inl, inr, refl, sym, ap, ◌∙◌, subst, ⊎_elim, arith, add-one}
-use Rattle.std.specs.List.{list_any, sum_by}
+use Rattle.std.proofs.Common.{◌≡◌, ◌≢◌, ◌⊎◌, ℕ, zero, suc, ◌+◌, ◌<◌, ◌≤◌, Bool, true, false, cond, ◌&&◌, ◌==◌, List, length, get_or, set, replicate, Option, Some, None, is_some, is_none, IsSomeAnd, inl, inr, refl, sym, ap, ◌∙◌, subst, ⊎_elim, arith, add-one}
 use Rattle.std.proofs.lemmas.Bool.{cases_eq, cases_lt, eq-eqb, eqb-true, and_from, and_parts}
 use Rattle.std.proofs.lemmas.Grind.{get_or-set_at}
-use Rattle.std.proofs.lemmas.List.{length-set, get_or-set_other, get_or-replicate, get_or_past, length-replicate}
+use Rattle.std.proofs.lemmas.List.{length-set, get_or-set_other, get_or-replicate, get_or_past}
 use Rattle.std.proofs.lemmas.List.Sums.{sum_by-set}
 use Rattle.std.proofs.lemmas.List.Folds.{list_any_at, Any-from_list_any, sum_by-replicate}
 use Rattle.topo_paths.specs.declared.rows.Ends.{Ends}
@@ -117,9 +116,9 @@ module _ (ends : List Ends) (to level : ℕ) where
         within = f.within;
         closed = f.closed;
         followed = λ k n d less h below. ⊎_elim
-          (λ before. f.followed k n d before h below)
-          (λ last. ⊎_elim (λ under. f.closed k n d (omega (arith, less, short)) h under) (λ over. final k n d (omega (arith, last, less)) h (omega (arith, over, below))) (cases_lt n level))
-          (cases_lt k count);
+            (λ before. f.followed k n d before h below)
+            (λ last. ⊎_elim (λ under. f.closed k n d (omega (arith, less, short)) h under) (λ over. final k n d (omega (arith, last, less)) h (omega (arith, over, below))) (cases_lt n level))
+            (cases_lt k count);
       }
     where
       final : (k n : ℕ) (d : Ends) → k ≡ count → get_or far (get_or ends k d).to None ≡ Some n → n ≡ level → IsSomeAnd (get_or far (get_or ends k d).from None) (λ m. m ≤ n + 1)

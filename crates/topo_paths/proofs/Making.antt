@@ -1,18 +1,17 @@
 -- A row of next hops.
-use Rattle.std.proofs.Common.{◌≡◌, ◌≢◌, ◌⊎◌, ℕ, zero, suc, ◌+◌, ◌<◌, ◌≤◌, Bool, true, false, cond, ◌&&◌, ◌==◌, eqb, List, [], ◌∷◌, length, get_or, set, replicate, Option, Some, None, is_some, IsSomeAnd, inl, inr, refl, sym, ap, ◌∙◌, subst, ⊎_elim, arith, add-one}
-use Rattle.std.specs.List.{AllPairs}
-use Rattle.std.proofs.lemmas.Bool.{cases_eq, cases_lt, cases_order, cases_Bool, both_ways, eq-eqb, eqb-true, ne_eqb, and_from, and_parts, and_left, and_right, ltb-true, lt-ltb, le-ltb}
+use Rattle.std.proofs.Common.{◌≡◌, ◌≢◌, ℕ, zero, suc, ◌+◌, ◌<◌, ◌≤◌, Bool, true, false, ◌&&◌, ◌==◌, eqb, List, length, get_or, set, replicate, Option, Some, None, refl, sym, ap, ◌∙◌, subst, ⊎_elim, arith}
+use Rattle.std.proofs.lemmas.Bool.{cases_eq, cases_order, cases_Bool, eq-eqb, eqb-true, ne_eqb, and_from, and_parts, and_left, and_right, ltb-true, lt-ltb}
 use Rattle.std.proofs.lemmas.Bool.Decides.{same_from_decides}
 use Rattle.std.proofs.lemmas.Grind.{get_or-set_at}
-use Rattle.std.proofs.lemmas.List.{length-set, get_or-set_other, get_or-replicate, get_or_past, length-replicate, get_or_default}
+use Rattle.std.proofs.lemmas.List.{length-set, get_or-set_other, get_or-replicate}
 use Rattle.maple_base.specs.declared.cells.Place.{Place}
 use Rattle.topo_paths.specs.declared.rows.Ends.{Ends}
 use Rattle.topo_paths.specs.Walks.{Link}
 use Rattle.env_cells.specs.Lists.{StartApart}
-use Rattle.topo_paths.specs.NextHops.{leads_in, leads_on, distance, hop_over, lesser, hop_at, least_hop, next_hop}
+use Rattle.topo_paths.specs.NextHops.{leads_in, leads_on, distance, hop_over, lesser, hop_at, next_hop}
 use Rattle.topo_paths.specs.Rows.{ends_lead, AreDistances, AreEnds, IsRow, AreHops, IsLeastHop, ends_at, leads_nearer, is_nearer}
 use Rattle.topo_paths.proofs.Levels.{held, ends_lead-none, ends_lead-zero, ends_lead-more, ends_lead-first}
-use Rattle.topo_paths.proofs.Distances.{leads_in-none, leads_in-zero, leads_in-more, leads_in-first, IsDistance, distance_is, distance_none}
+use Rattle.topo_paths.proofs.Distances.{leads_in-none, leads_in-zero, leads_in-more, leads_in-first, distance_is, distance_none}
 use Rattle.topo_paths.proofs.LeastHops.{least_none, least_some, least_hop_is, least_unique}
 
 -- before the first link

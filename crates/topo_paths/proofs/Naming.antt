@@ -1,11 +1,10 @@
 -- The switches that links name, each once.
-use Rattle.std.proofs.Common.{◌≡◌, ◌≢◌, ◌⊎◌, ℕ, zero, suc, ◌+◌, ◌<◌, ◌≤◌, List, [], ◌∷◌, ◌++◌, length, get_or, take, Contains, inl, inr, refl, sym, ap, ◌∙◌, subst, ⊎_elim, arith}
+use Rattle.std.proofs.Common.{◌≡◌, ◌≢◌, ◌⊎◌, ℕ, zero, suc, ◌+◌, ◌<◌, ◌≤◌, List, [], ◌∷◌, ◌++◌, length, get_or, Contains, sym, ap, ◌∙◌, subst, ⊎_elim, arith}
 use Rattle.std.specs.List.{All, AllPairs, remove}
-use Rattle.std.proofs.lemmas.Bool.{cases_eq, cases_lt, cases_order}
-use Rattle.std.proofs.lemmas.List.{get_or_default, get_or_append_left, get_or_push, length_push, take_more, take_all}
+use Rattle.std.proofs.lemmas.Bool.{cases_lt, cases_order}
+use Rattle.std.proofs.lemmas.List.{get_or_default, get_or_append_left, get_or_push, length_push}
 use Rattle.std.proofs.lemmas.List.Edits.{length-remove, get_or-remove_below, get_or-remove_above}
 use Rattle.std.proofs.lemmas.List.Elements.{Contains-get_or, All-cons}
-use Rattle.maple_base.specs.declared.cells.Place.{Place}
 use Rattle.topo_paths.specs.declared.rows.Ends.{Ends}
 use Rattle.topo_paths.specs.Walks.{Link}
 use Rattle.env_cells.specs.Lists.{IsAmong}
@@ -34,7 +33,7 @@ few_distinct (x ∷ xs) ys apart all =
     let (k, lt, is) = all 0 0 (omega arith) in
     let at : get_or ys k 0 ≡ x = get_or_default ys k 0 x lt ∙ is in
     let rest = few_distinct xs (remove ys k) (λ i j d less short. apart (suc i) (suc j) d (omega (arith, less)) (omega (arith, short)))
-      (λ j d short. stays ys k (get_or xs j d) lt (all (suc j) d (omega (arith, short))) (λ e. apart 0 (suc j) d (omega arith) (omega (arith, short)) (sym at ∙ e))) in
+    (λ j d short. stays ys k (get_or xs j d) lt (all (suc j) d (omega (arith, short))) (λ e. apart 0 (suc j) d (omega arith) (omega (arith, short)) (sym at ∙ e))) in
     omega (arith, rest, length-remove ys k lt)
 
 -- a further element that is not among others
@@ -53,9 +52,9 @@ room_for names xs x apart all here new' = few_distinct (x ∷ xs) names (apart_c
 pub among_more : (names old new : List ℕ) (s : ℕ) → ((x : ℕ) → Contains new x → Contains old x ⊎ (s ≡ x)) → All (Contains names) old → Contains names s → All (Contains names) new
 among_more names old new s only all here =
     λ k d lt. ⊎_elim
-      (λ (j, lj, is). subst (λ x. Contains names x) is (all j _ lj))
-      (λ e. subst (λ x. Contains names x) e here)
-      (only (get_or new k d) (Contains-get_or new k d lt))
+    (λ (j, lj, is). subst (λ x. Contains names x) is (all j _ lj))
+    (λ e. subst (λ x. Contains names x) e here)
+    (only (get_or new k d) (Contains-get_or new k d lt))
 
 pub leads_more : (old new : List ℕ) (links : List Link) → ((x : ℕ) → Contains old x → Contains new x) → All (IsAmong old) links → All (IsAmong new) links
 leads_more old new links kept all = λ k d lt. let h = all k d lt in record { start = kept _ h.start; end = kept _ h.end }
@@ -68,17 +67,17 @@ ends_push links switches ends link e are from_in to_in from_is to_is =
       few = are.few;
       apart = are.apart;
       within = λ k d lt. ⊎_elim
-        (λ less. subst (λ (x : Ends). (x.from < length switches) × (x.to < length switches)) (sym (old k d less)) (are.within k d less))
-        (λ more. subst (λ (x : Ends). (x.from < length switches) × (x.to < length switches)) (sym (new k d (last k lt more))) (from_in, to_in))
-        (cases_lt k (length links));
+          (λ less. subst (λ (x : Ends). (x.from < length switches) × (x.to < length switches)) (sym (old k d less)) (are.within k d less))
+          (λ more. subst (λ (x : Ends). (x.from < length switches) × (x.to < length switches)) (sym (new k d (last k lt more))) (from_in, to_in))
+          (cases_lt k (length links));
       from = λ k d b lt. ⊎_elim
-        (λ less. ap (λ (x : Ends). get_or switches x.from 0) (old k d less) ∙ are.from k d b less ∙ ap (λ (x : Link). x.0.switch) (sym (get_or_append_left links (link ∷ []) b k less)))
-        (λ more. ap (λ (x : Ends). get_or switches x.from 0) (new k d (last k lt more)) ∙ from_is ∙ ap (λ (x : Link). x.0.switch) (sym (get_or_push links link b k (sym (last k lt more)))))
-        (cases_lt k (length links));
+          (λ less. ap (λ (x : Ends). get_or switches x.from 0) (old k d less) ∙ are.from k d b less ∙ ap (λ (x : Link). x.0.switch) (sym (get_or_append_left links (link ∷ []) b k less)))
+          (λ more. ap (λ (x : Ends). get_or switches x.from 0) (new k d (last k lt more)) ∙ from_is ∙ ap (λ (x : Link). x.0.switch) (sym (get_or_push links link b k (sym (last k lt more)))))
+          (cases_lt k (length links));
       to = λ k d b lt. ⊎_elim
-        (λ less. ap (λ (x : Ends). get_or switches x.to 0) (old k d less) ∙ are.to k d b less ∙ ap (λ (x : Link). x.1.switch) (sym (get_or_append_left links (link ∷ []) b k less)))
-        (λ more. ap (λ (x : Ends). get_or switches x.to 0) (new k d (last k lt more)) ∙ to_is ∙ ap (λ (x : Link). x.1.switch) (sym (get_or_push links link b k (sym (last k lt more)))))
-        (cases_lt k (length links));
+          (λ less. ap (λ (x : Ends). get_or switches x.to 0) (old k d less) ∙ are.to k d b less ∙ ap (λ (x : Link). x.1.switch) (sym (get_or_append_left links (link ∷ []) b k less)))
+          (λ more. ap (λ (x : Ends). get_or switches x.to 0) (new k d (last k lt more)) ∙ to_is ∙ ap (λ (x : Link). x.1.switch) (sym (get_or_push links link b k (sym (last k lt more)))))
+          (cases_lt k (length links));
     }
   where
     last : (k : ℕ) → k < length (links ++ link ∷ []) → length links ≤ k → k ≡ length links

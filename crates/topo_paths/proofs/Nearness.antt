@@ -1,12 +1,11 @@
 -- Over links that name at most 64 switches a shortest walk has fewer than 64 links: it leaves no switch twice.
-use Rattle.std.proofs.Common.{◌≡◌, ◌≢◌, ◌⊎◌, ℕ, zero, suc, ◌+◌, ◌<◌, ◌≤◌, true, List, [], ◌∷◌, length, get_or, Some, is_some, Contains, refl, sym, ap, ◌∙◌, subst, ⊎_elim, arith}
+use Rattle.std.proofs.Common.{◌≡◌, ◌≢◌, ℕ, zero, suc, ◌+◌, ◌<◌, ◌≤◌, true, List, [], ◌∷◌, length, get_or, is_some, Contains, refl, sym, ap, ◌∙◌, subst, arith}
 use Rattle.std.specs.List.{All, AllPairs}
 use Rattle.std.proofs.lemmas.List.Elements.{All-nil, All-cons, All-contains}
-use Rattle.maple_base.specs.declared.cells.Place.{Place}
 use Rattle.env_cells.specs.Lists.{IsAmong}
 use Rattle.topo_paths.specs.Walks.{Link}
 use Rattle.topo_paths.specs.Graphs.{IsGraph}
-use Rattle.topo_paths.specs.NextHops.{leads_in, distance, AreNear}
+use Rattle.topo_paths.specs.NextHops.{leads_in, AreNear}
 use Rattle.topo_paths.proofs.Distances.{leads_in-none, leads_in-more, leads_in-first, passing_first, passing_found, distance_is}
 use Rattle.topo_paths.proofs.Hopping.{from_named, to_named}
 use Rattle.topo_paths.proofs.Naming.{apart_cons, few_distinct}
@@ -47,13 +46,15 @@ module _ (links : List Link) (to : ℕ) where
     trail_of zero from f = ([], record { long = refl; apart = λ i j d less short. absurd (omega (arith, short)); among = All-nil (Contains switches); near = All-nil (IsOnTrail zero) })
     trail_of (suc far) from f =
         let (k, link, lt, is, begins, rest) = leads_in-first links far from to f.leads in
-        let (trail, t) = trail_of far link.1.switch (far_next far from k link lt is begins rest f) in
-        (from ∷ trail, record {
-          long = ap suc t.long;
-          apart = apart_cons from trail t.apart (λ c. again trail t c);
-          among = All-cons (Contains switches) from trail (from_named links switches named far from to f.leads) t.among;
-          near = All-cons (IsOnTrail (suc far)) from trail (suc far, omega arith, omega arith, f) (further trail t);
-        })
+        let (trail, t) = trail_of far link.1.switch (far_next far from k link lt is begins rest f) in (
+          from ∷ trail,
+          record {
+            long = ap suc t.long;
+            apart = apart_cons from trail t.apart (λ c. again trail t c);
+            among = All-cons (Contains switches) from trail (from_named links switches named far from to f.leads) t.among;
+            near = All-cons (IsOnTrail (suc far)) from trail (suc far, omega arith, omega arith, f) (further trail t);
+          },
+        )
       where
         further : (trail : List ℕ) → IsTrail far trail → All (IsOnTrail (suc far)) trail
         further trail t = λ k d lt. let (n, low, high, g) = t.near k d lt in (n, low, omega (arith, high), g)

@@ -1,13 +1,12 @@
 -- A scene's cells of next hops.
-use Rattle.std.proofs.Common.{◌≡◌, ◌⊎◌, ℕ, Bool, true, List, Option, Some, None, IsTrue, refl, sym, ap, ◌∙◌, subst}
+use Rattle.std.proofs.Common.{◌≡◌, ℕ, List, Some, None, IsTrue, refl, sym, ap, ◌∙◌, subst}
 use Rattle.maple_base.specs.declared.cells.Place.{Place}
 use Rattle.maple_base.specs.declared.cells.Cell.{Cell}
 use Rattle.maple_base.specs.declared.cells.Cell.TheVariants.{Hop}
-use Rattle.maple_base.specs.declared.cells.Value.{Value}
 use Rattle.maple_base.specs.declared.cells.Value.TheVariants.{Nothing, At}
 use Rattle.maple_base.specs.Kinds.{of_kind}
 use Rattle.topo_paths.specs.declared.table.Table.{Table}
-use Rattle.topo_paths.specs.Walks.{Link, IsNextHop, NoWalk}
+use Rattle.topo_paths.specs.Walks.{Link}
 use Rattle.topo_paths.specs.NextHops.{next_hop}
 use Rattle.topo_paths.specs.Scenes.{HopIsShown}
 use Rattle.topo_paths.specs.Tables.{IsTableOf}

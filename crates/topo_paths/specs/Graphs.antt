@@ -1,5 +1,5 @@
 -- Which links have next hops.
-use Rattle.std.specs.Prelude.{ℕ, ◌≤◌, List, length, All}
+use Rattle.std.specs.Prelude.{List, All}
 use Rattle.topo_paths.specs.Walks.{Link}
 use Rattle.env_cells.specs.Lists.{StartApart, NamesFewSwitches, IsBetweenPorts}
 

@@ -1,5 +1,5 @@
 -- The next hop as a function of the links. That it is the first hop of a shortest walk of all, by the least port, is a clause of each call that answers it.
-use Rattle.std.specs.Prelude.{◌≡◌, ℕ, zero, suc, ◌+◌, Bool, true, false, ◌&&◌, ◌==◌, nat_le, if◌then◌else◌, List, [], ◌∷◌, Option, Some, None, is_some}
+use Rattle.std.specs.Prelude.{◌≡◌, ℕ, zero, suc, ◌+◌, Bool, true, ◌&&◌, ◌==◌, nat_le, if◌then◌else◌, List, [], ◌∷◌, Option, Some, None, is_some}
 use Rattle.std.specs.List.{list_any}
 use Rattle.maple_base.specs.declared.cells.Place.{Place}
 use Rattle.topo_paths.specs.Walks.{Link}

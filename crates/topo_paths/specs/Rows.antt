@@ -1,10 +1,10 @@
 -- Named switches by their places, and a row of next hops to one of them.
-use Rattle.std.specs.Prelude.{◌≡◌, ◌≢◌, ℕ, zero, suc, ◌<◌, ◌≤◌, Bool, true, false, ◌&&◌, ◌==◌, nat_lt, List, length, Option, Some, None, is_some, IsSomeAnd, AllPairs, All}
+use Rattle.std.specs.Prelude.{◌≡◌, ◌≢◌, ℕ, zero, suc, ◌<◌, ◌≤◌, Bool, true, false, ◌&&◌, ◌==◌, nat_lt, List, length, Option, Some, None, IsSomeAnd, AllPairs}
 use Rattle.std.specs.List.{list_any, slice_index_or}
 use Rattle.maple_base.specs.declared.cells.Place.{Place}
 use Rattle.topo_paths.specs.Walks.{Link}
 use Rattle.topo_paths.specs.declared.rows.Ends.{Ends}
-use Rattle.topo_paths.specs.NextHops.{leads_in, distance, hop_over, next_hop}
+use Rattle.topo_paths.specs.NextHops.{hop_over, next_hop}
 
 -- the ends of so many links lead from one place to another
 unfoldable pub ends_lead : List Ends → ℕ → ℕ → ℕ → Bool

@@ -1,10 +1,10 @@
 -- What a scene has in its cells.
-use Rattle.std.specs.Prelude.{◌≡◌, ◌⊎◌, ℕ, List, Option, Some, None}
+use Rattle.std.specs.Prelude.{◌≡◌, ◌⊎◌, List}
 use Rattle.std.specs.FinMap as map
 use Rattle.maple_base.specs.declared.cells.Cell.{Cell}
-use Rattle.maple_base.specs.declared.cells.Cell.TheVariants.{Host, Hop, Up, Num}
+use Rattle.maple_base.specs.declared.cells.Cell.TheVariants.{Hop}
 use Rattle.maple_base.specs.declared.cells.Value.{Value}
-use Rattle.maple_base.specs.declared.cells.Value.TheVariants.{Nothing, At, Number, Flag}
+use Rattle.maple_base.specs.declared.cells.Value.TheVariants.{Nothing, At}
 use Rattle.env_cells.specs.Environment.{Environment}
 use Rattle.env_cells.specs.Values.{value_in, at_or_nothing}
 use Rattle.topo_paths.specs.Walks.{Link, IsNextHop, NoWalk}

@@ -1,5 +1,5 @@
 -- A table of next hops between the switches that links name.
-use Rattle.std.specs.Prelude.{◌≡◌, ◌≢◌, ℕ, ◌<◌, ◌≤◌, List, [], length, Option, vec_len, AllPairs, All}
+use Rattle.std.specs.Prelude.{◌≡◌, ℕ, ◌<◌, ◌≤◌, List, [], length, All}
 use Rattle.std.specs.Vec.{vec_capacity}
 use Rattle.std.specs.List.{slice_index_or}
 use Rattle.topo_paths.specs.Walks.{Link}

@@ -1,5 +1,5 @@
-use Rattle.std.proofs.Common.{◌≡◌, ◌+◌, ◌<◌, ◌≤◌, subst, sym, arith}
-use Rattle.topo_paths.specs.Levels.{AreFound, unreached}
+use Rattle.std.proofs.Common.{◌+◌, subst, sym, arith}
+use Rattle.topo_paths.specs.Levels.{AreFound}
 use Rattle.topo_paths.proofs.Levels.{found_start, unreached_start, found_all}
 use Rattle.topo_paths.specs.Rows.{AreDistances}
 use Rattle.topo_paths.proofs.rows.distances.Goals as goal

@@ -7,5 +7,5 @@ invariant-loop-e l = record {
   long : length l.distances ≡ 64;
   found : (to : ℕ) → AreFound l.ends to l.level l.initial.distances → AreFollowed l.ends to l.level l.e-index l.distances;
   none : l.reached ≡ false → l.distances ≡ l.initial.distances;
-  some : unreached l.distances + cond l.reached 1 0 ≤ unreached l.initial.distances
+  some : unreached l.distances + cond l.reached 1 0 ≤ unreached l.initial.distances;
 }

@@ -1,8 +1,6 @@
-use Rattle.std.proofs.Common.{◌≡◌, ◌≢◌, ℕ, ◌+◌, ◌<◌, ◌≤◌, List, ◌++◌, [], ◌∷◌, length, get_or, take, All, Contains, sym, ap, ◌∙◌, subst, vec_len, arith}
-use Rattle.std.specs.Vec.{vec_capacity}
+use Rattle.std.proofs.Common.{List, get_or, take, All, sym, ◌∙◌, subst, arith}
 use Rattle.std.proofs.lemmas.List.{take_more, take_all}
 use Rattle.std.proofs.lemmas.List.Elements.{All-push}
-use Rattle.maple_base.specs.declared.cells.Place.{Place}
 use Rattle.topo_paths.specs.Walks.{Link}
 use Rattle.env_cells.specs.Lists.{IsAmong}
 use Rattle.topo_paths.proofs.Naming.{room_for, among_more, leads_more, few_distinct}
@@ -13,17 +11,17 @@ name-requires-clause-room c =
     let (names, few, all) = c.requires.graph.few in
     let h : IsAmong names (get_or c.args.links.now c.loop-from.from-index (record { switch = 0; port = 0 }, record { switch = 0; port = 0 })) = all c.loop-from.from-index _ c.loop-from-test.true in
     λ new'.
-      let lt = room_for names c.loop-from.switches.items _ c.loop-from.invariant.distinct (c.loop-from.invariant.among names all) h.start new' in
-      omega (arith, lt, few, c.requires.room, c.clear.ensures.capacity, c.loop-from.invariant.capacity, c.loop-from.switches.ok.0)
+    let lt = room_for names c.loop-from.switches.items _ c.loop-from.invariant.distinct (c.loop-from.invariant.among names all) h.start new' in
+    omega (arith, lt, few, c.requires.room, c.clear.ensures.capacity, c.loop-from.invariant.capacity, c.loop-from.switches.ok.0)
 
 pub name-requires-in-loop-from-clause-room : goal.name-requires-in-loop-from-clause-room
 name-requires-in-loop-from-clause-room c =
     let (names, few, all) = c.requires.graph.few in
     let h : IsAmong names (get_or c.args.links.now c.loop-from.from-index (record { switch = 0; port = 0 }, record { switch = 0; port = 0 })) = all c.loop-from.from-index _ c.loop-from-test.true in
     λ new'.
-      let among = among_more names c.loop-from.switches.items c.name.new.switches.items _ c.name.ensures.only (c.loop-from.invariant.among names all) h.start in
-      let lt = room_for names c.name.new.switches.items _ c.name.ensures.distinct among h.end new' in
-      omega (arith, lt, few, c.requires.room, c.clear.ensures.capacity, c.loop-from.invariant.capacity, c.name.ensures.capacity, c.name.new.switches.ok.0)
+    let among = among_more names c.loop-from.switches.items c.name.new.switches.items _ c.name.ensures.only (c.loop-from.invariant.among names all) h.start in
+    let lt = room_for names c.name.new.switches.items _ c.name.ensures.distinct among h.end new' in
+    omega (arith, lt, few, c.requires.room, c.clear.ensures.capacity, c.loop-from.invariant.capacity, c.name.ensures.capacity, c.name.new.switches.ok.0)
 
 pub loop-from-preserved : goal.loop-from-preserved
 loop-from-preserved c =

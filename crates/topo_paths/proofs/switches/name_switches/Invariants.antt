@@ -8,5 +8,5 @@ invariant-loop-from l = record {
   capacity : vec_capacity l.switches ≡ vec_capacity l.initial.switches;
   distinct : AllPairs ◌≢◌ l.switches.items;
   among : (names : List ℕ) → All (IsAmong names) l.links → All (Contains names) l.switches.items;
-  named : All (IsAmong l.switches.items) (take l.from-index l.links)
+  named : All (IsAmong l.switches.items) (take l.from-index l.links);
 }

@@ -1,5 +1,5 @@
-use Rattle.std.proofs.Common.{◌≡◌, ◌⊎◌, ℕ, ◌+◌, ◌<◌, suc, Option, Some, List, [], ◌∷◌, ◌++◌, length, unwrap_or, refl, sym, ap, ◌∙◌, subst, vec_len, eqb, ⊎_elim, arith}
-use Rattle.std.proofs.lemmas.Bool.{eqb-true, eqb-false, cases_lt}
+use Rattle.std.proofs.Common.{◌≡◌, ◌⊎◌, ℕ, ◌<◌, Some, List, [], ◌∷◌, length, unwrap_or, sym, ap, ◌∙◌, subst, vec_len, arith}
+use Rattle.std.proofs.lemmas.Bool.{eqb-true, eqb-false}
 use Rattle.maple_base.specs.declared.cells.Place.{Place}
 use Rattle.maple_base.specs.Paths.{IsPath}
 use Rattle.topo_paths.specs.Walks.{Link, IsWay, NoWalk}

@@ -1,9 +1,6 @@
-use Rattle.std.proofs.Common.{◌≡◌, ℕ, ◌<◌, ◌≤◌, List, [], Option, true, length, get_or, All, sym, ap, ◌∙◌, subst, is_some, arith}
-use Rattle.maple_base.specs.declared.cells.Place.{Place}
+use Rattle.std.proofs.Common.{◌≡◌, ℕ, ◌<◌, List, [], length, get_or, All, sym, ◌∙◌, subst, arith}
 use Rattle.env_cells.specs.Lists.{IsAmong}
-use Rattle.topo_paths.specs.NextHops.{AreNear}
 use Rattle.topo_paths.specs.Rows.{AreEnds, IsRow}
-use Rattle.topo_paths.specs.Tables.{IsTableOf}
 use Rattle.topo_paths.proofs.table.Table.rebuild.Goals as goal
 
 pub find_ends-requires-clause-named : goal.find_ends-requires-clause-named
