@@ -173,15 +173,25 @@ pub enum UpdateRefusal {
 /// Why the text of a policy was refused.
 #[derive(Clone, Copy, Debug, PartialEq, Eq)]
 pub enum PolicyRefusal {
+    /// A byte that is neither printable ASCII nor a blank.
     NotAscii,
+    /// A word or a sign of no kind.
     Token,
+    /// A token with which no policy can go on.
     Syntax,
+    /// A name that isn't in force.
     UnknownName,
+    /// A name that is declared while it is in force.
     Twice,
+    /// An expression, or a name, of the wrong type.
     TypeMismatch,
+    /// A number of 2^64 or more, or a dotted part past 255.
     NumberRange,
+    /// A node more than 32 deep, or a parenthesis inside 64 open ones.
     Nesting,
+    /// The 4,097th node.
     Nodes,
+    /// The 65,537th byte, or the 17th table.
     TooLong,
     /// What this program can't do yet.
     Later,
