@@ -1,4 +1,5 @@
 -- What the evaluator's data stand for.
+use Rattle.std.specs.Prelude.{◌≡◌, Bool, not, Option, Some, None}
 use Rattle.policy_eval.specs.declared.datum.Datum.{Datum}
 use Rattle.policy_eval.specs.declared.datum.Datum.TheVariants.{Number, Truth, At}
 use Rattle.policy_eval.specs.declared.datum.Operator.{Operator}
@@ -20,3 +21,8 @@ applied Equal = are_equal
 applied NotEqual = are_unequal
 applied Less = is_less
 applied LessEqual = is_at_most
+
+-- an answer that a left part of this truth settles, where it is the truth that settles
+abbrev pub Settles : Option Datum → Bool → Bool → Type 0
+Settles (Some d) left truth = (left ≡ truth) × (datum_of d ≡ True' truth)
+Settles None left truth = left ≡ not truth

@@ -4,3 +4,4 @@ pub mod Answers
 pub mod Endings
 pub mod HeadAnswers
 pub mod Arrivals
+pub mod Sides

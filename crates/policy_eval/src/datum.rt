@@ -1,7 +1,7 @@
 // What expressions give.
 ghost use Rattle.std.specs.Prelude.{◌≡◌};
 ghost use Rattle.policy_lang.specs.Values.{number_in, truth_in, place_in};
-ghost use Rattle.policy_eval.specs.Data.{datum_of, applied};
+ghost use Rattle.policy_eval.specs.Data.{datum_of, applied, Settles};
 
 use maple_base::Place;
 
@@ -31,6 +31,17 @@ impl Datum {
         match self {
             Datum::Truth(truth) => truth,
             _ => false,
+        }
+    }
+
+    /// The answer where a left part that is this settles it: false settles `and`, true `or`.
+    pub fn settled_by(self, truth: bool) -> Option<Datum>
+        ensures { Settles result (truth_in (datum_of self)) truth }
+    {
+        if self.truth() == truth {
+            Some(Datum::Truth(truth))
+        } else {
+            None
         }
     }
 

@@ -11,6 +11,7 @@ ghost use Rattle.policy_eval.specs.Endings.{EndsAs, OnGoes, DecidesAs, AreNumber
 
 use crate::datum::Operator::{Difference, Equal, Less, LessEqual, NotEqual, Sum};
 use crate::heads::{bind, flag_in, number_in_table, place_of_host, port_of_hop};
+use crate::sides::{Side, chosen_side};
 use crate::{Datum, Fault, Flow, Operator, Scope, Spent, Steps, is_port, sent_out};
 use maple_base::{Cell, Decision, EnvNow, Key, NoMemory, Outcome, Path, Place, Value};
 use policy_lang::{Block, Expr, Head, Policy, Statement};
@@ -104,10 +105,9 @@ impl<'a, E: EnvNow> Evaluator<'a, E> {
         ensures given { given_of result steps.new ≡ both_hold (value_of left.now (arrival_of E.has self.now) scope.now steps.old) (value_of right.now (arrival_of E.has self.now) scope.now) }
         ensures fewer { OnOk result (steps.new < steps.old) }
     {
-        if self.value(left, scope, steps)?.truth() {
-            self.value(right, scope, steps)
-        } else {
-            Ok(Datum::Truth(false))
+        match self.value(left, scope, steps)?.settled_by(false) {
+            Some(datum) => Ok(datum),
+            None => self.value(right, scope, steps),
         }
     }
 
@@ -123,10 +123,9 @@ impl<'a, E: EnvNow> Evaluator<'a, E> {
         ensures given { given_of result steps.new ≡ one_holds (value_of left.now (arrival_of E.has self.now) scope.now steps.old) (value_of right.now (arrival_of E.has self.now) scope.now) }
         ensures fewer { OnOk result (steps.new < steps.old) }
     {
-        if self.value(left, scope, steps)?.truth() {
-            Ok(Datum::Truth(true))
-        } else {
-            self.value(right, scope, steps)
+        match self.value(left, scope, steps)?.settled_by(true) {
+            Some(datum) => Ok(datum),
+            None => self.value(right, scope, steps),
         }
     }
 
@@ -269,14 +268,15 @@ impl<'a, E: EnvNow> Evaluator<'a, E> {
         ensures fewer { OnGoes result (steps.new ≤ steps.old) }
     {
         let outer = scope.len();
-        if self.head(head, scope, steps)? {
-            let flow = self.block(first, scope, steps)?;
-            scope.truncate(outer);
-            return Ok(flow);
-        }
-        match second {
-            None => Ok(Flow::Goes),
-            Some(second) => self.block(second, scope, steps),
+        let held = self.head(head, scope, steps)?;
+        match chosen_side(held, first, second) {
+            Side::First(block) => {
+                let flow = self.block(block, scope, steps)?;
+                scope.truncate(outer);
+                Ok(flow)
+            }
+            Side::Second(block) => self.block(block, scope, steps),
+            Side::Neither => Ok(Flow::Goes),
         }
     }
 

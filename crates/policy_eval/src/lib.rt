@@ -7,6 +7,7 @@ pub mod evaluation;
 pub mod heads;
 pub mod ports;
 pub mod scope;
+pub mod sides;
 pub mod steps;
 #[cfg(test)]
 mod tests;
