@@ -3,6 +3,8 @@
 
 mod action_reading;
 mod body_reading;
+#[cfg(test)]
+mod change_tests;
 pub mod decoding;
 pub mod encoding;
 pub mod fault;
