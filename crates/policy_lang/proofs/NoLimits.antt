@@ -12,7 +12,7 @@ use Rattle.policy_lang.specs.declared.Statement.TheFolds.{fold-Statement, fold-r
 use Rattle.policy_lang.specs.declared.Statement.TheViews.{roll-Statement, roll-Block}
 use Rattle.policy_lang.specs.declared.Statement.TheOpen.{Statement-F, Block-F, Drop as drop_, Flood as flood, Out as out, Route as route, Let as let_, Assign as assign, If as if_, While as while_}
 use Rattle.policy_lang.specs.declared.Block.{Block}
-use Rattle.policy_lang.specs.Faults.{Fault, Rule, Site, UnknownName, Twice, TypeMismatch, AtTable, AtNode, AtWhole, AtDeclared, AtBound, Type_, NumberType, TruthType, PlaceType, Meaning, Table, Variable, Names, Checked, is_limit, pass_of, is_before, sooner, first_of, size_of, size_of_head, first_in, suits, type_of, meaning_of, unless_so, value_faults, place_faults, table_faults, type_faults, parts_faults, expr_faults, operand_faults, numbers_faults, declared_faults, head_faults, names_behind, assigned_faults, wrong_otherwise, wrong_in, check_leaf, check_out, check_route, check_let, check_assign, check_if, check_while, check_statement, check_block, checked, tables_faults, table_names, policy_faults}
+use Rattle.policy_lang.specs.Faults.{Fault, Rule, Site, UnknownName, Twice, TypeMismatch, AtTable, AtNode, AtWhole, AtDeclared, AtBound, Type_, NumberType, TruthType, PlaceType, Meaning, Table, Variable, Names, Checked, is_limit, pass_of, is_before, sooner, first_of, size_of, size_of_head, first_in, suits, type_of, meaning_of, unless_so, value_faults, place_faults, table_faults, type_faults, parts_faults, expr_faults, operand_faults, numbers_faults, declared_faults, head_faults, names_behind, assigned_faults, wrong_otherwise, wrong_in, check_leaf, check_out, check_route, check_let, check_assign, check_if, check_while, check_statement, check_block, checked, tables_faults, table_names, name_faults, policy_faults}
 use Rattle.policy_lang.specs.Walks.{merged}
 use Rattle.policy_lang.specs.Limits.{statement_checked}
 use Rattle.policy_lang.proofs.Order.{ahead_less, ahead_more, first_append}
@@ -230,13 +230,12 @@ limit_first tables body f e l =
     ∙ ap (λ o. merged o (first_of wrong)) (first_append named limits ∙ ap (merged (first_of named)) e)
     ∙ limit_wins (first_of named) (first_of wrong) f l (first_free named (tables_free [] tables)) (first_free wrong (block_free body (table_names tables) 1))
 
--- and where none is passed, the first of the tables' faults and the body's
-pub names_first : (tables : List (List ℕ)) (body : Block) → (checked body).limits 1 1 ≡ []
-    → first_of (policy_faults tables body) ≡ merged (first_of (tables_faults [] tables)) (first_of ((checked body).wrong (table_names tables) 1))
-names_first tables body e =
+-- and where none is passed, only names and types are wrong
+pub names_only : (tables : List (List ℕ)) (body : Block) → (checked body).limits 1 1 ≡ [] → policy_faults tables body ≡ name_faults tables body
+names_only tables body e =
     let named : List Fault = tables_faults [] tables in
     let wrong : List Fault = (checked body).wrong (table_names tables) 1 in
-    ap (λ l. first_of (named ++ l ++ wrong)) e ∙ ap (λ l. first_of (l ++ wrong)) (nothing named) ∙ first_append named wrong
+    ap (λ l. named ++ l ++ wrong) e ∙ ap (λ l. l ++ wrong) (nothing named)
   where
     nothing : (xs : List Fault) → xs ++ [] ≡ xs
     nothing [] = refl

@@ -2,8 +2,8 @@
 use Rattle.std.proofs.Common.{◌≡◌, ◌⊎◌, ℕ, ◌+◌, ◌*◌, ◌<◌, ◌≤◌, Bool, true, false, cond, List, [], ◌∷◌, ◌++◌, refl, sym, ap, ◌∙◌, subst, inl, inr, arith, append_assoc}
 use Rattle.std.specs.Prelude.{◌==◌, ◌&&◌, ◌||◌, not, nat_lt, nat_le, Option, Some, None}
 use Rattle.std.proofs.lemmas.Bool.{ltb-true, ltb-false, lt-ltb, le-ltb, eq-eqb, eqb-true}
-use Rattle.policy_lang.specs.Faults.{Fault, Rule, UnknownName, Twice, TypeMismatch, Nesting, Nodes, Site, AtNode, is_limit, number_of, node_of, position, pass_of, is_before, sooner, first_of}
-use Rattle.policy_lang.specs.Walks.{merged}
+use Rattle.policy_lang.specs.Faults.{Fault, Rule, UnknownName, Twice, TypeMismatch, Nesting, Nodes, Site, AtNode, is_limit, number_of, node_of, position, pass_of, is_before_by, sooner_by, first_by, first_of}
+use Rattle.policy_lang.specs.Walks.{merged_by, merged}
 
 -- the order by a number, and of equal numbers by what is left
 abbrev pub ahead : ℕ → ℕ → Bool → Bool
@@ -71,57 +71,58 @@ last_trans a b c p q = let x = ltb-true a b p in let y = ltb-true b c q in lt-lt
 last_none : (a b c : ℕ) → nat_lt a b ≡ false → nat_lt b c ≡ false → nat_lt a c ≡ false
 last_none a b c p q = let x = ltb-false a b p in let y = ltb-false b c q in le-ltb a c (omega arith)
 
-pub before_trans : (f g h : Fault) → is_before f g ≡ true → is_before g h ≡ true → is_before f h ≡ true
-before_trans f g h =
+pub before_trans : (place : Site → ℕ) (f g h : Fault) → is_before_by place f g ≡ true → is_before_by place g h ≡ true → is_before_by place f h ≡ true
+before_trans place f g h =
     ahead_trans (pass_of f) (pass_of g) (pass_of h) _ _ _
-    (ahead_trans (position f.site) (position g.site) (position h.site) _ _ _
+    (ahead_trans (place f.site) (place g.site) (place h.site) _ _ _
     (ahead_trans (number_of f.rule) (number_of g.rule) (number_of h.rule) _ _ _ (last_trans (node_of f.site) (node_of g.site) (node_of h.site))))
 
-pub before_none : (f g h : Fault) → is_before f g ≡ false → is_before g h ≡ false → is_before f h ≡ false
-before_none f g h =
+pub before_none : (place : Site → ℕ) (f g h : Fault) → is_before_by place f g ≡ false → is_before_by place g h ≡ false → is_before_by place f h ≡ false
+before_none place f g h =
     ahead_none (pass_of f) (pass_of g) (pass_of h) _ _ _
-    (ahead_none (position f.site) (position g.site) (position h.site) _ _ _
+    (ahead_none (place f.site) (place g.site) (place h.site) _ _ _
     (ahead_none (number_of f.rule) (number_of g.rule) (number_of h.rule) _ _ _ (last_none (node_of f.site) (node_of g.site) (node_of h.site))))
 
-abbrev pub chosen : Bool → Fault → Fault → Fault
-chosen b g f = cond b g f
+three : (place : Site → ℕ) (x y z : Bool) (f g h : Fault) → is_before_by place g f ≡ x → is_before_by place h g ≡ y → is_before_by place h f ≡ z
+    → sooner_by place (sooner_by place f (Some g)) (Some h) ≡ sooner_by place f (Some (sooner_by place g (Some h)))
+three place true true z f g h a b c =
+    ap (λ w. sooner_by place (cond w g f) (Some h)) a ∙ ap (λ w. cond w h g) b
+    ∙ sym (ap (λ w. sooner_by place f (Some (cond w h g))) b ∙ ap (λ w. cond w h f) (before_trans place h g f b a))
+three place true false z f g h a b c =
+    ap (λ w. sooner_by place (cond w g f) (Some h)) a ∙ ap (λ w. cond w h g) b
+    ∙ sym (ap (λ w. sooner_by place f (Some (cond w h g))) b ∙ ap (λ w. cond w g f) a)
+three place false true z f g h a b c =
+    ap (λ w. sooner_by place (cond w g f) (Some h)) a ∙ sym (ap (λ w. sooner_by place f (Some (cond w h g))) b)
+three place false false z f g h a b c =
+    ap (λ w. sooner_by place (cond w g f) (Some h)) a ∙ ap (λ w. cond w h f) (before_none place h g f b a)
+    ∙ sym (ap (λ w. sooner_by place f (Some (cond w h g))) b ∙ ap (λ w. cond w g f) a)
 
-three : (x y z : Bool) (f g h : Fault) → is_before g f ≡ x → is_before h g ≡ y → is_before h f ≡ z
-    → sooner (sooner f (Some g)) (Some h) ≡ sooner f (Some (sooner g (Some h)))
-three true true z f g h a b c =
-    ap (λ w. sooner (cond w g f) (Some h)) a ∙ ap (λ w. cond w h g) b
-    ∙ sym (ap (λ w. sooner f (Some (cond w h g))) b ∙ ap (λ w. cond w h f) (before_trans h g f b a))
-three true false z f g h a b c =
-    ap (λ w. sooner (cond w g f) (Some h)) a ∙ ap (λ w. cond w h g) b
-    ∙ sym (ap (λ w. sooner f (Some (cond w h g))) b ∙ ap (λ w. cond w g f) a)
-three false true z f g h a b c =
-    ap (λ w. sooner (cond w g f) (Some h)) a ∙ sym (ap (λ w. sooner f (Some (cond w h g))) b)
-three false false z f g h a b c =
-    ap (λ w. sooner (cond w g f) (Some h)) a ∙ ap (λ w. cond w h f) (before_none h g f b a)
-    ∙ sym (ap (λ w. sooner f (Some (cond w h g))) b ∙ ap (λ w. cond w g f) a)
+pub merged_none : (place : Site → ℕ) (a : Option Fault) → merged_by place a None ≡ a
+merged_none place None = refl
+merged_none place (Some f) = refl
 
-pub merged_none : (a : Option Fault) → merged a None ≡ a
-merged_none None = refl
-merged_none (Some f) = refl
-
-pub merged_assoc : (a b c : Option Fault) → merged (merged a b) c ≡ merged a (merged b c)
-merged_assoc None b c = refl
-merged_assoc (Some f) None c = refl
-merged_assoc (Some f) (Some g) None = refl
-merged_assoc (Some f) (Some g) (Some h) = ap Some (three (is_before g f) (is_before h g) (is_before h f) f g h refl refl refl)
+pub merged_assoc : (place : Site → ℕ) (a b c : Option Fault) → merged_by place (merged_by place a b) c ≡ merged_by place a (merged_by place b c)
+merged_assoc place None b c = refl
+merged_assoc place (Some f) None c = refl
+merged_assoc place (Some f) (Some g) None = refl
+merged_assoc place (Some f) (Some g) (Some h) = ap Some (three place (is_before_by place g f) (is_before_by place h g) (is_before_by place h f) f g h refl refl refl)
 
 -- the first fault of two lists is the first of their first ones
+pub first_both : (place : Site → ℕ) (xs ys : List Fault) → first_by place (xs ++ ys) ≡ merged_by place (first_by place xs) (first_by place ys)
+first_both place [] ys = refl
+first_both place (f ∷ xs) ys = ap (merged_by place (Some f)) (first_both place xs ys) ∙ sym (merged_assoc place (Some f) (first_by place xs) (first_by place ys))
+
+-- the same by the order of places in the text of a tree without parentheses
 pub first_append : (xs ys : List Fault) → first_of (xs ++ ys) ≡ merged (first_of xs) (first_of ys)
-first_append [] ys = refl
-first_append (f ∷ xs) ys = ap (merged (Some f)) (first_append xs ys) ∙ sym (merged_assoc (Some f) (first_of xs) (first_of ys))
+first_append xs ys = first_both position xs ys
 
 -- the first of faults found so far and of those to come
-pub merged_append : (a : Option Fault) (xs ys : List Fault) → merged a (first_of (xs ++ ys)) ≡ merged (merged a (first_of xs)) (first_of ys)
-merged_append a xs ys = ap (merged a) (first_append xs ys) ∙ sym (merged_assoc a (first_of xs) (first_of ys))
+pub merged_append : (place : Site → ℕ) (a : Option Fault) (xs ys : List Fault) → merged_by place a (first_by place (xs ++ ys)) ≡ merged_by place (merged_by place a (first_by place xs)) (first_by place ys)
+merged_append place a xs ys = ap (merged_by place a) (first_both place xs ys) ∙ sym (merged_assoc place a (first_by place xs) (first_by place ys))
 
 -- what two parts have, each a type and what is wrong in it
-pub first_parts : (a b c d : List Fault) → merged (first_of (a ++ b)) (first_of (c ++ d)) ≡ first_of (a ++ b ++ c ++ d)
-first_parts a b c d = sym (first_append (a ++ b) (c ++ d)) ∙ ap first_of (sym (append_assoc (a ++ b) c d))
+pub first_parts : (place : Site → ℕ) (a b c d : List Fault) → merged_by place (first_by place (a ++ b)) (first_by place (c ++ d)) ≡ first_by place (a ++ b ++ c ++ d)
+first_parts place a b c d = sym (first_both place (a ++ b) (c ++ d)) ∙ ap (first_by place) (sym (append_assoc (a ++ b) c d))
 
-pub first_three : (a b c : List Fault) → merged (merged (first_of a) (first_of b)) (first_of c) ≡ first_of (a ++ b ++ c)
-first_three a b c = ap (λ o. merged o (first_of c)) (sym (first_append a b)) ∙ sym (first_append (a ++ b) c)
+pub first_three : (place : Site → ℕ) (a b c : List Fault) → merged_by place (merged_by place (first_by place a) (first_by place b)) (first_by place c) ≡ first_by place (a ++ b ++ c)
+first_three place a b c = ap (λ o. merged_by place o (first_by place c)) (sym (first_both place a b)) ∙ sym (first_both place (a ++ b) c)

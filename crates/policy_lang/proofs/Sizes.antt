@@ -163,9 +163,12 @@ block_fits = ind-Block FittingStatement FittingBlock
     (λ x y is. statement_layer x (subst (λ z. Fitting (layer z)) is (layer_fits y)))
     (λ x y is. block_layer x (subst (λ z. AllFit z.list.items) is (all_fit y.list.items)))
 
+-- where the body passes no limit
+pub body_fits : (body : Block) → (checked body).limits 1 1 ≡ [] → (checked body).size ≤ 4096
+body_fits body none = let fits = block_fits body 1 1 none (omega arith) in omega (arith, fits)
+
 pub formed_fits : (tables : List (List ℕ)) (body : Block) → IsWellFormed tables body → (checked body).size ≤ 4096
 formed_fits tables body formed =
     let h = none_both (tables_faults [] tables ++ (checked body).limits 1 1) ((checked body).wrong (table_names tables) 1) formed in
     let g = none_both (tables_faults [] tables) ((checked body).limits 1 1) h.0 in
-    let fits = block_fits body 1 1 g.1 (omega arith) in
-    omega (arith, fits)
+    body_fits body g.1

@@ -4,8 +4,8 @@ use Rattle.std.specs.Prelude.{◌||◌, not, Option}
 use Rattle.std.specs.List.{list_any}
 use Rattle.std.specs.Str.{bytes_eq}
 use Rattle.std.proofs.Math.Seq.{drop-cons, take-suc}
-use Rattle.policy_lang.specs.Faults.{Fault, Twice, AtTable, unless_so, tables_faults, first_of}
-use Rattle.policy_lang.specs.Walks.{merged}
+use Rattle.policy_lang.specs.Faults.{Fault, Twice, AtTable, unless_so, Site, tables_faults, first_by}
+use Rattle.policy_lang.specs.Walks.{merged_by}
 use Rattle.policy_lang.proofs.Order.{merged_append}
 
 or_swap : (a b c : Bool) → (a || (b || c)) ≡ (b || (a || c))
@@ -25,15 +25,15 @@ same_seen seen others (t ∷ ts) h =
     ∙ ap (λ fs. unless_so (not (list_any (bytes_eq t) others)) Twice AtTable ++ fs) (same_seen (t ∷ seen) (t ∷ others) ts (λ p. ap (λ b. p t || b) (h p)))
 
 -- one more table
-pub tables_more : (a : Option Fault) (ts : List (List ℕ)) (i : ℕ) → i < length ts
-    → merged a (first_of (tables_faults (take i ts) (drop i ts)))
-    ≡ merged (merged a (first_of (unless_so (not (list_any (bytes_eq (get_or ts i [])) (take i ts))) Twice AtTable))) (first_of (tables_faults (take (i + 1) ts) (drop (i + 1) ts)))
-tables_more a ts i h =
+pub tables_more : (place : Site → ℕ) (a : Option Fault) (ts : List (List ℕ)) (i : ℕ) → i < length ts
+    → merged_by place a (first_by place (tables_faults (take i ts) (drop i ts)))
+    ≡ merged_by place (merged_by place a (first_by place (unless_so (not (list_any (bytes_eq (get_or ts i [])) (take i ts))) Twice AtTable))) (first_by place (tables_faults (take (i + 1) ts) (drop (i + 1) ts)))
+tables_more place a ts i h =
     let t = get_or ts i [] in
     let now : List Fault = unless_so (not (list_any (bytes_eq t) (take i ts))) Twice AtTable in
-    ap (λ l. merged a (first_of (tables_faults (take i ts) l))) (drop-cons ts i [] h)
-    ∙ merged_append a now (tables_faults (t ∷ take i ts) (drop (suc i) ts))
-    ∙ ap (λ fs. merged (merged a (first_of now)) (first_of fs))
+    ap (λ l. merged_by place a (first_by place (tables_faults (take i ts) l))) (drop-cons ts i [] h)
+    ∙ merged_append place a now (tables_faults (t ∷ take i ts) (drop (suc i) ts))
+    ∙ ap (λ fs. merged_by place (merged_by place a (first_by place now)) (first_by place fs))
     (same_seen (t ∷ take i ts) (take i ts ++ t ∷ []) (drop (suc i) ts) (λ p. any_push p (take i ts) t)
     ∙ ap (λ l. tables_faults l (drop (suc i) ts)) (sym (take-suc ts i [] h)))
-    ∙ ap (λ j. merged (merged a (first_of now)) (first_of (tables_faults (take j ts) (drop j ts)))) (sym (add-one i))
+    ∙ ap (λ j. merged_by place (merged_by place a (first_by place now)) (first_by place (tables_faults (take j ts) (drop j ts)))) (sym (add-one i))

@@ -405,6 +405,10 @@ tables_behind names (t ∷ ts) = tables_behind (with_name t Table names) ts
 abbrev pub table_names : List (List ℕ) → Names
 table_names tables = tables_behind [] tables
 
+-- all that is wrong with the names and types of a policy of these tables and this body
+abbrev pub name_faults : List (List ℕ) → Block → List Fault
+name_faults tables body = tables_faults [] tables ++ (checked body).wrong (table_names tables) 1
+
 -- all that is wrong with a policy of these tables and this body
 abbrev pub policy_faults : List (List ℕ) → Block → List Fault
 policy_faults tables body = tables_faults [] tables ++ (checked body).limits 1 1 ++ (checked body).wrong (table_names tables) 1
@@ -418,19 +422,29 @@ IsWellFormed tables body = policy_faults tables body ≡ []
 abbrev pub pass_of : Fault → ℕ
 pass_of f = if is_limit f.rule then 0 else 1
 
--- by the pass, the place in the text, the rule's number, and then the node's
-abbrev pub is_before : Fault → Fault → Bool
-is_before f g =
+-- by the pass, the place of the site, the rule's number, and then the node's
+abbrev pub is_before_by : (Site → ℕ) → Fault → Fault → Bool
+is_before_by place f g =
     nat_lt (pass_of f) (pass_of g) || (pass_of f == pass_of g
-    && (nat_lt (position f.site) (position g.site) || (position f.site == position g.site
+    && (nat_lt (place f.site) (place g.site) || (place f.site == place g.site
     && (nat_lt (number_of f.rule) (number_of g.rule) || (number_of f.rule == number_of g.rule
     && nat_lt (node_of f.site) (node_of g.site))))))
 
-abbrev pub sooner : Fault → Option Fault → Fault
-sooner f None = f
-sooner f (Some g) = if is_before g f then g else f
+abbrev pub sooner_by : (Site → ℕ) → Fault → Option Fault → Fault
+sooner_by place f None = f
+sooner_by place f (Some g) = if is_before_by place g f then g else f
 
--- the first of some faults
+-- the first of some faults, where each site has its place
+abbrev pub first_by : (Site → ℕ) → List Fault → Option Fault
+first_by place [] = None
+first_by place (f ∷ fs) = Some (sooner_by place f (first_by place fs))
+
+-- the same by the order of places in the text of a tree without parentheses
+abbrev pub is_before : Fault → Fault → Bool
+is_before = is_before_by position
+
+abbrev pub sooner : Fault → Option Fault → Fault
+sooner = sooner_by position
+
 abbrev pub first_of : List Fault → Option Fault
-first_of [] = None
-first_of (f ∷ fs) = Some (sooner f (first_of fs))
+first_of = first_by position

@@ -1,13 +1,18 @@
 -- What the walk over a tree's names and types finds.
 use Rattle.std.specs.Prelude.{◌≡◌, ℕ, ◌+◌, List, ◌++◌, Option}
 use Rattle.policy_lang.specs.declared.Head.{Head}
+use Rattle.policy_lang.specs.declared.faults.Fault.{Fault as CodeFault}
 use Rattle.policy_lang.specs.declared.types.Found.{Found}
-use Rattle.policy_lang.specs.Faults.{Fault, Names, Checked, head_faults, size_of_head, names_behind, wrong_otherwise, first_of}
+use Rattle.policy_lang.specs.Faults.{Fault, Site, Names, Checked, head_faults, size_of_head, names_behind, wrong_otherwise, first_by}
 use Rattle.policy_lang.specs.Walks.{told}
 
--- the first of these faults, and the number behind the nodes
-pub record IsFound (found : Found) (faults : List Fault) (after : ℕ) : Type 0 where
-  pub fault : told found.fault ≡ first_of faults
+-- the first of these faults, wherever their sites lie
+abbrev pub IsFirstAnywhere : Option CodeFault → List Fault → Type 0
+IsFirstAnywhere fault faults = (place : Site → ℕ) → told fault ≡ first_by place faults
+
+-- the first of these faults, where each site has its place, and the number behind the nodes
+pub record IsFound (place : Site → ℕ) (found : Found) (faults : List Fault) (after : ℕ) : Type 0 where
+  pub fault : told found.fault ≡ first_by place faults
   pub next : found.next ≡ after
 
 -- the names at the end of a block are those ahead of it, with those that it declares behind them

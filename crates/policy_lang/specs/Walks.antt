@@ -5,7 +5,7 @@ use Rattle.policy_lang.specs.declared.faults.Rule.TheVariants as rules
 use Rattle.policy_lang.specs.declared.faults.Site.{Site as CodeSite}
 use Rattle.policy_lang.specs.declared.faults.Site.TheVariants as sites
 use Rattle.policy_lang.specs.declared.faults.Fault.{Fault as CodeFault}
-use Rattle.policy_lang.specs.Faults.{Rule, UnknownName, Twice, TypeMismatch, Nesting, Nodes, Site, AtTable, AtNode, AtWhole, AtDeclared, AtBound, Fault, sooner}
+use Rattle.policy_lang.specs.Faults.{Rule, UnknownName, Twice, TypeMismatch, Nesting, Nodes, Site, AtTable, AtNode, AtWhole, AtDeclared, AtBound, Fault, position, sooner_by}
 
 abbrev pub rule_of : CodeRule → Rule
 rule_of rules.UnknownName = UnknownName
@@ -28,7 +28,11 @@ abbrev pub told : Option CodeFault → Option Fault
 told None = None
 told (Some f) = Some (fault_of f)
 
--- the first of two faults; of two that neither is before the other, the first of the two
+-- the first of two faults, where each site has its place; of two that neither is before the other, the first of the two
+abbrev pub merged_by : (Site → ℕ) → Option Fault → Option Fault → Option Fault
+merged_by place None g = g
+merged_by place (Some f) g = Some (sooner_by place f g)
+
+-- the same by the order of places in the text of a tree without parentheses
 abbrev pub merged : Option Fault → Option Fault → Option Fault
-merged None g = g
-merged (Some f) g = Some (sooner f g)
+merged = merged_by position

@@ -4,10 +4,9 @@ ghost use Rattle.policy_lang.specs.declared.build.BuildError.TheVariants.{NoMemo
 ghost use Rattle.policy_lang.specs.Built.{IsErrorOf};
 ghost use Rattle.policy_lang.specs.Faults.{IsWellFormed, checked};
 
-use crate::faults::earlier;
 use crate::limits::walk_body;
-use crate::names::Scope;
-use crate::types::{check_body, tables_fault};
+use crate::name_fault::first_name_fault;
+use crate::places::TreeOrder;
 use crate::{Block, Policy};
 use maple_base::{Name, Names, NoMemory};
 use std::alloc::Global;
@@ -78,13 +77,10 @@ fn check_parts(alloc: Global, tables: &[Name], body: &Block) -> Result<(), Build
 #[tactic(auto, using(crate::proofs::Told::fault_told, crate::proofs::Told::well_formed))]
 fn check_names(alloc: Global, tables: &[Name], body: &Block) -> Result<(), BuildError>
     requires limits { (checked body.now).limits 1 1 ≡ [] }
-    requires few { (checked body.now).size ≤ 4096 }
     ensures formed { OnOk result (IsWellFormed tables.now body.now) }
     ensures fault { IfErr result (λ error. IsErrorOf error tables.now body.now) }
 {
-    let scope = Scope::of_tables(alloc, tables)?;
-    let wrong = check_body(body, scope)?;
-    match earlier(tables_fault(tables), wrong) {
+    match first_name_fault(alloc, tables, body, &TreeOrder)? {
         None => Ok(()),
         Some(fault) => Err(BuildError::Fault {
             node: fault.site.node(),

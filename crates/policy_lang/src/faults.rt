@@ -1,15 +1,22 @@
 // What may be wrong with a policy, and which of two faults comes first.
 ghost use Rattle.std.specs.Prelude.{◌≡◌, if◌then◌else◌};
-ghost use Rattle.policy_lang.specs.Faults.{number_of, is_limit, position, node_of, is_before, pass_of};
-ghost use Rattle.policy_lang.specs.Walks.{rule_of, site_of, fault_of, told, merged};
+ghost use Rattle.policy_lang.specs.Faults.{number_of, is_limit, node_of, is_before_by, pass_of};
+ghost use Rattle.policy_lang.specs.Walks.{rule_of, site_of, fault_of, told, merged_by};
+
+use crate::places::Places;
 
 /// A rule that a policy may break.
 #[derive(Clone, Copy)]
 pub enum Rule {
+    /// A name is not in force.
     UnknownName,
+    /// A name is declared while it is in force.
     Twice,
+    /// An expression or a name has another type than is wanted.
     TypeMismatch,
+    /// A node is more than 32 deep.
     Nesting,
+    /// A node is the 4,097th.
     Nodes,
 }
 
@@ -36,7 +43,7 @@ pub struct Fault {
 }
 
 impl Rule {
-    /// The number by which the rule is told.
+    /// The number by which the rule is told: 4, 5, 6, 8 and 9.
     pub fn number(self) -> u8
         ensures { result ≡ number_of (rule_of self) }
     {
@@ -73,34 +80,21 @@ impl Site {
             | Site::AtBound(node, _) => node,
         }
     }
-
-    // The place in the text, by twice the number of a node: a declared or bound name comes behind
-    // the words of the nodes ahead of it.
-    fn position(self) -> u64
-        ensures { result ≡ position (site_of self) }
-    {
-        match self {
-            Site::AtTable => 0,
-            Site::AtNode(_, first) | Site::AtWhole(_, first) => 2 * u64::from(first),
-            Site::AtDeclared(node) => 2 * u64::from(node) + 1,
-            Site::AtBound(_, last) => 2 * u64::from(last) + 1,
-        }
-    }
 }
 
 impl Fault {
-    fn is_before(self, other: Fault) -> bool
-        ensures { result ≡ is_before (fault_of self) (fault_of other) }
+    fn is_before<P: Places>(self, other: Fault, places: &P) -> bool
+        ensures { result ≡ is_before_by (P.place_of places.now) (fault_of self) (fault_of other) }
     {
         let key = (
             self.rule.pass(),
-            self.site.position(),
+            places.place(self.site),
             self.rule.number(),
             self.site.node(),
         );
         let other_key = (
             other.rule.pass(),
-            other.site.position(),
+            places.place(other.site),
             other.rule.number(),
             other.site.node(),
         );
@@ -108,13 +102,17 @@ impl Fault {
     }
 }
 
-/// The first of two faults; of two that neither is before the other, this one.
-pub fn earlier(fault: Option<Fault>, other: Option<Fault>) -> Option<Fault>
-    ensures { told result ≡ merged (told fault) (told other) }
+// The first of two faults; of two that neither is before the other, the first given.
+pub(crate) fn earlier<P: Places>(
+    fault: Option<Fault>,
+    other: Option<Fault>,
+    places: &P,
+) -> Option<Fault>
+    ensures { told result ≡ merged_by (P.place_of places.now) (told fault) (told other) }
 {
     match (fault, other) {
         (Some(fault), Some(other)) => {
-            if other.is_before(fault) {
+            if other.is_before(fault, places) {
                 Some(other)
             } else {
                 Some(fault)

@@ -6,17 +6,22 @@ ghost use Rattle.policy_lang.specs.Blocks.{statements_of, IsOutList};
 ghost use Rattle.policy_lang.specs.Faults.{IsWellFormed};
 
 pub mod build;
-mod faults;
+pub mod faults;
 pub mod laws;
 mod limits;
+pub mod name_fault;
 mod names;
+pub mod places;
 pub mod plain;
 #[cfg(test)]
 mod tests;
 mod types;
 
 pub use build::BuildError;
+pub use faults::{Fault, Rule, Site};
 use maple_base::{Field, Name, Names};
+pub use name_fault::first_name_fault;
+pub use places::{Places, TreeOrder};
 use std::marker::Model;
 
 /// An expression. It gives a number, a truth or a place.

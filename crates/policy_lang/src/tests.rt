@@ -1,4 +1,8 @@
-use crate::{Block, BuildError, Expr, Exprs, Head, Policy, Statement};
+use crate::limits::walk_body;
+use crate::{
+    Block, BuildError, Expr, Exprs, Head, Places, Policy, Site, Statement, TreeOrder,
+    first_name_fault,
+};
 use maple_base::{Field, Name, NoMemory};
 use std::alloc::Global;
 use std::process::Abort;
@@ -231,6 +235,73 @@ fn tells_a_name_ahead_of_a_type_at_one_place(rt: HostRuntime) -> Result<(), Fail
     let asked = when(alloc, Head::Test(unknown), Statement::Drop)?;
     let statements = vec![in alloc; asked]?;
     assert_eq!(&rt; built(&rt, alloc, Vec::new(alloc), statements)?, (3, 4));
+    Ok(())
+}
+
+// The places in a text where each expression stands in parentheses, ahead of its first word.
+#[derive(Clone, Copy)]
+struct InParentheses;
+
+impl Places for InParentheses {
+    ghost use Rattle.std.specs.Prelude.{◌+◌, ◌*◌};
+    ghost use Rattle.policy_lang.specs.Faults.{AtTable, AtNode, AtWhole, AtDeclared, AtBound};
+
+    ghost place_of = { λ places site. elim site [
+      | AtTable ↦ 0
+      | AtNode node first ↦ 3 * first + 1
+      | AtWhole node first ↦ 3 * first
+      | AtDeclared node ↦ 3 * node + 2
+      | AtBound node last ↦ 3 * last + 2
+    ] };
+
+    fn place(&self, site: Site) -> u64 {
+        match site {
+            Site::AtTable => 0,
+            Site::AtNode(_, first) => 3 * u64::from(first) + 1,
+            Site::AtWhole(_, first) => 3 * u64::from(first),
+            Site::AtDeclared(node) => 3 * u64::from(node) + 2,
+            Site::AtBound(_, last) => 3 * u64::from(last) + 2,
+        }
+    }
+}
+
+// The node and the kind of the first fault of names and types by these places, or 0 and 0 where
+// there is none.
+fn found<P: Places>(
+    rt: &impl Abort,
+    alloc: Global,
+    body: &Block,
+    places: &P,
+) -> Result<(u32, u8), Fail> {
+    let tables = Vec::new(alloc);
+    match walk_body(body) {
+        Err(_) => panic!(rt; "a limit"),
+        Ok(_) => match first_name_fault(alloc, &tables, body, places)? {
+            None => Ok((0, 0)),
+            Some(fault) => Ok((fault.site.node(), fault.rule.number())),
+        },
+    }
+}
+
+// if (x + 1) { drop; }: the sum is node 2 and no truth, and the unknown name is node 3. The
+// parenthesis comes ahead of the name; without it both begin at one place.
+#[test]
+fn tells_a_type_at_its_parenthesis(rt: HostRuntime) -> Result<(), Fail> {
+    let alloc = rt.alloc();
+    let unknown = add(alloc, Expr::Var(name(&rt, "x")), Expr::Number(1))?;
+    let asked = when(alloc, Head::Test(unknown), Statement::Drop)?;
+    let body = Block::new(vec![in alloc; asked]?);
+    assert_eq!(&rt; found(&rt, alloc, &body, &InParentheses)?, (2, 6));
+    assert_eq!(&rt; found(&rt, alloc, &body, &TreeOrder)?, (3, 4));
+    Ok(())
+}
+
+// out 1;
+#[test]
+fn finds_no_fault_of_names(rt: HostRuntime) -> Result<(), Fail> {
+    let alloc = rt.alloc();
+    let body = Block::new(vec![in alloc; out(alloc, Expr::Number(1))?]?);
+    assert_eq!(&rt; found(&rt, alloc, &body, &InParentheses)?, (0, 0));
     Ok(())
 }
 

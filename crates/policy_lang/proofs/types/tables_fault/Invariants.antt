@@ -1,7 +1,9 @@
 use Rattle.std.proofs.Common.{◌≡◌, [], take, drop}
-use Rattle.policy_lang.specs.Faults.{tables_faults, first_of}
-use Rattle.policy_lang.specs.Walks.{told, merged}
+use Rattle.policy_lang.specs.Faults.{tables_faults, first_by}
+use Rattle.policy_lang.specs.Walks.{told, merged_by}
 use Rattle.policy_lang.proofs.types.tables_fault.Given as goal
 
 abbrev pub invariant-loop-i : goal.invariant-loop-i
-invariant-loop-i l = merged (told l.fault) (first_of (tables_faults (take l.i l.tables) (drop l.i l.tables))) ≡ first_of (tables_faults [] l.tables)
+invariant-loop-i g l =
+    let place = g.P.Places.place_of l.places in
+    merged_by place (told l.fault) (first_by place (tables_faults (take l.i l.tables) (drop l.i l.tables))) ≡ first_by place (tables_faults [] l.tables)
