@@ -1,0 +1,266 @@
+// What each token adds to what was read.
+ghost use Rattle.std.specs.Prelude.{◌≡◌, ◌++◌, [], ◌∷◌, drop, OnOk, IfOk};
+ghost use Rattle.policy_grammar.specs.Automaton.{settle, operator_in};
+ghost use Rattle.policy_grammar.specs.declared.place.Shape.{Shape};
+ghost use Rattle.policy_grammar.specs.Events.{ended, endings, operator_event, closing, finished, opening, behind_events, ahead_events, closed_events, name_events, table_events, statement_events, question_first, events_at, events};
+
+use crate::operator::operator_in;
+use crate::reader::pull;
+use crate::tokens::{is_keyword, is_sign};
+use crate::{Around, Base, Block, Event, Place, Reader};
+use maple_base::NoMemory;
+use policy_tokens::{Keyword, Sign, Token};
+
+// Adds one item at the end.
+fn add<T: Copy>(out: &mut Vec<T>, item: T) -> Result<(), NoMemory>
+    ensures { OnOk result (out.new.items ≡ out.old.items ++ item ∷ []) }
+{
+    out.push(item)?;
+    Ok(())
+}
+
+// Adds one item, and another behind it.
+fn add_both<T: Copy>(out: &mut Vec<T>, first: T, second: T) -> Result<(), NoMemory>
+    ensures { OnOk result (out.new.items ≡ out.old.items ++ first ∷ second ∷ []) }
+{
+    add(out, first)?;
+    add(out, second)
+}
+
+// The end of an expression that has this around it.
+fn ended(around: Around) -> Event
+    ensures { result ≡ ended around }
+{
+    match around {
+        Around::Left(operator) => Event::Pair(operator),
+        Around::Not => Event::Negation,
+        Around::Is => Event::Test,
+        Around::Group => Event::GroupEnd,
+        Around::First | Around::Second => Event::Call,
+    }
+}
+
+fn table(token: &Token, out: &mut Vec<Event>) -> Result<(), NoMemory>
+    ensures { OnOk result (out.new.items ≡ out.old.items ++ table_events token.now) }
+{
+    match token {
+        Token::Name(name) => add(out, Event::Table(*name)),
+        _ => Ok(()),
+    }
+}
+
+fn named(token: &Token, out: &mut Vec<Event>) -> Result<(), NoMemory>
+    ensures { OnOk result (out.new.items ≡ out.old.items ++ name_events token.now) }
+{
+    match token {
+        Token::Name(name) => add(out, Event::Name(*name)),
+        _ => Ok(()),
+    }
+}
+
+fn learning(token: &Token, out: &mut Vec<Event>) -> Result<(), NoMemory>
+    ensures { OnOk result (out.new.items ≡ out.old.items ++ events_at Place.Policy [] [] token.now) }
+{
+    if is_keyword(token, Keyword::Learning) {
+        return add(out, Event::Learning);
+    }
+    Ok(())
+}
+
+// The first token of an expression.
+fn ahead(token: &Token, out: &mut Vec<Event>) -> Result<(), NoMemory>
+    ensures { OnOk result (out.new.items ≡ out.old.items ++ ahead_events token.now) }
+{
+    if is_sign(token, Sign::OpenParenthesis) {
+        add(out, Event::Group)
+    } else if is_keyword(token, Keyword::Not) {
+        add(out, Event::Not)
+    } else if is_keyword(token, Keyword::Up) {
+        add(out, Event::Up)
+    } else if is_keyword(token, Keyword::At) {
+        add(out, Event::At)
+    } else {
+        add(out, Event::Single(*token))
+    }
+}
+
+// The first token of what an `if` asks.
+fn question(token: &Token, out: &mut Vec<Event>) -> Result<(), NoMemory>
+    ensures { OnOk result (out.new.items ≡ out.old.items ++ question_first token.now) }
+{
+    if is_keyword(token, Keyword::Host) || is_keyword(token, Keyword::Hop) {
+        return add(out, Event::Begin);
+    }
+    ahead(token, out)
+}
+
+// The semicolon behind a statement's expressions.
+fn finished(base: Base, out: &mut Vec<Event>) -> Result<(), NoMemory>
+    ensures { OnOk result (out.new.items ≡ out.old.items ++ finished base) }
+{
+    match base {
+        Base::Out(count) => add(out, Event::Out(usize::from(count) + 1)),
+        Base::Route => add(out, Event::Route),
+        Base::Let => add(out, Event::Let),
+        Base::Assign => add(out, Event::Assign),
+        Base::If | Base::While | Base::Host | Base::Hop | Base::Lookup => Ok(()),
+    }
+}
+
+// The opening brace behind an expression.
+fn opening(base: Base, out: &mut Vec<Event>) -> Result<(), NoMemory>
+    ensures { OnOk result (out.new.items ≡ out.old.items ++ opening base) }
+{
+    match base {
+        Base::If => add_both(out, Event::Holds, Event::Open),
+        _ => add(out, Event::Open),
+    }
+}
+
+fn operator(token: &Token, out: &mut Vec<Event>) -> Result<(), NoMemory>
+    ensures { OnOk result (out.new.items ≡ out.old.items ++ operator_event (operator_in token.now)) }
+{
+    match operator_in(token) {
+        Some(operator) => add(out, Event::Operator(operator)),
+        None => Ok(()),
+    }
+}
+
+impl Reader {
+    /// Adds to `out` what this token adds to what was read.
+    ///
+    /// A token with which no policy can go on may add something too, which means nothing. Where
+    /// memory is wanting, a part may have been added.
+    pub fn emit(&self, token: &Token, out: &mut Vec<Event>) -> Result<(), NoMemory>
+        ensures emitted { OnOk result (out.new.items ≡ out.old.items ++ events self.now token.now) }
+    {
+        match self.place {
+            Place::Table => table(token, out),
+            Place::Policy => learning(token, out),
+            Place::Statement => self.emit_statement(token, out),
+            Place::Else => self.emit_else(token, out),
+            Place::Let | Place::As => named(token, out),
+            Place::If => question(token, out),
+            Place::Ahead(_) => ahead(token, out),
+            Place::Behind(base, _) => self.emit_behind(base, token, out),
+            Place::Bound => add_both(out, Event::Bind, Event::Open),
+            Place::ElseBlock => add(out, Event::Open),
+            Place::Start
+            | Place::TableName
+            | Place::Learning
+            | Place::Decided
+            | Place::LetName
+            | Place::Assigned
+            | Place::Asks(_)
+            | Place::Callee(_)
+            | Place::Asked
+            | Place::End => Ok(()),
+        }
+    }
+
+    // A closing brace.
+    fn emit_closed(&self, out: &mut Vec<Event>) -> Result<(), NoMemory>
+        ensures { OnOk result (out.new.items ≡ out.old.items ++ closed_events self.now.blocks) }
+    {
+        match self.blocks.top() {
+            None => Ok(()),
+            Some(Block::First) => add(out, Event::Close),
+            Some(Block::Second) => add_both(out, Event::Close, Event::IfElse),
+            Some(Block::Loop) => add_both(out, Event::Close, Event::While),
+        }
+    }
+
+    // The first word of a statement, or the brace that closes its block.
+    fn emit_statement(&self, token: &Token, out: &mut Vec<Event>) -> Result<(), NoMemory>
+        ensures { OnOk result (out.new.items ≡ out.old.items ++ statement_events self.now.blocks token.now) }
+    {
+        if is_sign(token, Sign::CloseBrace) {
+            self.emit_closed(out)
+        } else if is_keyword(token, Keyword::Drop) {
+            add_both(out, Event::Begin, Event::Drop)
+        } else if is_keyword(token, Keyword::Flood) {
+            add_both(out, Event::Begin, Event::Flood)
+        } else {
+            add(out, Event::Begin)?;
+            named(token, out)
+        }
+    }
+
+    // The same where an `else` may stand: any other token ends the `if`.
+    fn emit_else(&self, token: &Token, out: &mut Vec<Event>) -> Result<(), NoMemory>
+        ensures { OnOk result (out.new.items ≡ out.old.items ++ events_at Place.Else [] self.now.blocks token.now) }
+    {
+        if is_keyword(token, Keyword::Else) {
+            return Ok(());
+        }
+        add(out, Event::If)?;
+        self.emit_statement(token, out)
+    }
+
+    // Adds what ends ahead of a token, and counts it.
+    fn emit_endings(&self, pull: u8, out: &mut Vec<Event>) -> Result<usize, NoMemory>
+        ensures endings { OnOk result (out.new.items ≡ out.old.items ++ endings pull self.now.around) }
+        ensures left { IfOk result (λ depth. (s : Shape) → (settle pull self.now.around s).around ≡ drop depth self.now.around) }
+    {
+        let mut depth = 0;
+        while let Some(around) = self.around.below(depth) {
+            if pull >= around.least() {
+                break;
+            }
+            add(out, ended(around))?;
+            depth += 1;
+        }
+        Ok(depth)
+    }
+
+    // Behind an expression, or behind what of it was read.
+    fn emit_behind(&self, base: Base, token: &Token, out: &mut Vec<Event>) -> Result<(), NoMemory>
+        ensures { OnOk result ((s : Shape) → out.new.items ≡ out.old.items ++ events_at (Place.Behind base s) self.now.around [] token.now) }
+    {
+        let depth = self.emit_endings(pull(token), out)?;
+        self.emit_part(base, depth, token, out)
+    }
+
+    // Behind an expression, where so many of what stood around have ended.
+    fn emit_part(
+        &self,
+        base: Base,
+        depth: usize,
+        token: &Token,
+        out: &mut Vec<Event>,
+    ) -> Result<(), NoMemory>
+        ensures { OnOk result (out.new.items ≡ out.old.items ++ behind_events base (drop depth self.now.around) token.now) }
+    {
+        if is_keyword(token, Keyword::Is) {
+            add(out, Event::Is)
+        } else if is_sign(token, Sign::OpenBracket) {
+            add(out, Event::Index)
+        } else if is_sign(token, Sign::CloseParenthesis) {
+            self.emit_closing(base, depth, out)
+        } else if is_sign(token, Sign::Comma) {
+            Ok(())
+        } else if is_sign(token, Sign::Semicolon) {
+            finished(base, out)
+        } else if is_sign(token, Sign::OpenBrace) {
+            opening(base, out)
+        } else if is_sign(token, Sign::CloseBracket) {
+            add(out, Event::Lookup)
+        } else {
+            operator(token, out)
+        }
+    }
+
+    // The closing parenthesis.
+    fn emit_closing(&self, base: Base, depth: usize, out: &mut Vec<Event>) -> Result<(), NoMemory>
+        ensures { OnOk result (out.new.items ≡ out.old.items ++ closing base (drop depth self.now.around)) }
+    {
+        match self.around.below(depth) {
+            Some(around) => add(out, ended(around)),
+            None => match base {
+                Base::Host => add(out, Event::Host),
+                Base::Hop => add(out, Event::Hop),
+                _ => Ok(()),
+            },
+        }
+    }
+}

@@ -1,0 +1,400 @@
+// Reads tokens, one after the other.
+ghost use Rattle.std.specs.Prelude.{◌≡◌, ◌↔◌, true, false, ◌&&◌, nat_le, [], ◌∷◌, IfOk};
+ghost use Rattle.policy_grammar.specs.Automaton.{State, start, step, pull, least_in, settle, ahead, behind, behind_operator, behind_is, behind_bracket, behind_parenthesis, behind_comma, behind_semicolon, behind_brace, behind_index, closed, statement, step_at, is_sign, is_keyword, only, to};
+ghost use Rattle.policy_grammar.specs.Reading.{Goes};
+
+use crate::operator::operator_in;
+use crate::tokens::{is_field, is_keyword, is_name, is_sign, is_value};
+use crate::{Around, Base, Block, Operator, Place, Shape, Stack};
+use maple_base::NoMemory;
+use policy_tokens::{Keyword, Sign, Token};
+use std::alloc::Global;
+use std::marker::Model;
+
+/// A reader of a policy's tokens: its place, what stands around the expression that it reads, and
+/// the blocks that are open.
+#[derive(Drop)]
+pub struct Reader {
+    pub(crate) place: Place,
+    pub(crate) around: Stack<Around>,
+    pub(crate) blocks: Stack<Block>,
+}
+
+impl Model for Reader {
+    ghost use Rattle.policy_grammar.specs.Automaton.{State};
+
+    ghost Value = { State };
+
+    ghost view = { λ a. record { place = a.place; around = a.around; blocks = a.blocks } };
+}
+
+// The level of tokens that end no part of an expression ahead of them.
+pub(crate) fn pull(token: &Token) -> u8
+    ensures { result ≡ pull token.now }
+{
+    if is_keyword(token, Keyword::Is) || is_sign(token, Sign::OpenBracket) {
+        return 5;
+    }
+    match operator_in(token) {
+        Some(operator) => operator.level(),
+        None => 0,
+    }
+}
+
+impl Reader {
+    /// A reader ahead of the first token.
+    pub fn new(alloc: Global) -> Reader
+        ensures { result ≡ start }
+    {
+        Reader {
+            place: Place::Start,
+            around: Stack::new(alloc),
+            blocks: Stack::new(alloc),
+        }
+    }
+
+    /// Whether a whole policy was read.
+    pub fn is_at_end(&self) -> bool
+        ensures { (result ≡ true) ↔ (self.now.place ≡ Place.End) }
+    {
+        self.place == Place::End
+    }
+
+    // Goes to a place at which nothing stands around.
+    fn to(&mut self, place: Place) -> bool
+        ensures { (result ≡ true) × (self.new ≡ record { place = place; around = []; blocks = self.old.blocks }) }
+    {
+        self.around.clear();
+        self.place = place;
+        true
+    }
+
+    // Goes to a place in an expression.
+    fn within(&mut self, place: Place) -> bool
+        ensures { (result ≡ true) × (self.new ≡ record { place = place; around = self.old.around; blocks = self.old.blocks }) }
+    {
+        self.place = place;
+        true
+    }
+
+    // Goes to an expression that has this around it.
+    fn enter(&mut self, around: Around, place: Place) -> Result<bool, NoMemory>
+        ensures { IfOk result (λ read. (read ≡ true) × (self.new ≡ record { place = place; around = around ∷ self.old.around; blocks = self.old.blocks })) }
+    {
+        self.around.push(around)?;
+        Ok(self.within(place))
+    }
+
+    // Opens a block.
+    fn open(&mut self, block: Block) -> Result<bool, NoMemory>
+        ensures { IfOk result (λ read. (read ≡ true) × (self.new ≡ record { place = Place.Statement; around = []; blocks = block ∷ self.old.blocks })) }
+    {
+        self.blocks.push(block)?;
+        Ok(self.to(Place::Statement))
+    }
+
+    // The least level of an expression that stands here.
+    fn least(&self) -> u8
+        ensures { result ≡ least_in self.now.around }
+    {
+        match self.around.top() {
+            Some(around) => around.least(),
+            None => 0,
+        }
+    }
+
+    // Ends what ends ahead of a token, and gives the shape of what was read then.
+    fn settle(&mut self, pull: u8, shape: Shape) -> Shape
+        ensures settled { settle pull self.old.around shape ≡ record { around = self.new.around; shape = result } }
+        ensures place { self.new.place ≡ self.old.place }
+        ensures blocks { self.new.blocks ≡ self.old.blocks }
+    {
+        let mut shape = shape;
+        while let Some(top) = self.around.top() {
+            if pull >= top.least() {
+                break;
+            }
+            self.around.pop();
+            shape = top.made();
+        }
+        shape
+    }
+
+    // A closing brace.
+    fn closed(&mut self) -> bool
+        ensures { Goes result self.new (closed self.old.blocks) }
+    {
+        match self.blocks.pop() {
+            None => self.to(Place::End),
+            Some(Block::First) => self.to(Place::Else),
+            Some(Block::Second | Block::Loop) => self.to(Place::Statement),
+        }
+    }
+
+    /// Reads a token, where one like it may stand here.
+    ///
+    /// The answer is false where none may: then no text of a policy goes on with it, and what the
+    /// reader is from then on means nothing.
+    pub fn step(&mut self, token: &Token) -> Result<bool, NoMemory>
+        ensures { IfOk result (λ read. Goes read self.new (step self.old token.now)) }
+    {
+        let read = match self.place {
+            Place::Start => self.start(token),
+            Place::Table => is_name(token) && self.to(Place::TableName),
+            Place::TableName => is_sign(token, Sign::Semicolon) && self.to(Place::Start),
+            Place::Policy => self.policy(token),
+            Place::Learning => is_sign(token, Sign::OpenBrace) && self.to(Place::Statement),
+            Place::Statement => self.statement(token),
+            Place::Else => self.or_else(token),
+            Place::Decided => is_sign(token, Sign::Semicolon) && self.to(Place::Statement),
+            Place::Let => is_name(token) && self.to(Place::LetName),
+            Place::LetName => is_sign(token, Sign::Assign) && self.to(Place::Ahead(Base::Let)),
+            Place::Assigned => is_sign(token, Sign::Assign) && self.to(Place::Ahead(Base::Assign)),
+            Place::If => return self.question(token),
+            Place::Asks(base) => {
+                is_sign(token, Sign::OpenParenthesis) && self.to(Place::Ahead(base))
+            }
+            Place::Ahead(base) => return self.ahead(base, token),
+            Place::Callee(base) => return self.callee(base, token),
+            Place::Behind(base, shape) => return self.behind(base, shape, token),
+            Place::Asked => is_keyword(token, Keyword::As) && self.to(Place::As),
+            Place::As => is_name(token) && self.to(Place::Bound),
+            Place::Bound => return self.block(Block::First, token),
+            Place::ElseBlock => return self.block(Block::Second, token),
+            Place::End => false,
+        };
+        Ok(read)
+    }
+
+    fn start(&mut self, token: &Token) -> bool
+        ensures { Goes result self.new (step_at Place.Start self.old.around self.old.blocks token.now) }
+    {
+        if is_keyword(token, Keyword::Table) {
+            return self.to(Place::Table);
+        }
+        is_keyword(token, Keyword::Policy) && self.to(Place::Policy)
+    }
+
+    fn policy(&mut self, token: &Token) -> bool
+        ensures { Goes result self.new (step_at Place.Policy self.old.around self.old.blocks token.now) }
+    {
+        if is_keyword(token, Keyword::Learning) {
+            return self.to(Place::Learning);
+        }
+        is_sign(token, Sign::OpenBrace) && self.to(Place::Statement)
+    }
+
+    fn or_else(&mut self, token: &Token) -> bool
+        ensures { Goes result self.new (step_at Place.Else self.old.around self.old.blocks token.now) }
+    {
+        if is_keyword(token, Keyword::Else) {
+            return self.to(Place::ElseBlock);
+        }
+        self.statement(token)
+    }
+
+    // The first word of a statement, or the brace that closes its block.
+    fn statement(&mut self, token: &Token) -> bool
+        ensures { Goes result self.new (statement self.old.blocks token.now) }
+    {
+        if is_keyword(token, Keyword::Drop) || is_keyword(token, Keyword::Flood) {
+            self.to(Place::Decided)
+        } else if is_keyword(token, Keyword::Out) {
+            self.to(Place::Ahead(Base::Out(0)))
+        } else if is_keyword(token, Keyword::Route) {
+            self.to(Place::Ahead(Base::Route))
+        } else if is_keyword(token, Keyword::Let) {
+            self.to(Place::Let)
+        } else if is_keyword(token, Keyword::If) {
+            self.to(Place::If)
+        } else if is_keyword(token, Keyword::While) {
+            self.to(Place::Ahead(Base::While))
+        } else if is_name(token) {
+            self.to(Place::Assigned)
+        } else {
+            is_sign(token, Sign::CloseBrace) && self.closed()
+        }
+    }
+
+    // The opening brace of a block.
+    fn block(&mut self, block: Block, token: &Token) -> Result<bool, NoMemory>
+        ensures { IfOk result (λ read. Goes read self.new (only (is_sign Sign.OpenBrace token.now) (to Place.Statement (block ∷ self.old.blocks)))) }
+    {
+        if is_sign(token, Sign::OpenBrace) {
+            self.open(block)
+        } else {
+            Ok(false)
+        }
+    }
+
+    // What an `if` asks.
+    fn question(&mut self, token: &Token) -> Result<bool, NoMemory>
+        ensures { IfOk result (λ read. Goes read self.new (step_at Place.If self.old.around self.old.blocks token.now)) }
+    {
+        self.around.clear();
+        if is_keyword(token, Keyword::Host) {
+            return Ok(self.to(Place::Asks(Base::Host)));
+        }
+        if is_keyword(token, Keyword::Hop) {
+            return Ok(self.to(Place::Asks(Base::Hop)));
+        }
+        self.ahead(Base::If, token)
+    }
+
+    // The first token of an expression.
+    fn ahead(&mut self, base: Base, token: &Token) -> Result<bool, NoMemory>
+        ensures { IfOk result (λ read. Goes read self.new (ahead base self.old.around self.old.blocks token.now)) }
+    {
+        if is_sign(token, Sign::OpenParenthesis) {
+            self.enter(Around::Group, Place::Ahead(base))
+        } else if is_keyword(token, Keyword::Not) && self.least() <= 2 {
+            self.enter(Around::Not, Place::Ahead(base))
+        } else {
+            Ok(self.single(base, token))
+        }
+    }
+
+    // An expression of one token, or the word of a call.
+    fn single(&mut self, base: Base, token: &Token) -> bool
+        requires sign { is_sign Sign.OpenParenthesis token.now ≡ false }
+        requires negation { is_keyword Keyword.Not token.now && nat_le (least_in self.old.around) 2 ≡ false }
+        ensures { Goes result self.new (ahead base self.old.around self.old.blocks token.now) }
+    {
+        if is_keyword(token, Keyword::Up) || is_keyword(token, Keyword::At) {
+            self.within(Place::Callee(base))
+        } else if is_name(token) {
+            self.within(Place::Behind(base, Shape::Name))
+        } else if is_field(token) {
+            self.within(Place::Behind(base, Shape::Field))
+        } else {
+            is_value(token) && self.within(Place::Behind(base, Shape::Whole))
+        }
+    }
+
+    // The parenthesis behind the word of a call.
+    fn callee(&mut self, base: Base, token: &Token) -> Result<bool, NoMemory>
+        ensures { IfOk result (λ read. Goes read self.new (step_at (Place.Callee base) self.old.around self.old.blocks token.now)) }
+    {
+        if is_sign(token, Sign::OpenParenthesis) {
+            self.enter(Around::First, Place::Ahead(base))
+        } else {
+            Ok(false)
+        }
+    }
+
+    // Behind an expression, or behind what of it was read.
+    fn behind(&mut self, base: Base, shape: Shape, token: &Token) -> Result<bool, NoMemory>
+        ensures { IfOk result (λ read. Goes read self.new (behind base (settle (pull token.now) self.old.around shape) self.old.blocks token.now)) }
+    {
+        let shape = self.settle(pull(token), shape);
+        if is_keyword(token, Keyword::Is) {
+            self.behind_is(base, shape)
+        } else if is_sign(token, Sign::OpenBracket) {
+            Ok(self.behind_bracket(base, shape))
+        } else if is_sign(token, Sign::CloseParenthesis) {
+            Ok(self.behind_parenthesis(base))
+        } else if is_sign(token, Sign::Comma) {
+            self.behind_comma(base)
+        } else if is_sign(token, Sign::Semicolon) {
+            Ok(self.behind_semicolon(base))
+        } else if is_sign(token, Sign::OpenBrace) {
+            self.behind_brace(base)
+        } else if is_sign(token, Sign::CloseBracket) {
+            Ok(self.behind_index(base))
+        } else if let Some(operator) = operator_in(token) {
+            self.behind_operator(base, shape, operator)
+        } else {
+            Ok(false)
+        }
+    }
+
+    fn behind_operator(
+        &mut self,
+        base: Base,
+        shape: Shape,
+        operator: Operator,
+    ) -> Result<bool, NoMemory>
+        ensures { IfOk result (λ read. Goes read self.new (behind_operator base self.old.around shape self.old.blocks operator)) }
+    {
+        if operator.left_level() <= shape.level() {
+            self.enter(Around::Left(operator), Place::Ahead(base))
+        } else {
+            Ok(false)
+        }
+    }
+
+    // The word `is` stands behind a field, where a test may begin.
+    fn behind_is(&mut self, base: Base, shape: Shape) -> Result<bool, NoMemory>
+        ensures { IfOk result (λ read. Goes read self.new (behind_is base self.old.around shape self.old.blocks)) }
+    {
+        match shape {
+            Shape::Field if self.least() <= 3 => self.enter(Around::Is, Place::Ahead(base)),
+            _ => Ok(false),
+        }
+    }
+
+    // The sign `[` stands behind the name of a table that an `if` asks.
+    fn behind_bracket(&mut self, base: Base, shape: Shape) -> bool
+        ensures { Goes result self.new (behind_bracket base self.old.around shape self.old.blocks) }
+    {
+        match (base, self.around.top(), shape) {
+            (Base::If, None, Shape::Name) => self.to(Place::Ahead(Base::Lookup)),
+            _ => false,
+        }
+    }
+
+    fn behind_parenthesis(&mut self, base: Base) -> bool
+        ensures { Goes result self.new (behind_parenthesis base self.old.around self.old.blocks) }
+    {
+        match self.around.pop() {
+            Some(Around::Group | Around::Second) => self.within(Place::Behind(base, Shape::Whole)),
+            Some(_) => false,
+            None => match base {
+                Base::Host | Base::Hop => self.to(Place::Asked),
+                _ => false,
+            },
+        }
+    }
+
+    fn behind_comma(&mut self, base: Base) -> Result<bool, NoMemory>
+        ensures { IfOk result (λ read. Goes read self.new (behind_comma base self.old.around self.old.blocks)) }
+    {
+        match (self.around.pop(), base) {
+            (Some(Around::First), _) => self.enter(Around::Second, Place::Ahead(base)),
+            (None, Base::Out(count)) if count < 15 => {
+                Ok(self.to(Place::Ahead(Base::Out(count + 1))))
+            }
+            _ => Ok(false),
+        }
+    }
+
+    fn behind_semicolon(&mut self, base: Base) -> bool
+        ensures { Goes result self.new (behind_semicolon base self.old.around self.old.blocks) }
+    {
+        match (self.around.top(), base) {
+            (None, Base::Out(_) | Base::Route | Base::Let | Base::Assign) => {
+                self.to(Place::Statement)
+            }
+            _ => false,
+        }
+    }
+
+    fn behind_brace(&mut self, base: Base) -> Result<bool, NoMemory>
+        ensures { IfOk result (λ read. Goes read self.new (behind_brace base self.old.around self.old.blocks)) }
+    {
+        match (self.around.top(), base) {
+            (None, Base::If) => self.open(Block::First),
+            (None, Base::While) => self.open(Block::Loop),
+            _ => Ok(false),
+        }
+    }
+
+    fn behind_index(&mut self, base: Base) -> bool
+        ensures { Goes result self.new (behind_index base self.old.around self.old.blocks) }
+    {
+        match (self.around.top(), base) {
+            (None, Base::Lookup) => self.to(Place::Asked),
+            _ => false,
+        }
+    }
+}
