@@ -1,0 +1,11 @@
+pub mod FirstWrong
+pub mod Growing
+pub mod Plain
+pub mod Moving
+pub mod CountedPhrases
+pub mod CountedStatements
+pub mod CountedFiles
+pub mod Passing
+pub mod Outlines
+pub mod Changes
+pub mod Progress
