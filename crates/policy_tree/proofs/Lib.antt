@@ -1,0 +1,4 @@
+pub mod Added
+pub mod Outs
+pub mod Piles
+pub mod Replays

@@ -1,0 +1,5 @@
+pub mod Building
+pub mod Machine
+pub mod Piles
+pub mod Stands
+pub mod Trees
