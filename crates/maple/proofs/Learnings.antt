@@ -121,104 +121,104 @@ fact_here Flood h = refl
 fact_here (Path []) h = absurd (cc)
 fact_here (Path (p ∷ ps)) h = ap (actions_at (Path (p ∷ ps))) (eqb-true p.switch 1 h)
 
-own_once : (policy : Policy) (runs : List Trace) → AreOwn policy runs → AllAskOnce runs
-own_once policy [] h = tt
-own_once policy (x ∷ xs) h = (subst (λ is. asks_once [] is ≡ true) (sym h.0.items) (asks_once_only policy 4096 h.0.key h.0.valid), own_once policy xs h.1)
+own_once : (policy : Policy) (budget : ℕ) (runs : List Trace) → AreOwn policy budget runs → AllAskOnce runs
+own_once policy budget [] h = tt
+own_once policy budget (x ∷ xs) h = (subst (λ is. asks_once [] is ≡ true) (sym h.0.items) (asks_once_only policy budget h.0.key h.0.valid), own_once policy budget xs h.1)
 
-own_push : (policy : Policy) (runs : List Trace) (x : Trace) → AreOwn policy runs → IsOwn policy x → AreOwn policy (runs ++ x ∷ [])
-own_push policy [] x h i = (i, tt)
-own_push policy (y ∷ ys) x h i = (h.0, own_push policy ys x h.1 i)
+own_push : (policy : Policy) (budget : ℕ) (runs : List Trace) (x : Trace) → AreOwn policy budget runs → IsOwn policy budget x → AreOwn policy budget (runs ++ x ∷ [])
+own_push policy budget [] x h i = (i, tt)
+own_push policy budget (y ∷ ys) x h i = (h.0, own_push policy budget ys x h.1 i)
 
 -- a found run decided what the key's own run decides
-decides_alike : (policy : Policy) (runs : List Trace) (k : Key) (x : Trace) → AreOwn policy runs → found runs k ≡ Some x → outcome_at (course_of policy 4096) k ≡ Decided x.decision
-decides_alike policy [] k x h e = absurd (cc)
-decides_alike policy (y ∷ ys) k x h e =
+decides_alike : (policy : Policy) (budget : ℕ) (runs : List Trace) (k : Key) (x : Trace) → AreOwn policy budget runs → found runs k ≡ Some x → outcome_at (course_of policy budget) k ≡ Decided x.decision
+decides_alike policy budget [] k x h e = absurd (cc)
+decides_alike policy budget (y ∷ ys) k x h e =
     ⊎_elim
     (λ m.
     let is : y ≡ x = let f = sym (ap (λ b. cond b (Some y) (found ys k)) m) ∙ e in cc in
     let met = sym (ap (meets k) h.0.items) ∙ m in
-    (same_trace (course_of policy 4096) k h.0.key met).1 ∙ h.0.decided ∙ ap (λ z. Decided z.decision) is)
-    (λ m. decides_alike policy ys k x h.1 (sym (ap (λ b. cond b (Some y) (found ys k)) m) ∙ e))
+    (same_trace (course_of policy budget) k h.0.key met).1 ∙ h.0.decided ∙ ap (λ z. Decided z.decision) is)
+    (λ m. decides_alike policy budget ys k x h.1 (sym (ap (λ b. cond b (Some y) (found ys k)) m) ∙ e))
     (cases_Bool (meets k y.items))
 
 -- the key's own run clashes with none, where none is found
-clashes_none : (policy : Policy) (runs : List Trace) (k : Key) → AreOwn policy runs → found runs k ≡ None → AllByRecursion (λ x. clash (items_of (course_of policy 4096) k) x.items ≡ false) runs
-clashes_none policy [] k h e = tt
-clashes_none policy (y ∷ ys) k h e =
+clashes_none : (policy : Policy) (budget : ℕ) (runs : List Trace) (k : Key) → AreOwn policy budget runs → found runs k ≡ None → AllByRecursion (λ x. clash (items_of (course_of policy budget) k) x.items ≡ false) runs
+clashes_none policy budget [] k h e = tt
+clashes_none policy budget (y ∷ ys) k h e =
     ⊎_elim
     (λ m. let f = sym (ap (λ b. cond b (Some y) (found ys k)) m) ∙ e in absurd (cc))
     (λ m. (
       ⊎_elim
           (λ c.
-          let alike = (on_one_path (course_of policy 4096) k h.0.key (sym (ap (clash (items_of (course_of policy 4096) k)) h.0.items) ∙ c)).0 in
-          let met = ap (meets k) (h.0.items ∙ sym alike) ∙ own_items (course_of policy 4096) k in
+          let alike = (on_one_path (course_of policy budget) k h.0.key (sym (ap (clash (items_of (course_of policy budget) k)) h.0.items) ∙ c)).0 in
+          let met = ap (meets k) (h.0.items ∙ sym alike) ∙ own_items (course_of policy budget) k in
           let f = sym met ∙ m in absurd (cc))
           (λ c. c)
-          (cases_Bool (clash (items_of (course_of policy 4096) k) y.items)),
-      clashes_none policy ys k h.1 (sym (ap (λ b. cond b (Some y) (found ys k)) m) ∙ e),
+          (cases_Bool (clash (items_of (course_of policy budget) k) y.items)),
+      clashes_none policy budget ys k h.1 (sym (ap (λ b. cond b (Some y) (found ys k)) m) ∙ e),
     ))
     (cases_Bool (meets k y.items))
 
 -- a frame whose headers can't be read is a miss and its fault
-pub malformed_step : (policy : Policy) (runs : List Trace) (world : World) → Knows policy runs world → (port n : ℕ) (fault : Fault) (read : Result Key Fault) → Err fault ≡ read → n ≡ fault_number fault
+pub malformed_step : (policy : Policy) (budget : ℕ) (runs : List Trace) (world : World) → Knows policy budget runs world → (port n : ℕ) (fault : Fault) (read : Result Key Fault) → Err fault ≡ read → n ≡ fault_number fault
     → (old mid new : List ℕ) → mid ≡ old ++ spelled (Miss 1 port 0) → new ≡ mid ++ spelled (Malformed 1 n)
-    → (new ≡ old ++ text_of (arrival_said policy runs port read)) × Knows policy (arrival_after policy runs read) world
-malformed_step policy runs world knows port n fault read is e old mid new first then' =
+    → (new ≡ old ++ text_of (arrival_said policy budget runs port read)) × Knows policy budget (arrival_after policy budget runs read) world
+malformed_step policy budget runs world knows port n fault read is e old mid new first then' =
     let tail : spelled (Malformed 1 n) ≡ spelled (Malformed 1 (fault_number fault)) ++ [] = ap (λ m. spelled (Malformed 1 m)) e ∙ sym (append-nil (spelled (Malformed 1 (fault_number fault)))) in
     let both : new ≡ old ++ (spelled (Miss 1 port 0) ++ spelled (Malformed 1 n)) = then' ∙ ap (λ t. t ++ spelled (Malformed 1 n)) first ∙ append_assoc old (spelled (Miss 1 port 0)) (spelled (Malformed 1 n)) in
-    subst (λ r. (new ≡ old ++ text_of (arrival_said policy runs port r)) × Knows policy (arrival_after policy runs r) world) is
+    subst (λ r. (new ≡ old ++ text_of (arrival_said policy budget runs port r)) × Knows policy budget (arrival_after policy budget runs r) world) is
     (both ∙ ap (λ t. old ++ (spelled (Miss 1 port 0) ++ t)) tail, knows)
 
-module _ (policy : Policy) (runs : List Trace) (world : World) (knows : Knows policy runs world) (k : Key) (valid : valid_key k ≡ true) where
+module _ (policy : Policy) (budget : ℕ) (runs : List Trace) (world : World) (knows : Knows policy budget runs world) (k : Key) (valid : valid_key k ≡ true) where
   admitted : AreAdmitted Empty runs
   admitted = scratch_apart runs knows.apart
 
   chooses : ChoosesRight runs k
-  chooses = choice_law runs k admitted (own_once policy runs knows.own)
+  chooses = choice_law runs k admitted (own_once policy budget runs knows.own)
 
   holds : HoldsRules (scratch runs) (table_of world.rules)
   holds = table_law (scratch runs) world.rules.facts world.rules.barriers knows.facts knows.barriers
 
-  evaluated : outcome_at (course_of policy 4096) k ≡ plain policy k
-  evaluated = ends_as_evaluated policy 4096 blank_value 1 k knows.plainly valid
+  evaluated : outcome_at (course_of policy budget) k ≡ plain policy budget k
+  evaluated = ends_as_evaluated policy budget blank_value 1 k knows.plainly valid
 
   -- a fact that is chosen does what plain evaluation decides
   pub hit_step : (r : Rule) (actions : List ℕ) (old new : List ℕ) → Contains world.rules.facts r → MayChoose (table_of world.rules) k r → r.actions ≡ actions → new ≡ old ++ spelled (Hit 1 k.in_port actions)
-      → (new ≡ old ++ text_of (said policy runs k (found runs k))) × Knows policy (after policy runs k (found runs k)) world
+      → (new ≡ old ++ text_of (said policy budget runs k (found runs k))) × Knows policy budget (after policy budget runs k (found runs k)) world
   hit_step r actions old new c may does e =
       let inside = Contains-permutation world.rules.facts (facts_of (scratch runs) anything 0) r (IsPermutation-sym (facts_of (scratch runs) anything 0) world.rules.facts knows.facts) c in
       let f = chooses.fact (table_of world.rules) r holds may inside in
-      let d : plain policy k ≡ Decided f.0.decision = sym evaluated ∙ decides_alike policy runs k f.0 knows.own f.1 in
-      let begins : begins_at 1 (Decided f.0.decision) ≡ true = ap (begins_at 1) (sym d) ∙ begins_here policy 4096 blank_value 1 k valid in
-      let acts : actions ≡ outcome_actions (plain policy k) = sym does ∙ f.2.does ∙ fact_here f.0.decision begins ∙ sym (ap outcome_actions d) in
-      let line : new ≡ old ++ text_of (said policy runs k (Some f.0)) = e ∙ ap (λ x. old ++ spelled (Hit 1 k.in_port x)) acts ∙ ap (λ t. old ++ t) (sym (append-nil (spelled (Hit 1 k.in_port (outcome_actions (plain policy k)))))) in
-      subst (λ o. (new ≡ old ++ text_of (said policy runs k o)) × Knows policy (after policy runs k o) world) (sym f.1) (line, knows)
+      let d : plain policy budget k ≡ Decided f.0.decision = sym evaluated ∙ decides_alike policy budget runs k f.0 knows.own f.1 in
+      let begins : begins_at 1 (Decided f.0.decision) ≡ true = ap (begins_at 1) (sym d) ∙ begins_here policy budget blank_value 1 k valid in
+      let acts : actions ≡ outcome_actions (plain policy budget k) = sym does ∙ f.2.does ∙ fact_here f.0.decision begins ∙ sym (ap outcome_actions d) in
+      let line : new ≡ old ++ text_of (said policy budget runs k (Some f.0)) = e ∙ ap (λ x. old ++ spelled (Hit 1 k.in_port x)) acts ∙ ap (λ t. old ++ t) (sym (append-nil (spelled (Hit 1 k.in_port (outcome_actions (plain policy budget k)))))) in
+      subst (λ o. (new ≡ old ++ text_of (said policy budget runs k o)) × Knows policy budget (after policy budget runs k o) world) (sym f.1) (line, knows)
 
   -- a chosen barrier is a miss with reason 1
-  pub barrier_miss : (r : Rule) → Contains world.rules.barriers r → MayChoose (table_of world.rules) k r → (found runs k ≡ None) × (1 ≡ reason policy runs k)
+  pub barrier_miss : (r : Rule) → Contains world.rules.barriers r → MayChoose (table_of world.rules) k r → (found runs k ≡ None) × (1 ≡ reason policy budget runs k)
   barrier_miss r c may =
       let inside = Contains-permutation world.rules.barriers (barriers_of (scratch runs) anything 0) r (IsPermutation-sym (barriers_of (scratch runs) anything 0) world.rules.barriers knows.barriers) c in
       (chooses.barrier (table_of world.rules) r holds may inside, sym (ap (λ b. cond b 1 0) (any_fits k (rules_of (scratch runs)) r (holds.only r may.there) may.fitting)))
 
   -- no rule is a miss with reason 0
-  pub unfit_miss : NoneFits (table_of world.rules) k → (found runs k ≡ None) × (0 ≡ reason policy runs k)
+  pub unfit_miss : NoneFits (table_of world.rules) k → (found runs k ≡ None) × (0 ≡ reason policy budget runs k)
   unfit_miss h = (chooses.unfit (table_of world.rules) holds h, sym (ap (λ b. cond b 1 0) (none_any k (rules_of (scratch runs)) (λ r c. h r (holds.all r c)))))
 
   -- a miss and its answer
-  pub miss_step : (world' : World) (seen : ℕ) (old mid new : List ℕ) → (found runs k ≡ None) × (seen ≡ reason policy runs k) → mid ≡ old ++ spelled (Miss 1 k.in_port seen)
-      → (new ≡ mid ++ text_of (answered policy runs k (plain policy k))) × Knows policy (learned policy runs k (plain policy k)) world'
-      → (new ≡ old ++ text_of (said policy runs k (found runs k))) × Knows policy (after policy runs k (found runs k)) world'
+  pub miss_step : (world' : World) (seen : ℕ) (old mid new : List ℕ) → (found runs k ≡ None) × (seen ≡ reason policy budget runs k) → mid ≡ old ++ spelled (Miss 1 k.in_port seen)
+      → (new ≡ mid ++ text_of (answered policy budget runs k (plain policy budget k))) × Knows policy budget (learned policy budget runs k (plain policy budget k)) world'
+      → (new ≡ old ++ text_of (said policy budget runs k (found runs k))) × Knows policy budget (after policy budget runs k (found runs k)) world'
   miss_step world' seen old mid new miss e h =
-      let front : mid ≡ old ++ spelled (Miss 1 k.in_port (reason policy runs k)) = e ∙ ap (λ n. old ++ spelled (Miss 1 k.in_port n)) miss.1 in
-      let line : new ≡ old ++ text_of (said policy runs k None) = h.0 ∙ ap (λ t. t ++ text_of (answered policy runs k (plain policy k))) front ∙ append_assoc old (spelled (Miss 1 k.in_port (reason policy runs k))) (text_of (answered policy runs k (plain policy k))) in
-      subst (λ o. (new ≡ old ++ text_of (said policy runs k o)) × Knows policy (after policy runs k o) world') (sym miss.0) (line, h.1)
+      let front : mid ≡ old ++ spelled (Miss 1 k.in_port (reason policy budget runs k)) = e ∙ ap (λ n. old ++ spelled (Miss 1 k.in_port n)) miss.1 in
+      let line : new ≡ old ++ text_of (said policy budget runs k None) = h.0 ∙ ap (λ t. t ++ text_of (answered policy budget runs k (plain policy budget k))) front ∙ append_assoc old (spelled (Miss 1 k.in_port (reason policy budget runs k))) (text_of (answered policy budget runs k (plain policy budget k))) in
+      subst (λ o. (new ≡ old ++ text_of (said policy budget runs k o)) × Knows policy budget (after policy budget runs k o) world') (sym miss.0) (line, h.1)
 
   pub ordered : IsOrdered world.tree
   ordered = subst IsOrdered (sym knows.tree) (grown_ordered runs Empty tt)
 
   -- the key's own run, as the next
   abbrev pub next : Trace
-  next = run_of policy (length runs + 1) k
+  next = run_of policy budget (length runs + 1) k
 
   pub few : rules_needed world.tree ≤ 1024
   few = subst (λ t. rules_needed t ≤ 1024) (sym knows.tree) knows.room
@@ -230,45 +230,46 @@ module _ (policy : Policy) (runs : List Trace) (world : World) (knows : Knows po
   leaves_are = let e = ap leaves_of knows.tree in let h = leaves_grown runs Empty admitted in omega (arith, e, h)
 
   pub next_within : items_within next.items ≡ true
-  next_within = within_items next.items (asks_within policy 4096 k valid)
+  next_within = within_items next.items (asks_within policy budget k valid)
 
   pub next_once : asks_once [] next.items ≡ true
-  next_once = asks_once_only policy 4096 k valid
+  next_once = asks_once_only policy budget k valid
 
   module _ (unfound : found runs k ≡ None) where
     pub next_admitted : admits next.items world.tree ≡ true
-    next_admitted = ap (admits next.items) knows.tree ∙ admitted_scratch runs next knows.apart (clashes_none policy runs k knows.own unfound)
+    next_admitted = ap (admits next.items) knows.tree ∙ admitted_scratch runs next knows.apart (clashes_none policy budget runs k knows.own unfound)
 
-    pub grows : insert next.items (leaf_of next) world.tree ≡ scratch (with_run policy runs k)
+    pub grows : insert next.items (leaf_of next) world.tree ≡ scratch (with_run policy budget runs k)
     grows = ap (insert next.items (leaf_of next)) knows.tree ∙ sym (grown_push runs Empty next)
 
-    pub spent_step : (old new : List ℕ) → plain policy k ≡ Spent → new ≡ old ++ spelled (SpentRun 1 k.in_port)
-        → (new ≡ old ++ text_of (answered policy runs k (plain policy k))) × Knows policy (learned policy runs k (plain policy k)) world
+    pub spent_step : (old new : List ℕ) → plain policy budget k ≡ Spent → new ≡ old ++ spelled (SpentRun 1 k.in_port)
+        → (new ≡ old ++ text_of (answered policy budget runs k (plain policy budget k))) × Knows policy budget (learned policy budget runs k (plain policy budget k)) world
     spent_step old new o e =
-        subst (λ x. (new ≡ old ++ text_of (answered policy runs k x)) × Knows policy (learned policy runs k x) world) (sym o)
+        subst (λ x. (new ≡ old ++ text_of (answered policy budget runs k x)) × Knows policy budget (learned policy budget runs k x) world) (sym o)
         (e ∙ ap (λ t. old ++ t) (sym (append-nil (spelled (SpentRun 1 k.in_port)))), knows)
 
-    module _ (d : Decision) (o : plain policy k ≡ Decided d) where
+    module _ (d : Decision) (o : plain policy budget k ≡ Decided d) where
       abbrev Answered : List ℕ → List ℕ → World → Type 0
-      Answered old new world' = (new ≡ old ++ text_of (answered policy runs k (plain policy k))) × Knows policy (learned policy runs k (plain policy k)) world'
+      Answered old new world' = (new ≡ old ++ text_of (answered policy budget runs k (plain policy budget k))) × Knows policy budget (learned policy budget runs k (plain policy budget k)) world'
 
-      pub full_step : (old new : List ℕ) → nat_lt 1024 (need policy runs k) ≡ true → new ≡ old ++ spelled (Answer 1 k.in_port d (Rows (need policy runs k) 1024)) → Answered old new world
+      pub full_step : (old new : List ℕ) → nat_lt 1024 (need policy budget runs k) ≡ true → new ≡ old ++ spelled (Answer 1 k.in_port d (Rows (need policy budget runs k) 1024)) → Answered old new world
       full_step old new lacks e =
-          subst (λ x. (new ≡ old ++ text_of (answered policy runs k x)) × Knows policy (learned policy runs k x) world) (sym o)
-          (subst (λ b. (new ≡ old ++ text_of (Answer 1 k.in_port d (cond b (Rows (need policy runs k) 1024) Learned) ∷ [])) × Knows policy (cond b runs (with_run policy runs k)) world) (sym lacks)
-          (e ∙ ap (λ t. old ++ t) (sym (append-nil (spelled (Answer 1 k.in_port d (Rows (need policy runs k) 1024))))), knows))
+          subst (λ x. (new ≡ old ++ text_of (answered policy budget runs k x)) × Knows policy budget (learned policy budget runs k x) world) (sym o)
+          (subst (λ b. (new ≡ old ++ text_of (Answer 1 k.in_port d (cond b (Rows (need policy budget runs k) 1024) Learned) ∷ [])) × Knows policy budget (cond b runs (with_run policy budget runs k)) world) (sym lacks)
+          (e ∙ ap (λ t. old ++ t) (sym (append-nil (spelled (Answer 1 k.in_port d (Rows (need policy budget runs k) 1024))))), knows))
 
-      pub learned_step : (world' : World) (old new : List ℕ) → nat_lt 1024 (need policy runs k) ≡ false → new ≡ old ++ spelled (Answer 1 k.in_port d Learned)
+      pub learned_step : (world' : World) (old new : List ℕ) → nat_lt 1024 (need policy budget runs k) ≡ false → new ≡ old ++ spelled (Answer 1 k.in_port d Learned)
           → world'.tree ≡ insert next.items (leaf_of next) world.tree → IsPermutation (facts_of world'.tree anything 0) world'.rules.facts → IsPermutation (barriers_of world'.tree anything 0) world'.rules.barriers
           → Answered old new world'
       learned_step world' old new fits_in e is facts barriers =
-          subst (λ x. (new ≡ old ++ text_of (answered policy runs k x)) × Knows policy (learned policy runs k x) world') (sym o)
-          (subst (λ b. (new ≡ old ++ text_of (Answer 1 k.in_port d (cond b (Rows (need policy runs k) 1024) Learned) ∷ [])) × Knows policy (cond b runs (with_run policy runs k)) world') (sym fits_in) (
+          subst (λ x. (new ≡ old ++ text_of (answered policy budget runs k x)) × Knows policy budget (learned policy budget runs k x) world') (sym o)
+          (subst (λ b. (new ≡ old ++ text_of (Answer 1 k.in_port d (cond b (Rows (need policy budget runs k) 1024) Learned) ∷ [])) × Knows policy budget (cond b runs (with_run policy budget runs k)) world') (sym fits_in) (
             e ∙ ap (λ t. old ++ t) (sym (append-nil (spelled (Answer 1 k.in_port d Learned)))),
             record {
               plainly = knows.plainly;
-              own = own_push policy runs next knows.own (record { key = k; valid = valid; items = refl; decided = evaluated ∙ o ∙ ap Decided (sym same) });
-              apart = apart_push runs next knows.apart (clashes_none policy runs k knows.own unfound);
+              steps = knows.steps;
+              own = own_push policy budget runs next knows.own (record { key = k; valid = valid; items = refl; decided = evaluated ∙ o ∙ ap Decided (sym same) });
+              apart = apart_push runs next knows.apart (clashes_none policy budget runs k knows.own unfound);
               tree = is ∙ grows;
               facts = subst (λ t. IsPermutation (facts_of t anything 0) world'.rules.facts) (is ∙ grows) facts;
               barriers = subst (λ t. IsPermutation (barriers_of t anything 0) world'.rules.barriers) (is ∙ grows) barriers;
@@ -279,5 +280,5 @@ module _ (policy : Policy) (runs : List Trace) (world : World) (knows : Knows po
           same : next.decision ≡ d
           same = ap decided (evaluated ∙ o)
 
-          at_most : need policy runs k ≤ 1024
-          at_most = not_more (need policy runs k) fits_in
+          at_most : need policy budget runs k ≤ 1024
+          at_most = not_more (need policy budget runs k) fits_in

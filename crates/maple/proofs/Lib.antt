@@ -1,10 +1,11 @@
+pub mod Budgets
 pub mod Choosings
 pub mod Endings
 pub mod FirstLines
 pub mod Known
 pub mod Learnings
 pub mod Marks
-pub mod OneWord
 pub mod Pieces
+pub mod Prefixes
 pub mod Runs
 pub mod Tops

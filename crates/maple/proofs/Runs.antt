@@ -23,10 +23,10 @@ use Rattle.maple.specs.Steps.{step_of, ahead_of, steps_of, refused_or, refused_f
 use Rattle.maple.proofs.Endings.{ends_behind, front_behind, front_longer}
 
 -- what holds ahead of a line: the lines left are refused where all lines are, and what was written is all that is told but what is told of them
-pub record Stands (old new : Option (List ℕ)) (failed faults : ℕ) (policy : Policy) (world : World) (first : ℕ) (lines : List (List ℕ)) (number : ℕ) (rest : List (List ℕ)) (runs : List Trace) (written : List ℕ) : Type 0 where
-  pub known : Knows policy runs world
+pub record Stands (old new : Option (List ℕ)) (failed faults : ℕ) (policy : Policy) (budget : ℕ) (world : World) (first : ℕ) (lines : List (List ℕ)) (number : ℕ) (rest : List (List ℕ)) (runs : List Trace) (written : List ℕ) : Type 0 where
+  pub known : Knows policy budget runs world
   pub refused : refused_from number rest ≡ refused_from first lines
-  pub told : written ++ told_of policy runs number rest ≡ told_of policy [] first lines
+  pub told : written ++ told_of policy budget runs number rest ≡ told_of policy budget [] first lines
   pub appended : Appends old new written
   pub count : failed ≤ faults
 
@@ -40,49 +40,49 @@ risen_later a b c h r = omega (arith, h, r)
 risen_still : (a b c : ℕ) → HasRisen a b → b ≤ c → HasRisen a c
 risen_still a b c r h = omega (arith, h, r)
 
-module _ (old mid new : Option (List ℕ)) (failed faults later : ℕ) (policy : Policy) (world : World) (first : ℕ) (lines : List (List ℕ)) (number : ℕ) (runs : List Trace) (written : List ℕ) where
+module _ (old mid new : Option (List ℕ)) (failed faults later : ℕ) (policy : Policy) (budget : ℕ) (world : World) (first : ℕ) (lines : List (List ℕ)) (number : ℕ) (runs : List Trace) (written : List ℕ) where
   abbrev Ended : Status → Type 0
-  Ended result = Ends (HasRisen failed later) old new (due_of (refused_from first lines)) (told_of policy [] first lines) result
+  Ended result = Ends (HasRisen failed later) old new (due_of (refused_from first lines)) (told_of policy budget [] first lines) result
 
   -- the run ends ahead of these lines
-  ends_here : (rest : List (List ℕ)) → Stands old mid failed faults policy world first lines number rest runs written → (due : Status) (text : List ℕ) (result : Status) → due_of (refused_from number rest) ≡ due → told_of policy runs number rest ≡ text
+  ends_here : (rest : List (List ℕ)) → Stands old mid failed faults policy budget world first lines number rest runs written → (due : Status) (text : List ℕ) (result : Status) → due_of (refused_from number rest) ≡ due → told_of policy budget runs number rest ≡ text
       → Ends (HasRisen faults later) mid new due text result → Ended result
   ends_here rest s due text result d t e =
-      let whole : written ++ text ≡ told_of policy [] first lines = ap (λ x. written ++ x) (sym t) ∙ s.told in
+      let whole : written ++ text ≡ told_of policy budget [] first lines = ap (λ x. written ++ x) (sym t) ∙ s.told in
       let same : due ≡ due_of (refused_from first lines) = sym d ∙ ap due_of s.refused in
-      subst (λ x. Ends (HasRisen failed later) old new x (told_of policy [] first lines) result) same
+      subst (λ x. Ends (HasRisen failed later) old new x (told_of policy budget [] first lines) result) same
       (subst (λ x. Ends (HasRisen failed later) old new due x result) whole (ends_behind _ _ old mid new written text due result (risen_later failed faults later s.count) s.appended e))
 
-  pub ends_after : Stands old mid failed faults policy world first lines number [] runs written → (result : Status) → Ends (HasRisen faults later) mid new Done (last_line Done) result → Ended result
+  pub ends_after : Stands old mid failed faults policy budget world first lines number [] runs written → (result : Status) → Ends (HasRisen faults later) mid new Done (last_line Done) result → Ended result
   ends_after s result e = ends_here [] s Done (last_line Done) result refl refl e
 
-  module _ (line : List ℕ) (others : List (List ℕ)) (s : Stands old mid failed faults policy world first lines number (line ∷ others) runs written) where
+  module _ (line : List ℕ) (others : List (List ℕ)) (s : Stands old mid failed faults policy budget world first lines number (line ∷ others) runs written) where
     pub ends_at_refused : (result : Status) (kind : ScriptRefusal) → step_of line ≡ Err kind → Ends (HasRisen faults later) mid new Script (spelled (RefusedScript number kind)) result → Ended result
     ends_at_refused result kind bad e =
         ends_here (line ∷ others) s Script (spelled (RefusedScript number kind)) result
         (ap (λ p. due_of (refused_or number p (refused_from (number + 1) others))) bad)
-        (ap (λ p. text_of (report policy runs (ahead_of p (steps_of others))) ++ end_of (refused_or number p (refused_from (number + 1) others))) bad)
+        (ap (λ p. text_of (report policy budget runs (ahead_of p (steps_of others))) ++ end_of (refused_or number p (refused_from (number + 1) others))) bad)
         e
 
     module _ (step : Step) (good : step_of line ≡ Ok step) where
       piece : List ℕ
-      piece = text_of (step_said policy runs step)
+      piece = text_of (step_said policy budget runs step)
 
       abbrev further : List ℕ
-      further = told_of policy (step_after policy runs step) (number + 1) others
+      further = told_of policy budget (step_after policy budget runs step) (number + 1) others
 
       left_refused : refused_from number (line ∷ others) ≡ refused_from (number + 1) others
       left_refused = ap (λ p. refused_or number p (refused_from (number + 1) others)) good
 
-      told_further : told_of policy runs number (line ∷ others) ≡ piece ++ further
+      told_further : told_of policy budget runs number (line ∷ others) ≡ piece ++ further
       unfolding piece
       told_further =
-          ap (λ p. text_of (report policy runs (ahead_of p (steps_of others))) ++ end_of (refused_or number p (refused_from (number + 1) others))) good
-          ∙ ap (λ t. t ++ end_of (refused_from (number + 1) others)) (text_more (step_said policy runs step) (report policy (step_after policy runs step) (steps_of others)))
-          ∙ append_assoc (text_of (step_said policy runs step)) (text_of (report policy (step_after policy runs step) (steps_of others))) (end_of (refused_from (number + 1) others))
+          ap (λ p. text_of (report policy budget runs (ahead_of p (steps_of others))) ++ end_of (refused_or number p (refused_from (number + 1) others))) good
+          ∙ ap (λ t. t ++ end_of (refused_from (number + 1) others)) (text_more (step_said policy budget runs step) (report policy budget (step_after policy budget runs step) (steps_of others)))
+          ∙ append_assoc (text_of (step_said policy budget runs step)) (text_of (report policy budget (step_after policy budget runs step) (steps_of others))) (end_of (refused_from (number + 1) others))
 
-      pub stands_further : (known : World) → Knows policy (step_after policy runs step) known → Appends mid new (text_of (step_said policy runs step)) → faults ≤ later
-          → Stands old new failed later policy known first lines (number + 1) others (step_after policy runs step) (written ++ text_of (step_said policy runs step))
+      pub stands_further : (known : World) → Knows policy budget (step_after policy budget runs step) known → Appends mid new (text_of (step_said policy budget runs step)) → faults ≤ later
+          → Stands old new failed later policy budget known first lines (number + 1) others (step_after policy budget runs step) (written ++ text_of (step_said policy budget runs step))
       unfolding piece
       stands_further known h a c =
           record {
@@ -94,14 +94,14 @@ module _ (old mid new : Option (List ℕ)) (failed faults later : ℕ) (policy :
           }
 
       -- the lines of a step can't be written
-      pub ends_within : (result : Status) → (result ≡ Done → ⊥) → Ends (HasRisen faults later) mid new Done (text_of (step_said policy runs step)) result → Ended result
+      pub ends_within : (result : Status) → (result ≡ Done → ⊥) → Ends (HasRisen faults later) mid new Done (text_of (step_said policy budget runs step)) result → Ended result
       unfolding piece
       ends_within result not_done e = within result not_done e
         where
-          whole : written ++ (piece ++ further) ≡ told_of policy [] first lines
+          whole : written ++ (piece ++ further) ≡ told_of policy budget [] first lines
           whole = ap (λ t. written ++ t) (sym told_further) ∙ s.told
 
-          front : WritesFront mid new piece → WritesFront old new (told_of policy [] first lines)
+          front : WritesFront mid new piece → WritesFront old new (told_of policy budget [] first lines)
           front f = subst (WritesFront old new) whole (front_behind old mid new written (piece ++ further) s.appended (front_longer mid new piece further f))
 
           within : (result : Status) → (result ≡ Done → ⊥) → Ends (HasRisen faults later) mid new Done piece result → Ended result
@@ -115,6 +115,6 @@ module _ (old mid new : Option (List ℕ)) (failed faults later : ℕ) (policy :
           within TooLong n e = absurd (n e.0)
 
 -- memory runs out ahead of a line
-pub lacks_memory : (old mid : Option (List ℕ)) (failed faults : ℕ) (policy : Policy) (world : World) (first : ℕ) (lines : List (List ℕ)) (number : ℕ) (rest : List (List ℕ)) (runs : List Trace) (written : List ℕ)
-    → Stands old mid failed faults policy world first lines number rest runs written → WritesFront old mid (told_of policy [] first lines)
-lacks_memory old mid failed faults policy world first lines number rest runs written s = (written, (told_of policy runs number rest, s.told), s.appended)
+pub lacks_memory : (old mid : Option (List ℕ)) (failed faults : ℕ) (policy : Policy) (budget : ℕ) (world : World) (first : ℕ) (lines : List (List ℕ)) (number : ℕ) (rest : List (List ℕ)) (runs : List Trace) (written : List ℕ)
+    → Stands old mid failed faults policy budget world first lines number rest runs written → WritesFront old mid (told_of policy budget [] first lines)
+lacks_memory old mid failed faults policy budget world first lines number rest runs written s = (written, (told_of policy budget runs number rest, s.told), s.appended)

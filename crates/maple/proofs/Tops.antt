@@ -6,7 +6,7 @@ use Rattle.policy_lang.specs.declared.Policy.{Policy}
 use Rattle.report_text.specs.declared.line.ScriptRefusal.{ScriptRefusal}
 use Rattle.maple.specs.declared.status.Status.{Status}
 use Rattle.maple.specs.declared.status.Status.TheVariants.{Done, Usage, Policy as PolicyRefused, Script, ReadFault, WriteFault, NoMemory, TooLong}
-use Rattle.maple.specs.Due.{AreSim, IsFit, HasPolicy, IsScript, IsNoScript, IsDue, IsOrFails, IsText, Reports, WritesSome, refused, report_text}
+use Rattle.maple.specs.Due.{HasBudget, AreSim, IsFit, HasPolicy, IsScript, IsNoScript, IsDue, IsOrFails, IsText, Reports, WritesSome, refused, report_text}
 use Rattle.maple.specs.Ends.{Ends, IsGiven, WritesFront}
 use Rattle.maple.specs.Running.{due_of}
 use Rattle.maple.specs.Statuses.{last_line}
@@ -23,22 +23,29 @@ given_is risen old new due text NoMemory h e = absurd h
 given_is risen old new due text TooLong h e = e
 
 -- what a run of a text that ended with its own status is due and wrote
-abbrev RanAs : Option (List ℕ) → Option (List ℕ) → List ℕ → Status → Type 0
-RanAs old new input PolicyRefused = ((policy : Policy) → ¬ (HasPolicy policy input)) × Appends old new (last_line PolicyRefused)
-RanAs old new input Script = Reports old new input × IsNoScript input
-RanAs old new input Done = Reports old new input × IsScript input
-RanAs old new input s = ⊥
+abbrev RanAs : List (List ℕ) → Option (List ℕ) → Option (List ℕ) → List ℕ → Status → Type 0
+RanAs words old new input PolicyRefused = ((policy : Policy) → ¬ (HasPolicy policy input)) × Appends old new (last_line PolicyRefused)
+RanAs words old new input Script = Reports words old new input × IsNoScript input
+RanAs words old new input Done = Reports words old new input × IsScript input
+RanAs words old new input s = ⊥
 
-ran_as : (risen : Type 0) (old new : Option (List ℕ)) (input : List ℕ) (s : Status) → IsGiven s → RunsText risen old new input s → RanAs old new input s
-ran_as risen old new input s h (inl (policy, has, e)) =
-    let g = given_is risen old new (due_of (refused input)) (report_text policy input) s h e in ran_by (refused input) refl g.0 g.1
+ran_as : (risen : Type 0) (words : List (List ℕ)) (budget : ℕ) → HasBudget budget words → (old new : Option (List ℕ)) (input : List ℕ) (s : Status) → IsGiven s → RunsText risen old new budget input s → RanAs words old new input s
+ran_as risen words budget w old new input s h (inl (policy, has, e)) =
+    let g = given_is risen old new (due_of (refused input)) (report_text policy budget input) s h e in ran_by (refused input) refl g.0 g.1
   where
-    ran_by : (o : Option (ℕ × ScriptRefusal)) → refused input ≡ o → s ≡ due_of o → Appends old new (report_text policy input) → RanAs old new input s
-    ran_by None is d a = subst (RanAs old new input) (sym d) ((policy, has, a), is)
-    ran_by (Some r) is d a = subst (RanAs old new input) (sym d) ((policy, has, a), (r, is))
-ran_as risen old new input s h (inr (inl (n, e))) =
-    let g = given_is risen old new PolicyRefused (last_line PolicyRefused) s h e in subst (RanAs old new input) (sym g.0) (n, g.1)
-ran_as risen old new input s h (inr (inr (e, a))) = absurd (subst IsGiven e h)
+    reports : Appends old new (report_text policy budget input) → Reports words old new input
+    reports a = (report_text policy budget input, (budget, w, policy, has, refl), a)
+
+    ran_by : (o : Option (ℕ × ScriptRefusal)) → refused input ≡ o → s ≡ due_of o → Appends old new (report_text policy budget input) → RanAs words old new input s
+    ran_by None is d a = subst (RanAs words old new input) (sym d) (reports a, is)
+    ran_by (Some r) is d a = subst (RanAs words old new input) (sym d) (reports a, (r, is))
+ran_as risen words budget w old new input s h (inr (inl (n, e))) =
+    let g = given_is risen old new PolicyRefused (last_line PolicyRefused) s h e in subst (RanAs words old new input) (sym g.0) (n, g.1)
+ran_as risen words budget w old new input s h (inr (inr (e, a))) = absurd (subst IsGiven e h)
+
+-- a report is one of a policy of the input
+reported : (words : List (List ℕ)) (old new : Option (List ℕ)) (input : List ℕ) → Reports words old new input → (policy : Policy) × HasPolicy policy input
+reported words old new input (text, (budget, w, policy, has, e), a) = (policy, has)
 
 if_told : (left : Option (List ℕ)) (P : List ℕ → Type 0) → ((bytes : List ℕ) → left ≡ Some bytes → P bytes) → IfSome left P
 if_told None P h = tt
@@ -53,34 +60,35 @@ module _ (left rest : Option (List ℕ)) (unread risen : Type 0) (old new : Opti
   Run s = IsRunOf left rest unread risen old new words s
 
   -- a run that ended with its own status behind the reading ran the whole input
-  ran_whole : (s : Status) → IsGiven s → (s ≡ Usage → ⊥) → (s ≡ ReadFault → ⊥) → (s ≡ TooLong → ⊥) → Run s → (bytes : List ℕ) → left ≡ Some bytes → AreSim words × IsFit bytes × RanAs old new bytes s
+  ran_whole : (s : Status) → IsGiven s → (s ≡ Usage → ⊥) → (s ≡ ReadFault → ⊥) → (s ≡ TooLong → ⊥) → Run s → (bytes : List ℕ) → left ≡ Some bytes → AreSim words × IsFit bytes × RanAs words old new bytes s
   ran_whole s g u r l (refused_words n e) bytes is = absurd (u (given_is risen old new Usage (last_line Usage) s g e).0)
   ran_whole s g u r l (failed_read w h e) bytes is = absurd (r (given_is risen old new ReadFault (last_line ReadFault) s g e).0)
   ran_whole s g u r l (read_too_long w h e) bytes is = absurd (l (given_is risen old new TooLong (last_line TooLong) s g e).0)
   ran_whole s g u r l (lacked_memory w e a) bytes is = absurd (subst IsGiven e g)
-  ran_whole s g u r l (ran w input fit same end text) bytes is =
-      let e : input ≡ bytes = told left (λ b. input ≡ b) bytes is same in (w, subst IsFit e fit, subst (λ x. RanAs old new x s) e (ran_as risen old new input s g text))
+  ran_whole s g u r l (ran budget w input fit same end text) bytes is =
+      let e : input ≡ bytes = told left (λ b. input ≡ b) bytes is same in
+      ((budget, w), subst IsFit e fit, subst (λ x. RanAs words old new x s) e (ran_as risen words budget w old new input s g text))
 
   pub policy_due : Run PolicyRefused → IfSome left (λ bytes. IsDue PolicyRefused words bytes)
   policy_due h = if_told left _ (λ bytes is. let r = ran_whole PolicyRefused tt (λ e. cc) (λ e. cc) (λ e. cc) h bytes is in (r.0, r.1, r.2.0))
 
   pub script_due : Run Script → IfSome left (λ bytes. IsDue Script words bytes)
-  script_due h = if_told left _ (λ bytes is. let r = ran_whole Script tt (λ e. cc) (λ e. cc) (λ e. cc) h bytes is in (r.0, r.1, (r.2.0.0, r.2.0.1), r.2.1))
+  script_due h = if_told left _ (λ bytes is. let r = ran_whole Script tt (λ e. cc) (λ e. cc) (λ e. cc) h bytes is in (r.0, r.1, reported words old new bytes r.2.0, r.2.1))
 
-  pub script_told : Run Script → IfSome left (λ bytes. Reports old new bytes)
+  pub script_told : Run Script → IfSome left (λ bytes. Reports words old new bytes)
   script_told h = if_told left _ (λ bytes is. (ran_whole Script tt (λ e. cc) (λ e. cc) (λ e. cc) h bytes is).2.0)
 
   pub done_due : Run Done → IfSome left (λ bytes. IsDue Done words bytes)
-  done_due h = if_told left _ (λ bytes is. let r = ran_whole Done tt (λ e. cc) (λ e. cc) (λ e. cc) h bytes is in (r.0, r.1, (r.2.0.0, r.2.0.1), r.2.1))
+  done_due h = if_told left _ (λ bytes is. let r = ran_whole Done tt (λ e. cc) (λ e. cc) (λ e. cc) h bytes is in (r.0, r.1, reported words old new bytes r.2.0, r.2.1))
 
-  pub done_told : Run Done → IfSome left (λ bytes. Reports old new bytes)
+  pub done_told : Run Done → IfSome left (λ bytes. Reports words old new bytes)
   done_told h = if_told left _ (λ bytes is. (ran_whole Done tt (λ e. cc) (λ e. cc) (λ e. cc) h bytes is).2.0)
 
-  ran_due : (s : Status) (bytes : List ℕ) → AreSim words → IsFit bytes → RanAs old new bytes s → IsDue s words bytes
-  ran_due Done bytes w f r = (w, f, (r.0.0, r.0.1), r.1)
+  ran_due : (s : Status) (bytes : List ℕ) → AreSim words → IsFit bytes → RanAs words old new bytes s → IsDue s words bytes
+  ran_due Done bytes w f r = (w, f, reported words old new bytes r.0, r.1)
   ran_due Usage bytes w f r = absurd r
   ran_due PolicyRefused bytes w f r = (w, f, r.0)
-  ran_due Script bytes w f r = (w, f, (r.0.0, r.0.1), r.1)
+  ran_due Script bytes w f r = (w, f, reported words old new bytes r.0, r.1)
   ran_due ReadFault bytes w f r = absurd r
   ran_due WriteFault bytes w f r = absurd r
   ran_due NoMemory bytes w f r = absurd r
@@ -92,9 +100,9 @@ module _ (left rest : Option (List ℕ)) (unread risen : Type 0) (old new : Opti
   result_due s g r (read_too_long w h e) bytes is =
       subst (λ x. IsDue x words bytes) (sym (given_is risen old new TooLong (last_line TooLong) s g e).0) (w, told left (λ b. 67108864 < length b) bytes is h)
   result_due s g r (lacked_memory w e a) bytes is = absurd (subst IsGiven e g)
-  result_due s g r (ran w input fit same end text) bytes is =
+  result_due s g r (ran budget w input fit same end text) bytes is =
       let e : input ≡ bytes = told left (λ b. input ≡ b) bytes is same in
-      ran_due s bytes w (subst IsFit e fit) (subst (λ x. RanAs old new x s) e (ran_as risen old new input s g text))
+      ran_due s bytes (budget, w) (subst IsFit e fit) (subst (λ x. RanAs words old new x s) e (ran_as risen words budget w old new input s g text))
 
   -- words and an input are due one status
   due_once : (bytes : List ℕ) (s t : Status) → IsDue s words bytes → IsDue t words bytes → s ≡ t
@@ -146,9 +154,10 @@ module _ (left rest : Option (List ℕ)) (unread risen : Type 0) (old new : Opti
   in_front : (bytes : List ℕ) (status : Status) (text : List ℕ) → IsText unread status words bytes text → WritesFront old new text → WritesSome unread words bytes old new
   in_front bytes status text t (front, is, a) = (front, (status, text, t, is), a)
 
-  policy_text : (bytes : List ℕ) (policy : Policy) → AreSim words → IsFit bytes → HasPolicy policy bytes → (o : Option (ℕ × ScriptRefusal)) → refused bytes ≡ o → IsText unread (due_of o) words bytes (report_text policy bytes)
-  policy_text bytes policy w f h None e = ((w, f, (policy, h), e), (policy, h, refl))
-  policy_text bytes policy w f h (Some r) e = ((w, f, (policy, h), (r, e)), (policy, h, refl))
+  policy_text : (bytes : List ℕ) (policy : Policy) (budget : ℕ) → HasBudget budget words → IsFit bytes → HasPolicy policy bytes
+      → (o : Option (ℕ × ScriptRefusal)) → refused bytes ≡ o → IsText unread (due_of o) words bytes (report_text policy budget bytes)
+  policy_text bytes policy budget w f h None e = (((budget, w), f, (policy, h), e), (budget, w, policy, h, refl))
+  policy_text bytes policy budget w f h (Some r) e = (((budget, w), f, (policy, h), (r, e)), (budget, w, policy, h, refl))
 
   front_of : (s : Status) → ((due : Status) (text : List ℕ) → Ends risen old new due text s → WritesFront old new text) → Run s → (bytes : List ℕ) → left ≡ Some bytes → WritesSome unread words bytes old new
   front_of s f (refused_words n e) bytes is = in_front bytes Usage (last_line Usage) (n, refl) (f Usage (last_line Usage) e)
@@ -156,15 +165,15 @@ module _ (left rest : Option (List ℕ)) (unread risen : Type 0) (old new : Opti
   front_of s f (read_too_long w h e) bytes is =
       in_front bytes TooLong (last_line TooLong) ((w, told left (λ b. 67108864 < length b) bytes is h), refl) (f TooLong (last_line TooLong) e)
   front_of s f (lacked_memory w e a) bytes is = in_front bytes NoMemory [] refl ([], ([], refl), a)
-  front_of s f (ran w input fit same end text) bytes is =
+  front_of s f (ran budget w input fit same end text) bytes is =
       let e : input ≡ bytes = told left (λ b. input ≡ b) bytes is same in
-      run_front bytes (subst IsFit e fit) w (subst (λ x. RunsText risen old new x s) e text)
+      run_front bytes (subst IsFit e fit) (subst (λ x. RunsText risen old new budget x s) e text)
     where
-      run_front : (bytes : List ℕ) → IsFit bytes → AreSim words → RunsText risen old new bytes s → WritesSome unread words bytes old new
-      run_front bytes fit w (inl (policy, has, e)) =
-          in_front bytes (due_of (refused bytes)) (report_text policy bytes) (policy_text bytes policy w fit has (refused bytes) refl) (f (due_of (refused bytes)) (report_text policy bytes) e)
-      run_front bytes fit w (inr (inl (n, e))) = in_front bytes PolicyRefused (last_line PolicyRefused) ((w, fit, n), refl) (f PolicyRefused (last_line PolicyRefused) e)
-      run_front bytes fit w (inr (inr (e, a))) = in_front bytes NoMemory [] refl ([], ([], refl), a)
+      run_front : (bytes : List ℕ) → IsFit bytes → RunsText risen old new budget bytes s → WritesSome unread words bytes old new
+      run_front bytes fit (inl (policy, has, e)) =
+          in_front bytes (due_of (refused bytes)) (report_text policy budget bytes) (policy_text bytes policy budget w fit has (refused bytes) refl) (f (due_of (refused bytes)) (report_text policy budget bytes) e)
+      run_front bytes fit (inr (inl (n, e))) = in_front bytes PolicyRefused (last_line PolicyRefused) (((budget, w), fit, n), refl) (f PolicyRefused (last_line PolicyRefused) e)
+      run_front bytes fit (inr (inr (e, a))) = in_front bytes NoMemory [] refl ([], ([], refl), a)
 
   pub fault_front : Run WriteFault → IfSome left (λ bytes. WritesSome unread words bytes old new)
   fault_front h = if_told left _ (front_of WriteFault (λ due text e. e.1) h)

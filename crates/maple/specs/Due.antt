@@ -1,5 +1,5 @@
 -- Which status a run of the program is due, and what it writes.
-use Rattle.std.specs.Prelude.{◌≡◌, ◌⊎◌, ℕ, ◌<◌, ◌≤◌, List, [], ◌∷◌, length, Option, Some, None, codes}
+use Rattle.std.specs.Prelude.{◌≡◌, ◌⊎◌, ℕ, ◌<◌, ◌≤◌, List, [], length, Option, Some, None}
 use Rattle.std.specs.Io.KnownBytes.{Appends}
 use Rattle.policy_lang.specs.declared.Policy.{Policy}
 use Rattle.maple.specs.declared.status.Status.{Status}
@@ -11,10 +11,15 @@ use Rattle.report_text.specs.declared.line.ScriptRefusal.{ScriptRefusal}
 use Rattle.maple.specs.Running.{told_of}
 use Rattle.maple.specs.Statuses.{last_line}
 use Rattle.maple.specs.Steps.{refused_from}
+use Rattle.maple.specs.Words.{budget_of}
 
--- the words are the one word `sim`
+-- the words are those of `sim`, with this budget
+abbrev pub HasBudget : ℕ → List (List ℕ) → Type 0
+HasBudget budget words = budget_of words ≡ Some budget
+
+-- the words are those of `sim`
 abbrev pub AreSim : List (List ℕ) → Type 0
-AreSim words = words ≡ codes "sim" ∷ []
+AreSim words = (budget : ℕ) × HasBudget budget words
 
 -- the input has at most 67,108,864 bytes
 abbrev pub IsFit : List ℕ → Type 0
@@ -37,8 +42,8 @@ abbrev pub IsNoScript : List ℕ → Type 0
 IsNoScript input = (r : ℕ × ScriptRefusal) × (refused input ≡ Some r)
 
 -- the report of the script ahead of its first refused line, and the last line: that of the refusal, or of a run that is done
-abbrev pub report_text : Policy → List ℕ → List ℕ
-report_text policy input = told_of policy [] (first_number input) (script_lines input)
+abbrev pub report_text : Policy → ℕ → List ℕ → List ℕ
+report_text policy budget input = told_of policy budget [] (first_number input) (script_lines input)
 
 -- the status that these words and this input are due where no device fails and memory is left: words first, then length, policy and script
 abbrev pub IsDue : Status → List (List ℕ) → List ℕ → Type 0
@@ -59,13 +64,17 @@ IsOrFails status result = (result ≡ status) ⊎ ((result ≡ ReadFault) ⊎ ((
 abbrev pub IsOrUnwritten : Status → Status → Type 0
 IsOrUnwritten status result = (result ≡ status) ⊎ ((result ≡ WriteFault) ⊎ (result ≡ NoMemory))
 
+-- the text is the report of the input's policy and script, in as many steps a packet as the words give
+abbrev pub IsReport : List (List ℕ) → List ℕ → List ℕ → Type 0
+IsReport words input text = (budget : ℕ) × HasBudget budget words × (policy : Policy) × HasPolicy policy input × (text ≡ report_text policy budget input)
+
 -- what is written by a run that ends with this status, where `risen` says that a read failed
 abbrev pub IsText : Type 0 → Status → List (List ℕ) → List ℕ → List ℕ → Type 0
 IsText risen Usage words input text = IsDue Usage words input × (text ≡ last_line Usage)
 IsText risen TooLong words input text = IsDue TooLong words input × (text ≡ last_line TooLong)
 IsText risen PolicyRefused words input text = IsDue PolicyRefused words input × (text ≡ last_line PolicyRefused)
-IsText risen Script words input text = IsDue Script words input × ((policy : Policy) × HasPolicy policy input × (text ≡ report_text policy input))
-IsText risen Done words input text = IsDue Done words input × ((policy : Policy) × HasPolicy policy input × (text ≡ report_text policy input))
+IsText risen Script words input text = IsDue Script words input × IsReport words input text
+IsText risen Done words input text = IsDue Done words input × IsReport words input text
 IsText risen ReadFault words input text = AreSim words × risen × (text ≡ last_line ReadFault)
 IsText risen WriteFault words input text = text ≡ []
 IsText risen NoMemory words input text = text ≡ []
@@ -75,8 +84,8 @@ abbrev pub IsFrontOfText : Type 0 → List (List ℕ) → List ℕ → List ℕ 
 IsFrontOfText risen words input front = (status : Status) × (text : List ℕ) × IsText risen status words input text × IsFront front text
 
 -- the report of the input's policy and script was written, with its last line
-abbrev pub Reports : Option (List ℕ) → Option (List ℕ) → List ℕ → Type 0
-Reports old new input = (policy : Policy) × HasPolicy policy input × Appends old new (report_text policy input)
+abbrev pub Reports : List (List ℕ) → Option (List ℕ) → Option (List ℕ) → List ℕ → Type 0
+Reports words old new input = (text : List ℕ) × IsReport words input text × Appends old new text
 
 -- a front of what some run on this input writes was written
 abbrev pub WritesSome : Type 0 → List (List ℕ) → List ℕ → Option (List ℕ) → Option (List ℕ) → Type 0

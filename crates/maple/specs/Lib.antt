@@ -9,3 +9,4 @@ pub mod Running
 pub mod Runs
 pub mod Statuses
 pub mod Steps
+pub mod Words

@@ -46,14 +46,14 @@ fault_number Transport = 4
 abbrev pub outcome_actions : Outcome → List ℕ
 outcome_actions o = actions_at (decided o) 1
 
-module _ (policy : Policy) where
-  -- plain evaluation at switch 1, in at most 4,096 steps, where no host, hop, port and number is known
+module _ (policy : Policy) (budget : ℕ) where
+  -- plain evaluation at switch 1, in at most so many steps as the budget has, where no host, hop, port and number is known
   abbrev pub plain : Key → Outcome
-  plain k = eval_of policy 4096 blank_value 1 k
+  plain k = eval_of policy budget blank_value 1 k
 
   -- the run of the policy on a key, as the nth
   abbrev pub run_of : ℕ → Key → Trace
-  run_of n k = record { number = n; items = items_of (course_of policy 4096) k; cells = []; decision = decided (outcome_at (course_of policy 4096) k) }
+  run_of n k = record { number = n; items = items_of (course_of policy budget) k; cells = []; decision = decided (outcome_at (course_of policy budget) k) }
 
   -- the runs with the key's own behind them
   abbrev pub with_run : List Trace → Key → List Trace

@@ -22,5 +22,5 @@ end_of None = last_line Done
 end_of (Some r) = spelled (RefusedScript r.0 r.1)
 
 -- the report of the lines ahead of the first refused one, where these runs were learned before and the first line has this number, and the last line
-abbrev pub told_of : Policy → List Trace → ℕ → List (List ℕ) → List ℕ
-told_of policy runs number lines = text_of (report policy runs (steps_of lines)) ++ end_of (refused_from number lines)
+abbrev pub told_of : Policy → ℕ → List Trace → ℕ → List (List ℕ) → List ℕ
+told_of policy budget runs number lines = text_of (report policy budget runs (steps_of lines)) ++ end_of (refused_from number lines)

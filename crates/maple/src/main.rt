@@ -12,6 +12,7 @@ pub mod step;
 #[cfg(test)]
 mod tests;
 pub mod top;
+pub mod words;
 pub mod world;
 
 use maple_base::{Bytes, NoMemory, Words};

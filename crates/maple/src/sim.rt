@@ -2,6 +2,7 @@
 ghost use Rattle.std.specs.Prelude.{◌≡◌, true, ◌+◌, ◌<◌, ◌^◌, [], map, length};
 ghost use Rattle.maple_io.specs.Counts.{HasRisen};
 ghost use Rattle.policy_lang.specs.Plain.{is_plain};
+ghost use Rattle.policy_eval.specs.Answers.{IsBudget};
 ghost use Rattle.maple.specs.Ends.{Ends};
 ghost use Rattle.maple.specs.Lines.{ended_lines, without_end};
 ghost use Rattle.maple.specs.Running.{due_of, told_of};
@@ -19,18 +20,21 @@ use policy_lang::Policy;
 use report_text::{Line, ScriptRefusal, write_line};
 use std::alloc::Global;
 
-/// Runs the lines of a script under a plain policy, and writes the report and the last line. The
-/// script's first line has this number.
+/// Runs the lines of a script under a plain policy, which may take as many steps for a packet as
+/// the budget has, and writes the report and the last line. The script's first line has this
+/// number.
 pub fn run_script<O: Sink>(
     alloc: Global,
     policy: &Policy,
+    budget: u32,
     first: u32,
     script: &[u8],
     output: &mut O,
 ) -> Status
     requires plain { is_plain policy.now ≡ true }
+    requires budget { IsBudget budget }
     requires numbers { first + length script.now < 2 ^ 32 }
-    ensures { Ends (HasRisen (O.failed output.old) (O.failed output.new)) (O.taken output.old) (O.taken output.new) (due_of (refused_from first (map without_end (ended_lines script.now)))) (told_of policy.now [] first (map without_end (ended_lines script.now))) result }
+    ensures { Ends (HasRisen (O.failed output.old) (O.failed output.new)) (O.taken output.old) (O.taken output.new) (due_of (refused_from first (map without_end (ended_lines script.now)))) (told_of policy.now budget [] first (map without_end (ended_lines script.now))) result }
 {
     let mut rest = script;
     let mut number = first;
@@ -43,7 +47,7 @@ pub fn run_script<O: Sink>(
             Err(StepStop::NoMemory) => return Status::NoMemory,
         };
         let mut text = Vec::new(alloc);
-        let Ok(()) = world.step(alloc, policy, step, &mut text) else {
+        let Ok(()) = world.step(alloc, policy, budget, step, &mut text) else {
             return Status::NoMemory;
         };
         match put_text(output, &text, Status::Done) {

@@ -74,20 +74,133 @@ fn a_miss_an_answer_and_hits(rt: HostRuntime) -> Result<(), Fail> {
     Ok(())
 }
 
+// Runs these words on an input, and wants this status and these bytes.
+fn answers(
+    rt: &impl Abort,
+    alloc: Global,
+    texts: &[&str],
+    input: &str,
+    status: Status,
+    output: &str,
+) -> Result<(), AllocError> {
+    let words = words_of(alloc, texts)?;
+    let mut source = MemSource::new(bytes_of(alloc, input)?, Vec::new(alloc));
+    let mut sink = MemSink::new(Vec::new(alloc));
+    let got = maple(&(), alloc, &words, &mut source, &mut sink);
+    assert_eq!(rt; got, status, "{input}");
+    assert_eq!(rt; sink.bytes(), output.as_bytes(), "{input}");
+    Ok(())
+}
+
+fn refuses_words(rt: &impl Abort, alloc: Global, texts: &[&str]) -> Result<(), AllocError> {
+    answers(
+        rt,
+        alloc,
+        texts,
+        "policy { drop; }",
+        Status::Usage,
+        "refused usage\n",
+    )
+}
+
 #[test]
 fn words(rt: HostRuntime) -> Result<(), Fail> {
     let alloc = rt.alloc();
     let lines: [&[&str]; 6] = [&[], &["simm"], &["sim", "sim"], &["--"], &[""], &["SIM"]];
     for texts in lines {
-        let words = words_of(alloc, texts)?;
-        let content = bytes_of(alloc, "policy { drop; }")?;
-        let mut source = MemSource::new(content, Vec::new(alloc));
-        let mut sink = MemSink::new(Vec::new(alloc));
-        let got = maple(&(), alloc, &words, &mut source, &mut sink);
-        assert_eq!(rt; got, Status::Usage);
-        assert_eq!(rt; got.number(), 1);
-        assert_eq!(rt; sink.bytes(), b"refused usage\n".as_slice());
+        refuses_words(&rt, alloc, texts)?;
     }
+    assert_eq!(rt; Status::Usage.number(), 1);
+    Ok(())
+}
+
+#[test]
+fn options(rt: HostRuntime) -> Result<(), Fail> {
+    let alloc = rt.alloc();
+    let lines: [&[&str]; 20] = [
+        &["sim", "--budget", "0"],
+        &["sim", "--budget", "65537"],
+        &["sim", "--budget", "18446744073709551616"],
+        &["sim", "--budget", "000000000000000000004"],
+        &["sim", "--budget", "0x4"],
+        &["sim", "--budget", "4 "],
+        &["sim", "--budget", "+4"],
+        &["sim", "--budget", ""],
+        &["sim", "--budget", "4", "4"],
+        &["sim", "--budget"],
+        &["sim", "--budget="],
+        &["sim", "--budget=0"],
+        &["sim", "--budget=65537"],
+        &["sim", "--budget=4 x"],
+        &["sim", "--budget=4", "x"],
+        &["sim", "--budget=", "4"],
+        &["sim", "--Budget", "4"],
+        &["sim", "-budget", "4"],
+        &["sim", "4"],
+        &["--budget", "4", "sim"],
+    ];
+    for texts in lines {
+        refuses_words(&rt, alloc, texts)?;
+    }
+    Ok(())
+}
+
+// A packet to port 80 takes 5 steps, and one to port 22 takes 4.
+const TWO_WAYS: &str = "policy { if pkt.tp_dst is 22 { drop; } out 2; }\n%%\n";
+
+#[test]
+fn budgets(rt: HostRuntime) -> Result<(), Fail> {
+    let alloc = rt.alloc();
+    let input = format!(in alloc; "{TWO_WAYS}packet 1 1 tp_dst=80\n")?;
+    let spent: [&[&str]; 5] = [
+        &["sim", "--budget", "4"],
+        &["sim", "--budget=4"],
+        &["sim", "--budget", "00004"],
+        &["sim", "--budget=00000000000000000004"],
+        &["sim", "--budget=1"],
+    ];
+    let output = "miss c1 1 0\nspent s1 1\nend\n";
+    for texts in spent {
+        answers(&rt, alloc, texts, input.as_str(), Status::Done, output)?;
+    }
+    let enough: [&[&str]; 4] = [
+        &["sim", "--budget", "5"],
+        &["sim", "--budget=5"],
+        &["sim", "--budget", "65536"],
+        &["sim"],
+    ];
+    let output = "miss c1 1 0\nanswer s1 1 out 2 learned\nend\n";
+    for texts in enough {
+        answers(&rt, alloc, texts, input.as_str(), Status::Done, output)?;
+    }
+    Ok(())
+}
+
+// Of a run that was spent nothing is learned; what was learned stays.
+#[test]
+fn spent_runs(rt: HostRuntime) -> Result<(), Fail> {
+    let alloc = rt.alloc();
+    let input = format!(in alloc;
+        "{TWO_WAYS}packet 1 1 tp_dst=80\npacket 1 1 tp_dst=80\npacket 1 1 tp_dst=22\npacket 1 9 tp_dst=80\npacket 1 1 tp_dst=22\n"
+    )?;
+    answers(
+        &rt,
+        alloc,
+        &["sim", "--budget", "4"],
+        input.as_str(),
+        Status::Done,
+        "miss c1 1 0
+spent s1 1
+miss c1 1 0
+spent s1 1
+miss c1 1 0
+answer s1 1 drop learned
+miss c1 9 0
+spent s1 9
+hit c1 1 drop
+end
+",
+    )?;
     Ok(())
 }
 

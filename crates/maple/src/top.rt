@@ -1,7 +1,8 @@
 // The top call.
-ghost use Rattle.std.specs.Prelude.{◌≡◌, ◌≤◌, ◌↔◌, IfSome, IsTrue, length};
+ghost use Rattle.std.specs.Prelude.{◌≡◌, ◌≤◌, IfSome, length};
 ghost use Rattle.std.specs.Io.KnownBytes.{Appends, IsAtEnd};
 ghost use Rattle.maple_io.specs.Counts.{HasRisen};
+ghost use Rattle.policy_eval.specs.Answers.{IsBudget};
 ghost use Rattle.maple.specs.declared.status.Status.{Status as StatusOf};
 ghost use Rattle.maple.specs.Ends.{WritesFront};
 ghost use Rattle.maple.specs.Runs.{IsRunOf, RunsText};
@@ -13,6 +14,7 @@ use crate::input::{ReadStop, read_all};
 use crate::lines::{line_count, split_input};
 use crate::sim::run_script;
 use crate::status::Status;
+use crate::words::budget_of;
 use maple_base::Words;
 use maple_io::{Sink, Source};
 use policy_text::{ReadError, read_policy};
@@ -20,9 +22,10 @@ use std::alloc::Global;
 
 /// Runs Maple with the words of a command line.
 ///
-/// The one word `sim` reads the input to its end: a policy, a line `%%`, and a script. It
-/// writes what a switch and its controller do with each frame that the script brings, and then a
-/// last line.
+/// The word `sim` reads the input to its end: a policy, a line `%%`, and a script. It writes what a
+/// switch and its controller do with each frame that the script brings, and then a last line. The
+/// option `--budget N`, or `--budget=N`, bounds the steps that the policy may take for a packet: 1
+/// to 65,536, and 4,096 without it.
 pub fn maple<R, I: Source, O: Sink>(
     _rt: &R,
     alloc: Global,
@@ -46,9 +49,9 @@ pub fn maple<R, I: Source, O: Sink>(
     ensures policy { result ≡ Status.Policy → IfSome (I.left input.old) (λ bytes. IsDue Status.Policy words.now bytes) }
     ensures policy_text { result ≡ Status.Policy → Appends (O.taken output.old) (O.taken output.new) (last_line Status.Policy) }
     ensures script { result ≡ Status.Script → IfSome (I.left input.old) (λ bytes. IsDue Status.Script words.now bytes) }
-    ensures script_text { result ≡ Status.Script → IfSome (I.left input.old) (λ bytes. Reports (O.taken output.old) (O.taken output.new) bytes) }
+    ensures script_text { result ≡ Status.Script → IfSome (I.left input.old) (λ bytes. Reports words.now (O.taken output.old) (O.taken output.new) bytes) }
     ensures done { result ≡ Status.Done → IfSome (I.left input.old) (λ bytes. IsDue Status.Done words.now bytes) }
-    ensures done_text { result ≡ Status.Done → IfSome (I.left input.old) (λ bytes. Reports (O.taken output.old) (O.taken output.new) bytes) }
+    ensures done_text { result ≡ Status.Done → IfSome (I.left input.old) (λ bytes. Reports words.now (O.taken output.old) (O.taken output.new) bytes) }
     ensures read_whole { result ≡ Status.Done → IfSome (I.left input.old) (λ bytes. IsAtEnd (I.left input.new)) }
 
     // Each of these comes exactly where it is due, but for a fault or want of memory.
@@ -70,34 +73,28 @@ fn run_words<I: Source, O: Sink>(
 ) -> Status
     ensures { IsRunOf (I.left input.old) (I.left input.new) (HasRisen (I.failed input.old) (I.failed input.new)) (HasRisen (O.failed output.old) (O.failed output.new)) (O.taken output.old) (O.taken output.new) words.now result }
 {
-    if !is_sim(words) {
+    let Some(budget) = budget_of(words) else {
         return finish(output, Status::Usage);
-    }
+    };
     match read_all(alloc, input) {
-        Ok(text) => run_text(alloc, &text, output),
+        Ok(text) => run_text(alloc, budget, &text, output),
         Err(ReadStop::Failed) => finish(output, Status::ReadFault),
         Err(ReadStop::TooLong) => finish(output, Status::TooLong),
         Err(ReadStop::NoMemory) => Status::NoMemory,
     }
 }
 
-fn is_sim(words: &Words) -> bool
-    ensures { IsTrue result ↔ AreSim words.now }
-{
-    let words = words.items();
-    words.len() == 1 && words[0].items() == b"sim".as_slice()
-}
-
 // Runs an input that was read to its end.
-fn run_text<O: Sink>(alloc: Global, text: &[u8], output: &mut O) -> Status
+fn run_text<O: Sink>(alloc: Global, budget: u32, text: &[u8], output: &mut O) -> Status
+    requires budget { IsBudget budget }
     requires fit { length text.now ≤ 67108864 }
-    ensures { RunsText (HasRisen (O.failed output.old) (O.failed output.new)) (O.taken output.old) (O.taken output.new) text.now result }
+    ensures { RunsText (HasRisen (O.failed output.old) (O.failed output.new)) (O.taken output.old) (O.taken output.new) budget text.now result }
 {
     let (policy, script) = split_input(text);
     match read_policy(alloc, policy) {
         Ok(accepted) => {
             let first = line_count(policy) as u32 + 2;
-            run_script(alloc, &accepted, first, script, output)
+            run_script(alloc, &accepted, budget, first, script, output)
         }
         Err(ReadError::Refused { .. }) => finish(output, Status::Policy),
         Err(ReadError::NoMemory) => Status::NoMemory,

@@ -1,10 +1,11 @@
 // One switch and its controller.
-ghost use Rattle.std.specs.Prelude.{◌≡◌, true, ◌++◌, ◌+◌, ◌<◌, ◌≤◌, ◌^◌, ◌∷◌, [], List, None, length, IfOk, OnOk, IsTrue};
+ghost use Rattle.std.specs.Prelude.{◌≡◌, ℕ, true, ◌++◌, ◌+◌, ◌<◌, ◌≤◌, ◌^◌, ◌∷◌, [], List, None, length, IfOk, OnOk, IsTrue};
 ghost use Rattle.std.specs.List.Sorted.{IsPermutation};
 ghost use Rattle.maple_base.specs.Keys.{anything, valid_key};
 ghost use Rattle.maple_base.specs.Questions.{asks_once};
 ghost use Rattle.policy_lang.specs.Plain.{is_plain};
 ghost use Rattle.policy_lang.specs.declared.Policy.{Policy as PolicyData};
+ghost use Rattle.policy_eval.specs.Answers.{IsBudget};
 ghost use Rattle.trace_tree.specs.declared.node.Trace.{Trace as TraceData};
 ghost use Rattle.trace_tree.specs.Bounds.{items_within};
 ghost use Rattle.trace_tree.specs.Growth.{admits, found, insert, leaf_of, leaves_of};
@@ -26,9 +27,6 @@ use std::alloc::Global;
 use trace_record::record;
 use trace_tree::{Trace, Tree};
 
-/// The steps that a run may take.
-pub const BUDGET: u32 = 4_096;
-
 /// The rules that a switch has room for.
 pub const ROWS: u32 = 1_024;
 
@@ -45,9 +43,9 @@ pub struct World {
 }
 
 impl World {
-    /// A switch and a controller that know no run, for any plain policy.
+    /// A switch and a controller that know no run, for any plain policy and any budget.
     pub fn new(alloc: Global) -> World
-        ensures { (policy : PolicyData) → is_plain policy ≡ true → Knows policy [] result }
+        ensures { (policy : PolicyData) (budget : ℕ) → is_plain policy ≡ true → IsBudget budget → Knows policy budget [] result }
     {
         World {
             tree: Tree::new(alloc),
@@ -60,15 +58,23 @@ impl World {
         &mut self,
         alloc: Global,
         policy: &Policy,
+        budget: u32,
         step: Step,
         text: &mut Vec<u8>,
     ) -> Result<(), NoMemory>
-        requires known { (runs : List TraceData) × Knows policy.now runs self.old }
-        ensures { (runs : List TraceData) → Knows policy.now runs self.old → OnOk result ((text.new.items ≡ text.old.items ++ text_of (step_said policy.now runs step)) × Knows policy.now (step_after policy.now runs step) self.new) }
+        requires known { (runs : List TraceData) × Knows policy.now budget runs self.old }
+        ensures { (runs : List TraceData) → Knows policy.now budget runs self.old → OnOk result ((text.new.items ≡ text.old.items ++ text_of (step_said policy.now budget runs step)) × Knows policy.now budget (step_after policy.now budget runs step) self.new) }
     {
         match step {
             Step::Silent => Ok(()),
-            Step::Arrival { port, frame } => self.frame(alloc, policy, port, frame.items(), text),
+            Step::Arrival { port, frame } => self.frame(
+                alloc,
+                policy,
+                budget,
+                port,
+                frame.items(),
+                text,
+            ),
         }
     }
 
@@ -78,15 +84,16 @@ impl World {
         &mut self,
         alloc: Global,
         policy: &Policy,
+        budget: u32,
         port: u16,
         frame: &[u8],
         text: &mut Vec<u8>,
     ) -> Result<(), NoMemory>
-        requires known { (runs : List TraceData) × Knows policy.now runs self.old }
-        ensures { (runs : List TraceData) → Knows policy.now runs self.old → OnOk result ((text.new.items ≡ text.old.items ++ text_of (arrival_said policy.now runs port (key_of port frame.now))) × Knows policy.now (arrival_after policy.now runs (key_of port frame.now)) self.new) }
+        requires known { (runs : List TraceData) × Knows policy.now budget runs self.old }
+        ensures { (runs : List TraceData) → Knows policy.now budget runs self.old → OnOk result ((text.new.items ≡ text.old.items ++ text_of (arrival_said policy.now budget runs port (key_of port frame.now))) × Knows policy.now budget (arrival_after policy.now budget runs (key_of port frame.now)) self.new) }
     {
         match key_of(port, frame) {
-            Ok(key) => self.packet(alloc, policy, &key, text),
+            Ok(key) => self.packet(alloc, policy, budget, &key, text),
             Err(fault) => {
                 let device = DEVICE;
                 let reason = 0;
@@ -107,12 +114,13 @@ impl World {
         &mut self,
         alloc: Global,
         policy: &Policy,
+        budget: u32,
         key: &Key,
         text: &mut Vec<u8>,
     ) -> Result<(), NoMemory>
         requires key { IsTrue (valid_key key.now) }
-        requires known { (runs : List TraceData) × Knows policy.now runs self.old }
-        ensures { (runs : List TraceData) → Knows policy.now runs self.old → OnOk result ((text.new.items ≡ text.old.items ++ text_of (said policy.now runs key.now (found runs key.now))) × Knows policy.now (after policy.now runs key.now (found runs key.now)) self.new) }
+        requires known { (runs : List TraceData) × Knows policy.now budget runs self.old }
+        ensures { (runs : List TraceData) → Knows policy.now budget runs self.old → OnOk result ((text.new.items ≡ text.old.items ++ text_of (said policy.now budget runs key.now (found runs key.now))) × Knows policy.now budget (after policy.now budget runs key.now (found runs key.now)) self.new) }
     {
         let port = key.in_port;
         let reason = match choose(&self.rules, key) {
@@ -134,7 +142,7 @@ impl World {
             reason,
         };
         write_line(&miss, text)?;
-        self.answer(alloc, policy, key, text)
+        self.answer(alloc, policy, budget, key, text)
     }
 
     // Writes the answer to a packet whose run isn't known, and learns the run.
@@ -142,16 +150,17 @@ impl World {
         &mut self,
         alloc: Global,
         policy: &Policy,
+        budget: u32,
         key: &Key,
         text: &mut Vec<u8>,
     ) -> Result<(), NoMemory>
         requires key { IsTrue (valid_key key.now) }
-        requires known { (runs : List TraceData) × Knows policy.now runs self.old × (found runs key.now ≡ None) }
-        ensures { (runs : List TraceData) → Knows policy.now runs self.old → found runs key.now ≡ None → OnOk result ((text.new.items ≡ text.old.items ++ text_of (answered policy.now runs key.now (plain policy.now key.now))) × Knows policy.now (learned policy.now runs key.now (plain policy.now key.now)) self.new) }
+        requires known { (runs : List TraceData) × Knows policy.now budget runs self.old × (found runs key.now ≡ None) }
+        ensures { (runs : List TraceData) → Knows policy.now budget runs self.old → found runs key.now ≡ None → OnOk result ((text.new.items ≡ text.old.items ++ text_of (answered policy.now budget runs key.now (plain policy.now budget key.now))) × Knows policy.now budget (learned policy.now budget runs key.now (plain policy.now budget key.now)) self.new) }
     {
         let port = key.in_port;
         let number = self.tree.leaves() as u64 + 1;
-        let Ok(run) = record(alloc, policy, number, BUDGET, 1, key, &mut Blank) else {
+        let Ok(run) = record(alloc, policy, number, budget, 1, key, &mut Blank) else {
             return Err(NoMemory);
         };
         let (items, cells, outcome) = run.into_parts();

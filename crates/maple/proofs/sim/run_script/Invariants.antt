@@ -9,7 +9,7 @@ use Rattle.maple.proofs.sim.run_script.Given as goal
 abbrev pub invariant-loop-rest : goal.invariant-loop-rest
 invariant-loop-rest g l = record {
   stands : (runs : List Trace) × (written : List ℕ) ×
-      Stands (g.O.Sink.taken l.fn.output) (g.O.Sink.taken l.output) (g.O.Sink.failed l.fn.output) (g.O.Sink.failed l.output) l.policy l.world l.first (map without_end (ended_lines l.script)) l.number (map without_end (ended_lines l.rest)) runs written;
+      Stands (g.O.Sink.taken l.fn.output) (g.O.Sink.taken l.output) (g.O.Sink.failed l.fn.output) (g.O.Sink.failed l.output) l.policy l.budget l.world l.first (map without_end (ended_lines l.script)) l.number (map without_end (ended_lines l.rest)) runs written;
   numbers : l.number + length l.rest ≤ l.first + length l.script;
 }
 

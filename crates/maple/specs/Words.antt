@@ -1,0 +1,31 @@
+-- The words of a command line: `sim`, and behind it at most one option, `--budget N` or `--budget=N`.
+use Rattle.std.specs.Prelude.{ℕ, ◌&&◌, ◌==◌, nat_le, if◌then◌else◌, List, [], ◌∷◌, length, Option, Some, None, codes}
+use Rattle.std.specs.Option.{option_and_then}
+use Rattle.std.specs.Str.{bytes_eq}
+use Rattle.maple_base.specs.Numbers.{number_of}
+
+-- the number, where it is within the limits of a budget
+abbrev pub within_budget : ℕ → Option ℕ
+within_budget n = if nat_le 1 n && nat_le n 65536 then Some n else None
+
+-- the budget that a value spells: 1 to 20 decimal digits, of which the number is 1 to 65,536
+abbrev pub budget_value : List ℕ → Option ℕ
+budget_value word = if nat_le (length word) 20 then option_and_then within_budget (number_of word) else None
+
+-- what a word has behind this text, where it begins with it
+abbrev pub behind_text : List ℕ → List ℕ → Option (List ℕ)
+behind_text [] word = Some word
+behind_text (c ∷ cs) [] = None
+behind_text (c ∷ cs) (b ∷ bs) = if b == c then behind_text cs bs else None
+
+-- the budget that the words of options give
+abbrev pub options_budget : List (List ℕ) → Option ℕ
+options_budget [] = Some 4096
+options_budget (w ∷ []) = option_and_then budget_value (behind_text (codes "--budget=") w)
+options_budget (w ∷ value ∷ []) = if bytes_eq w (codes "--budget") then budget_value value else None
+options_budget ws = None
+
+-- the budget of a run with these words, where they are in the grammar
+abbrev pub budget_of : List (List ℕ) → Option ℕ
+budget_of [] = None
+budget_of (w ∷ ws) = if bytes_eq w (codes "sim") then options_budget ws else None

@@ -1,0 +1,64 @@
+// The words of a command line.
+ghost use Rattle.std.specs.Prelude.{◌≡◌};
+ghost use Rattle.std.specs.Option.{option_copied};
+ghost use Rattle.maple.specs.Words.{behind_text, budget_of, budget_value, options_budget, within_budget};
+
+use maple_base::{Bytes, Words, number_of};
+
+// The steps that the policy may take for a packet where the words give no budget.
+const DEFAULT: u32 = 4_096;
+
+// The greatest budget.
+const MOST: u32 = 65_536;
+
+// The digits of a budget's longest spelling.
+const DIGITS: usize = 20;
+
+/// The budget of a run with these words: `sim`, and behind it `--budget N`, `--budget=N` or
+/// nothing, which gives 4,096. N has 1 to 20 decimal digits, and is 1 to 65,536. `None` exactly
+/// where the words are others.
+pub fn budget_of(words: &Words) -> Option<u32>
+    ensures { result ≡ budget_of words.now }
+{
+    match words.items() {
+        [first, options @ ..] if first.items() == b"sim".as_slice() => options_budget(options),
+        _ => None,
+    }
+}
+
+fn options_budget(options: &[Bytes]) -> Option<u32>
+    ensures { result ≡ options_budget options.now }
+{
+    match options {
+        [] => Some(DEFAULT),
+        [option] => budget_value(behind_text(b"--budget=", option.items())?),
+        [option, value] if option.items() == b"--budget".as_slice() => budget_value(value.items()),
+        _ => None,
+    }
+}
+
+// What a word has behind this text, where it begins with it.
+fn behind_text<'a>(text: &[u8], word: &'a [u8]) -> Option<&'a [u8]>
+    ensures { option_copied result ≡ behind_text text.now word.now }
+{
+    word.strip_prefix(text)
+}
+
+fn budget_value(word: &[u8]) -> Option<u32>
+    ensures { result ≡ budget_value word.now }
+{
+    if word.len() > DIGITS {
+        return None;
+    }
+    within_budget(number_of(word)?)
+}
+
+fn within_budget(number: u64) -> Option<u32>
+    ensures { result ≡ within_budget number }
+{
+    if 1 <= number && number <= MOST as u64 {
+        Some(number as u32)
+    } else {
+        None
+    }
+}
