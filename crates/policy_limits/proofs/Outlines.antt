@@ -134,7 +134,20 @@ syntax_told tokens i h e =
     }
 
 -- all tokens are those of a policy, and none is passed
-pub outline_told : (tokens : List Token) → RunsToEnd tokens → first_passed 0 0 0 (counts_of tokens) ≡ None → IsOutline tokens (trace start tokens)
+pub outline_told : (tokens : List Token) → RunsToEnd tokens → first_passed 0 0 0 (counts_of tokens) ≡ None → IsOutline tokens (trace start tokens) (counts_of tokens)
 outline_told tokens h e =
     let t = sound tokens h.state h.run h.ended in
-    record { file = t.file; body = t.body; same = t.same; free = sym (limit_whole tokens t) ∙ e; read = ap (trace start) t.same ∙ traced t.file t.body }
+    record {
+      file = t.file;
+      body = t.body;
+      same = t.same;
+      free = sym (limit_whole tokens t) ∙ e;
+      read = ap (trace start) t.same ∙ traced t.file t.body;
+      counted = ap counts_of t.same ∙ file_counted t.file t.body;
+    }
+
+-- what was read and counted of all tokens
+pub counted_told : (tokens : List Token) (wrong : Option ℕ) (read : List Token) (c : Counter) (cs : List Count) → read ≡ ahead_of wrong tokens
+    → c ≡ counted_from start nothing_counted read → cs ≡ c.counts → wrong ≡ None → cs ≡ counts_of tokens
+counted_told tokens wrong read c cs r d e is =
+    e ∙ ap (λ (x : Counter). x.counts) (d ∙ ap (counted_from start nothing_counted) (r ∙ ap (λ w. ahead_of w tokens) is))

@@ -93,10 +93,11 @@ abbrev pub IsErrorOf : List Token → OutlineError → Type 0
 IsErrorOf tokens (Fault i kind) = IsFault tokens i kind
 IsErrorOf tokens NoMemory = Unit {0}
 
--- the tokens are those of a file that passes no limit, and this is what is read of it
-pub record IsOutline (tokens : List Token) (events : List Event) : Type 0 where
+-- the tokens are those of a file that passes no limit, this is what is read of it, and so its nodes are counted
+pub record IsOutline (tokens : List Token) (events : List Event) (counts : List Count) : Type 0 where
   pub file : File
   pub body : AreStatements file.body
   pub same : tokens ≡ file_tokens file
   pub free : first_limit file ≡ None
   pub read : events ≡ file_events file
+  pub counted : counts ≡ file_counts file

@@ -82,6 +82,14 @@ impl Counter {
         &self.counts
     }
 
+    /// The counts, taken out.
+    pub fn into_counts(self) -> Vec<Count>
+        ensures { result.items ≡ self.counts }
+    {
+        let Counter { counts, .. } = self;
+        counts
+    }
+
     // A node ended with the token ahead.
     fn ended_ahead(&mut self) -> Result<(), NoMemory>
         ensures { OnOk result (self.new ≡ ended_ahead self.old) }

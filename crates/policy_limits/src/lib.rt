@@ -1,14 +1,15 @@
 //! The outline of a policy's text: its grammar, and the limits on its nodes.
 #![tactic(auto)]
 
-mod count;
+pub mod count;
 mod counter;
 mod counting;
 pub mod fault;
 mod limits;
-mod outline;
+pub mod outline;
 #[cfg(test)]
 mod tests;
 
+pub use count::Count;
 pub use fault::{FaultKind, OutlineError};
-pub use outline::read_outline;
+pub use outline::{Outline, read_outline};

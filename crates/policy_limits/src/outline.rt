@@ -3,6 +3,7 @@ ghost use Rattle.std.specs.Prelude.{◌≡◌, ◌≤◌, length, map, IfOk, IfE
 ghost use Rattle.policy_grammar.specs.Reading.{plain, ahead_of};
 ghost use Rattle.policy_limits.specs.Limits.{IsOutline, IsErrorOf};
 
+use crate::count::Count;
 use crate::counting::count_nodes;
 use crate::limits::first_passed;
 use crate::{FaultKind, OutlineError};
@@ -21,7 +22,16 @@ fn ahead(tokens: &[PlacedToken], wrong: Option<usize>) -> &[PlacedToken]
     }
 }
 
-/// What is read of the tokens of a policy's text, part by part.
+/// What is read of a policy's text.
+#[derive(Drop)]
+pub struct Outline {
+    /// Its parts, in the order of the text.
+    pub events: Vec<Event>,
+    /// How many nodes begin and end with each token.
+    pub counts: Vec<Count>,
+}
+
+/// What is read of the tokens of a policy's text, part by part, and where its nodes begin and end.
 ///
 /// # Errors
 ///
@@ -29,8 +39,8 @@ fn ahead(tokens: &[PlacedToken], wrong: Option<usize>) -> &[PlacedToken]
 /// first token at which a limit is passed. A node is more than 32 deep, counting the statements and
 /// expressions around it; a parenthesis opens inside 64 open ones; the 4,097th node begins; the 17th
 /// table is named. At one token nesting comes ahead of nodes, and nodes ahead of tables.
-pub fn read_outline(alloc: Global, tokens: &[PlacedToken]) -> Result<Vec<Event>, OutlineError>
-    ensures outline { IfOk result (λ events. IsOutline (map (λ p. p.token) tokens.now) events.items) }
+pub fn read_outline(alloc: Global, tokens: &[PlacedToken]) -> Result<Outline, OutlineError>
+    ensures outline { IfOk result (λ outline. IsOutline (map (λ p. p.token) tokens.now) outline.events.items outline.counts.items) }
     ensures fault { IfErr result (IsErrorOf (map (λ p. p.token) tokens.now)) }
 {
     let reading = read_events(alloc, tokens)?;
@@ -43,6 +53,9 @@ pub fn read_outline(alloc: Global, tokens: &[PlacedToken]) -> Result<Vec<Event>,
             token,
             kind: FaultKind::Syntax,
         }),
-        None => Ok(reading.events),
+        None => Ok(Outline {
+            events: reading.events,
+            counts: counter.into_counts(),
+        }),
     }
 }

@@ -154,7 +154,7 @@ fn parts(rt: HostRuntime) -> Result<(), Fail> {
     let tokens = read_tokens(rt.alloc(), b"policy { let x = not 7; }")
         .ok()
         .ok_or("no tokens")?;
-    let events = read_outline(rt.alloc(), tokens.items())
+    let outline = read_outline(rt.alloc(), tokens.items())
         .ok()
         .ok_or("no outline")?;
     let expected = [
@@ -165,6 +165,11 @@ fn parts(rt: HostRuntime) -> Result<(), Fail> {
         Event::Negation,
         Event::Let,
     ];
-    assert_eq!(rt; events.as_slice(), &expected[..]);
+    assert_eq!(rt; outline.events.as_slice(), &expected[..]);
+    let begun = [0, 0, 1, 0, 0, 1, 1, 0, 0];
+    assert_eq!(rt; outline.counts.len(), begun.len());
+    for (count, nodes) in outline.counts.iter().zip(&begun) {
+        assert_eq!(rt; count.begun(), *nodes);
+    }
     Ok(())
 }

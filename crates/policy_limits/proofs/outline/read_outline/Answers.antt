@@ -3,7 +3,7 @@ use Rattle.policy_grammar.specs.Automaton.{start}
 use Rattle.policy_grammar.specs.Events.{trace}
 use Rattle.policy_grammar.specs.Reading.{plain, ahead_of, Runs}
 use Rattle.policy_limits.specs.Limits.{first_passed, IsOutline}
-use Rattle.policy_limits.proofs.Outlines.{counts_of, passed_told, limit_told, syntax_told, outline_told}
+use Rattle.policy_limits.proofs.Outlines.{counts_of, passed_told, counted_told, limit_told, syntax_told, outline_told}
 use Rattle.policy_limits.proofs.outline.read_outline.Goals as goal
 
 pub returns-in-Some-clause-fault : goal.returns-in-Some-clause-fault
@@ -28,5 +28,7 @@ returns-in-None-clause-outline c =
     let wrong = c.in_ok-reading.reading.wrong in
     let is = c.in-None.is in
     let passed = passed_told ts wrong (plain c.ahead.result.now) c.in_ok-counter.counter c.counts.result.now c.in_ok-token.field-0 c.ahead.ensures c.in_ok-counter.ensures c.counts.ensures c.in_ok-token.ensures in
-    subst (IsOutline ts) (sym (c.in_ok-reading.ensures.events ∙ ap (λ w. trace start (ahead_of w ts)) is))
-    (outline_told ts (subst (Runs ts) is c.in_ok-reading.ensures.run) (ap (λ w. first_passed 0 0 0 (counts_of (ahead_of w ts))) (sym is) ∙ passed ∙ c.in_default.is))
+    let counted = counted_told ts wrong (plain c.ahead.result.now) c.in_ok-counter.counter c.into_counts.result.items c.ahead.ensures c.in_ok-counter.ensures c.into_counts.ensures is in
+    subst (IsOutline ts c.in_ok-reading.reading.events.items) (sym counted)
+    (subst (λ es. IsOutline ts es (counts_of ts)) (sym (c.in_ok-reading.ensures.events ∙ ap (λ w. trace start (ahead_of w ts)) is))
+    (outline_told ts (subst (Runs ts) is c.in_ok-reading.ensures.run) (ap (λ w. first_passed 0 0 0 (counts_of (ahead_of w ts))) (sym is) ∙ passed ∙ c.in_default.is)))

@@ -1,0 +1,9 @@
+//! Where the nodes and the names of a policy lie in its text.
+#![tactic(auto)]
+
+mod nodes;
+pub mod places;
+#[cfg(test)]
+mod tests;
+
+pub use places::TextPlaces;
