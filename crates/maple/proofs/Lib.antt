@@ -1,5 +1,6 @@
 pub mod Budgets
 pub mod Choosings
+pub mod Commands
 pub mod Endings
 pub mod FirstLines
 pub mod Known

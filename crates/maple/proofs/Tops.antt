@@ -6,7 +6,13 @@ use Rattle.policy_lang.specs.declared.Policy.{Policy}
 use Rattle.report_text.specs.declared.line.ScriptRefusal.{ScriptRefusal}
 use Rattle.maple.specs.declared.status.Status.{Status}
 use Rattle.maple.specs.declared.status.Status.TheVariants.{Done, Usage, Policy as PolicyRefused, Script, ReadFault, WriteFault, NoMemory, TooLong}
-use Rattle.maple.specs.Due.{HasBudget, AreSim, IsFit, HasPolicy, IsScript, IsNoScript, IsDue, IsOrFails, IsText, Reports, WritesSome, refused, report_text}
+use Rattle.report_text.specs.declared.line.Line.{Line}
+use Rattle.report_text.specs.Report.{spelled}
+use Rattle.maple.specs.declared.words.Command.{Command}
+use Rattle.maple.specs.Lines.{policy_part}
+use Rattle.maple.specs.Refusals.{IsRefusal}
+use Rattle.maple.specs.Words.{command_of}
+use Rattle.maple.specs.Due.{HasCommand, AreWords, IsFit, HasPolicy, HasNone, IsScript, IsNoScript, IsDue, IsOrFails, IsText, Reports, Refuses, WritesSome, refused, report_text}
 use Rattle.maple.specs.Ends.{Ends, IsGiven, WritesFront}
 use Rattle.maple.specs.Running.{due_of}
 use Rattle.maple.specs.Statuses.{last_line}
@@ -23,29 +29,25 @@ given_is risen old new due text NoMemory h e = absurd h
 given_is risen old new due text TooLong h e = e
 
 -- what a run of a text that ended with its own status is due and wrote
-abbrev RanAs : List (List ℕ) → Option (List ℕ) → Option (List ℕ) → List ℕ → Status → Type 0
-RanAs words old new input PolicyRefused = ((policy : Policy) → ¬ (HasPolicy policy input)) × Appends old new (last_line PolicyRefused)
-RanAs words old new input Script = Reports words old new input × IsNoScript input
-RanAs words old new input Done = Reports words old new input × IsScript input
-RanAs words old new input s = ⊥
+abbrev RanAs : List (List ℕ) → Command → Option (List ℕ) → Option (List ℕ) → List ℕ → Status → Type 0
+RanAs words command old new input PolicyRefused = HasNone command input × Refuses words old new input
+RanAs words command old new input Script = ((policy : Policy) × HasPolicy command policy input) × Reports words old new input × IsNoScript command input
+RanAs words command old new input Done = ((policy : Policy) × HasPolicy command policy input) × Reports words old new input × IsScript command input
+RanAs words command old new input s = ⊥
 
-ran_as : (risen : Type 0) (words : List (List ℕ)) (budget : ℕ) → HasBudget budget words → (old new : Option (List ℕ)) (input : List ℕ) (s : Status) → IsGiven s → RunsText risen old new budget input s → RanAs words old new input s
-ran_as risen words budget w old new input s h (inl (policy, has, e)) =
-    let g = given_is risen old new (due_of (refused input)) (report_text policy budget input) s h e in ran_by (refused input) refl g.0 g.1
+ran_as : (risen : Type 0) (words : List (List ℕ)) (command : Command) → HasCommand command words → (old new : Option (List ℕ)) (input : List ℕ) (s : Status) → IsGiven s → RunsText risen old new command input s → RanAs words command old new input s
+ran_as risen words command w old new input s h (inl (policy, has, e)) =
+    let g = given_is risen old new (due_of (refused command input)) (report_text policy command input) s h e in ran_by (refused command input) refl g.0 g.1
   where
-    reports : Appends old new (report_text policy budget input) → Reports words old new input
-    reports a = (report_text policy budget input, (budget, w, policy, has, refl), a)
+    reports : Appends old new (report_text policy command input) → Reports words old new input
+    reports a = (report_text policy command input, (command, w, policy, has, refl), a)
 
-    ran_by : (o : Option (ℕ × ScriptRefusal)) → refused input ≡ o → s ≡ due_of o → Appends old new (report_text policy budget input) → RanAs words old new input s
-    ran_by None is d a = subst (RanAs words old new input) (sym d) (reports a, is)
-    ran_by (Some r) is d a = subst (RanAs words old new input) (sym d) (reports a, (r, is))
-ran_as risen words budget w old new input s h (inr (inl (n, e))) =
-    let g = given_is risen old new PolicyRefused (last_line PolicyRefused) s h e in subst (RanAs words old new input) (sym g.0) (n, g.1)
-ran_as risen words budget w old new input s h (inr (inr (e, a))) = absurd (subst IsGiven e h)
-
--- a report is one of a policy of the input
-reported : (words : List (List ℕ)) (old new : Option (List ℕ)) (input : List ℕ) → Reports words old new input → (policy : Policy) × HasPolicy policy input
-reported words old new input (text, (budget, w, policy, has, e), a) = (policy, has)
+    ran_by : (o : Option (ℕ × ScriptRefusal)) → refused command input ≡ o → s ≡ due_of o → Appends old new (report_text policy command input) → RanAs words command old new input s
+    ran_by None is d a = subst (RanAs words command old new input) (sym d) ((policy, has), reports a, is)
+    ran_by (Some r) is d a = subst (RanAs words command old new input) (sym d) ((policy, has), reports a, (r, is))
+ran_as risen words command w old new input s h (inr (inl (n, l, is, e))) =
+    let g = given_is risen old new PolicyRefused (spelled l) s h e in subst (RanAs words command old new input) (sym g.0) (n, (spelled l, (command, w, l, is, refl), g.1))
+ran_as risen words command w old new input s h (inr (inr (e, a))) = absurd (subst IsGiven e h)
 
 if_told : (left : Option (List ℕ)) (P : List ℕ → Type 0) → ((bytes : List ℕ) → left ≡ Some bytes → P bytes) → IfSome left P
 if_told None P h = tt
@@ -59,40 +61,47 @@ module _ (left rest : Option (List ℕ)) (unread risen : Type 0) (old new : Opti
   abbrev Run : Status → Type 0
   Run s = IsRunOf left rest unread risen old new words s
 
+  -- the whole input was run by the words' command
+  abbrev RanWhole : List ℕ → Status → Type 0
+  RanWhole bytes s = IsFit bytes × (command : Command) × HasCommand command words × RanAs words command old new bytes s
+
   -- a run that ended with its own status behind the reading ran the whole input
-  ran_whole : (s : Status) → IsGiven s → (s ≡ Usage → ⊥) → (s ≡ ReadFault → ⊥) → (s ≡ TooLong → ⊥) → Run s → (bytes : List ℕ) → left ≡ Some bytes → AreSim words × IsFit bytes × RanAs words old new bytes s
+  ran_whole : (s : Status) → IsGiven s → (s ≡ Usage → ⊥) → (s ≡ ReadFault → ⊥) → (s ≡ TooLong → ⊥) → Run s → (bytes : List ℕ) → left ≡ Some bytes → RanWhole bytes s
   ran_whole s g u r l (refused_words n e) bytes is = absurd (u (given_is risen old new Usage (last_line Usage) s g e).0)
   ran_whole s g u r l (failed_read w h e) bytes is = absurd (r (given_is risen old new ReadFault (last_line ReadFault) s g e).0)
   ran_whole s g u r l (read_too_long w h e) bytes is = absurd (l (given_is risen old new TooLong (last_line TooLong) s g e).0)
   ran_whole s g u r l (lacked_memory w e a) bytes is = absurd (subst IsGiven e g)
-  ran_whole s g u r l (ran budget w input fit same end text) bytes is =
+  ran_whole s g u r l (ran command w input fit same end text) bytes is =
       let e : input ≡ bytes = told left (λ b. input ≡ b) bytes is same in
-      ((budget, w), subst IsFit e fit, subst (λ x. RanAs words old new x s) e (ran_as risen words budget w old new input s g text))
+      (subst IsFit e fit, command, w, subst (λ x. RanAs words command old new x s) e (ran_as risen words command w old new input s g text))
 
   pub policy_due : Run PolicyRefused → IfSome left (λ bytes. IsDue PolicyRefused words bytes)
-  policy_due h = if_told left _ (λ bytes is. let r = ran_whole PolicyRefused tt (λ e. cc) (λ e. cc) (λ e. cc) h bytes is in (r.0, r.1, r.2.0))
+  policy_due h = if_told left _ (λ bytes is. let (f, command, w, r) = ran_whole PolicyRefused tt (λ e. cc) (λ e. cc) (λ e. cc) h bytes is in (f, command, w, r.0))
+
+  pub policy_told : Run PolicyRefused → IfSome left (λ bytes. Refuses words old new bytes)
+  policy_told h = if_told left _ (λ bytes is. let (f, command, w, r) = ran_whole PolicyRefused tt (λ e. cc) (λ e. cc) (λ e. cc) h bytes is in r.1)
 
   pub script_due : Run Script → IfSome left (λ bytes. IsDue Script words bytes)
-  script_due h = if_told left _ (λ bytes is. let r = ran_whole Script tt (λ e. cc) (λ e. cc) (λ e. cc) h bytes is in (r.0, r.1, reported words old new bytes r.2.0, r.2.1))
+  script_due h = if_told left _ (λ bytes is. let (f, command, w, r) = ran_whole Script tt (λ e. cc) (λ e. cc) (λ e. cc) h bytes is in (f, command, w, r.0, r.2))
 
   pub script_told : Run Script → IfSome left (λ bytes. Reports words old new bytes)
-  script_told h = if_told left _ (λ bytes is. (ran_whole Script tt (λ e. cc) (λ e. cc) (λ e. cc) h bytes is).2.0)
+  script_told h = if_told left _ (λ bytes is. let (f, command, w, r) = ran_whole Script tt (λ e. cc) (λ e. cc) (λ e. cc) h bytes is in r.1)
 
   pub done_due : Run Done → IfSome left (λ bytes. IsDue Done words bytes)
-  done_due h = if_told left _ (λ bytes is. let r = ran_whole Done tt (λ e. cc) (λ e. cc) (λ e. cc) h bytes is in (r.0, r.1, reported words old new bytes r.2.0, r.2.1))
+  done_due h = if_told left _ (λ bytes is. let (f, command, w, r) = ran_whole Done tt (λ e. cc) (λ e. cc) (λ e. cc) h bytes is in (f, command, w, r.0, r.2))
 
   pub done_told : Run Done → IfSome left (λ bytes. Reports words old new bytes)
-  done_told h = if_told left _ (λ bytes is. (ran_whole Done tt (λ e. cc) (λ e. cc) (λ e. cc) h bytes is).2.0)
+  done_told h = if_told left _ (λ bytes is. let (f, command, w, r) = ran_whole Done tt (λ e. cc) (λ e. cc) (λ e. cc) h bytes is in r.1)
 
-  ran_due : (s : Status) (bytes : List ℕ) → AreSim words → IsFit bytes → RanAs words old new bytes s → IsDue s words bytes
-  ran_due Done bytes w f r = (w, f, reported words old new bytes r.0, r.1)
-  ran_due Usage bytes w f r = absurd r
-  ran_due PolicyRefused bytes w f r = (w, f, r.0)
-  ran_due Script bytes w f r = (w, f, reported words old new bytes r.0, r.1)
-  ran_due ReadFault bytes w f r = absurd r
-  ran_due WriteFault bytes w f r = absurd r
-  ran_due NoMemory bytes w f r = absurd r
-  ran_due TooLong bytes w f r = absurd r
+  ran_due : (command : Command) (s : Status) (bytes : List ℕ) → HasCommand command words → IsFit bytes → RanAs words command old new bytes s → IsDue s words bytes
+  ran_due command Done bytes w f r = (f, command, w, r.0, r.2)
+  ran_due command Usage bytes w f r = absurd r
+  ran_due command PolicyRefused bytes w f r = (f, command, w, r.0)
+  ran_due command Script bytes w f r = (f, command, w, r.0, r.2)
+  ran_due command ReadFault bytes w f r = absurd r
+  ran_due command WriteFault bytes w f r = absurd r
+  ran_due command NoMemory bytes w f r = absurd r
+  ran_due command TooLong bytes w f r = absurd r
 
   result_due : (s : Status) → IsGiven s → (s ≡ ReadFault → ⊥) → Run s → (bytes : List ℕ) → left ≡ Some bytes → IsDue s words bytes
   result_due s g r (refused_words n e) bytes is = subst (λ x. IsDue x words bytes) (sym (given_is risen old new Usage (last_line Usage) s g e).0) n
@@ -100,36 +109,46 @@ module _ (left rest : Option (List ℕ)) (unread risen : Type 0) (old new : Opti
   result_due s g r (read_too_long w h e) bytes is =
       subst (λ x. IsDue x words bytes) (sym (given_is risen old new TooLong (last_line TooLong) s g e).0) (w, told left (λ b. 67108864 < length b) bytes is h)
   result_due s g r (lacked_memory w e a) bytes is = absurd (subst IsGiven e g)
-  result_due s g r (ran budget w input fit same end text) bytes is =
+  result_due s g r (ran command w input fit same end text) bytes is =
       let e : input ≡ bytes = told left (λ b. input ≡ b) bytes is same in
-      ran_due s bytes (budget, w) (subst IsFit e fit) (subst (λ x. RanAs words old new x s) e (ran_as risen words budget w old new input s g text))
+      ran_due command s bytes w (subst IsFit e fit) (subst (λ x. RanAs words command old new x s) e (ran_as risen words command w old new input s g text))
+
+  -- words give one command
+  one_command : (c d : Command) → HasCommand c words → HasCommand d words → c ≡ d
+  one_command c d h g = let both = sym h ∙ g in cc
+
+  none_has : (c d : Command) (bytes : List ℕ) → HasCommand c words → HasCommand d words → HasNone c bytes → (policy : Policy) → HasPolicy d policy bytes → ⊥
+  none_has c d bytes h g n policy has = n policy (subst (λ k. HasPolicy k policy bytes) (one_command d c g h) has)
+
+  one_script : (c d : Command) (bytes : List ℕ) → HasCommand c words → HasCommand d words → IsScript c bytes → IsNoScript d bytes → ⊥
+  one_script c d bytes h g none (r, some) = let both = sym (subst (λ k. refused k bytes ≡ None) (one_command c d h g) none) ∙ some in cc
 
   -- words and an input are due one status
   due_once : (bytes : List ℕ) (s t : Status) → IsDue s words bytes → IsDue t words bytes → s ≡ t
   due_once bytes Usage Usage d e = refl
   due_once bytes Usage TooLong d e = absurd (d e.0)
-  due_once bytes Usage PolicyRefused d e = absurd (d e.0)
-  due_once bytes Usage Script d e = absurd (d e.0)
-  due_once bytes Usage Done d e = absurd (d e.0)
+  due_once bytes Usage PolicyRefused d (f, c, w, e) = absurd (d (c, w))
+  due_once bytes Usage Script d (f, c, w, p, e) = absurd (d (c, w))
+  due_once bytes Usage Done d (f, c, w, p, e) = absurd (d (c, w))
   due_once bytes TooLong Usage d e = absurd (e d.0)
   due_once bytes TooLong TooLong d e = refl
-  due_once bytes TooLong PolicyRefused d e = absurd (omega (arith, d.1, e.1))
-  due_once bytes TooLong Script d e = absurd (omega (arith, d.1, e.1))
-  due_once bytes TooLong Done d e = absurd (omega (arith, d.1, e.1))
-  due_once bytes PolicyRefused Usage d e = absurd (e d.0)
-  due_once bytes PolicyRefused TooLong d e = absurd (omega (arith, d.1, e.1))
+  due_once bytes TooLong PolicyRefused d e = absurd (omega (arith, d.1, e.0))
+  due_once bytes TooLong Script d e = absurd (omega (arith, d.1, e.0))
+  due_once bytes TooLong Done d e = absurd (omega (arith, d.1, e.0))
+  due_once bytes PolicyRefused Usage (f, c, w, d) e = absurd (e (c, w))
+  due_once bytes PolicyRefused TooLong d e = absurd (omega (arith, d.0, e.1))
   due_once bytes PolicyRefused PolicyRefused d e = refl
-  due_once bytes PolicyRefused Script d e = absurd (d.2 e.2.0 e.2.1)
-  due_once bytes PolicyRefused Done d e = absurd (d.2 e.2.0 e.2.1)
-  due_once bytes Script Usage d e = absurd (e d.0)
-  due_once bytes Script TooLong d e = absurd (omega (arith, d.1, e.1))
-  due_once bytes Script PolicyRefused d e = absurd (e.2 d.2.0 d.2.1)
+  due_once bytes PolicyRefused Script (f, c, w, d) (h, k, v, p, e) = absurd (none_has c k bytes w v d p.0 p.1)
+  due_once bytes PolicyRefused Done (f, c, w, d) (h, k, v, p, e) = absurd (none_has c k bytes w v d p.0 p.1)
+  due_once bytes Script Usage (f, c, w, p, d) e = absurd (e (c, w))
+  due_once bytes Script TooLong d e = absurd (omega (arith, d.0, e.1))
+  due_once bytes Script PolicyRefused (f, c, w, p, d) (h, k, v, e) = absurd (none_has k c bytes v w e p.0 p.1)
   due_once bytes Script Script d e = refl
-  due_once bytes Script Done (w, f, p, (r, d)) e = absurd (let g = sym d ∙ e.3 in cc)
-  due_once bytes Done Usage d e = absurd (e d.0)
-  due_once bytes Done TooLong d e = absurd (omega (arith, d.1, e.1))
-  due_once bytes Done PolicyRefused d e = absurd (e.2 d.2.0 d.2.1)
-  due_once bytes Done Script d (w, f, p, (r, e)) = absurd (let g = sym d.3 ∙ e in cc)
+  due_once bytes Script Done (f, c, w, p, d) (h, k, v, q, e) = absurd (one_script k c bytes v w e d)
+  due_once bytes Done Usage (f, c, w, p, d) e = absurd (e (c, w))
+  due_once bytes Done TooLong d e = absurd (omega (arith, d.0, e.1))
+  due_once bytes Done PolicyRefused (f, c, w, p, d) (h, k, v, e) = absurd (none_has k c bytes v w e p.0 p.1)
+  due_once bytes Done Script (f, c, w, p, d) (h, k, v, q, e) = absurd (one_script c k bytes w v d e)
   due_once bytes Done Done d e = refl
   due_once bytes ReadFault t d e = absurd d
   due_once bytes WriteFault t d e = absurd d
@@ -154,10 +173,10 @@ module _ (left rest : Option (List ℕ)) (unread risen : Type 0) (old new : Opti
   in_front : (bytes : List ℕ) (status : Status) (text : List ℕ) → IsText unread status words bytes text → WritesFront old new text → WritesSome unread words bytes old new
   in_front bytes status text t (front, is, a) = (front, (status, text, t, is), a)
 
-  policy_text : (bytes : List ℕ) (policy : Policy) (budget : ℕ) → HasBudget budget words → IsFit bytes → HasPolicy policy bytes
-      → (o : Option (ℕ × ScriptRefusal)) → refused bytes ≡ o → IsText unread (due_of o) words bytes (report_text policy budget bytes)
-  policy_text bytes policy budget w f h None e = (((budget, w), f, (policy, h), e), (budget, w, policy, h, refl))
-  policy_text bytes policy budget w f h (Some r) e = (((budget, w), f, (policy, h), (r, e)), (budget, w, policy, h, refl))
+  report_written : (bytes : List ℕ) (policy : Policy) (command : Command) → HasCommand command words → IsFit bytes → HasPolicy command policy bytes
+      → (o : Option (ℕ × ScriptRefusal)) → refused command bytes ≡ o → IsText unread (due_of o) words bytes (report_text policy command bytes)
+  report_written bytes policy command w f h None e = ((f, command, w, (policy, h), e), (command, w, policy, h, refl))
+  report_written bytes policy command w f h (Some r) e = ((f, command, w, (policy, h), (r, e)), (command, w, policy, h, refl))
 
   front_of : (s : Status) → ((due : Status) (text : List ℕ) → Ends risen old new due text s → WritesFront old new text) → Run s → (bytes : List ℕ) → left ≡ Some bytes → WritesSome unread words bytes old new
   front_of s f (refused_words n e) bytes is = in_front bytes Usage (last_line Usage) (n, refl) (f Usage (last_line Usage) e)
@@ -165,14 +184,15 @@ module _ (left rest : Option (List ℕ)) (unread risen : Type 0) (old new : Opti
   front_of s f (read_too_long w h e) bytes is =
       in_front bytes TooLong (last_line TooLong) ((w, told left (λ b. 67108864 < length b) bytes is h), refl) (f TooLong (last_line TooLong) e)
   front_of s f (lacked_memory w e a) bytes is = in_front bytes NoMemory [] refl ([], ([], refl), a)
-  front_of s f (ran budget w input fit same end text) bytes is =
+  front_of s f (ran command w input fit same end text) bytes is =
       let e : input ≡ bytes = told left (λ b. input ≡ b) bytes is same in
-      run_front bytes (subst IsFit e fit) (subst (λ x. RunsText risen old new budget x s) e text)
+      run_front bytes (subst IsFit e fit) (subst (λ x. RunsText risen old new command x s) e text)
     where
-      run_front : (bytes : List ℕ) → IsFit bytes → RunsText risen old new budget bytes s → WritesSome unread words bytes old new
+      run_front : (bytes : List ℕ) → IsFit bytes → RunsText risen old new command bytes s → WritesSome unread words bytes old new
       run_front bytes fit (inl (policy, has, e)) =
-          in_front bytes (due_of (refused bytes)) (report_text policy budget bytes) (policy_text bytes policy budget w fit has (refused bytes) refl) (f (due_of (refused bytes)) (report_text policy budget bytes) e)
-      run_front bytes fit (inr (inl (n, e))) = in_front bytes PolicyRefused (last_line PolicyRefused) (((budget, w), fit, n), refl) (f PolicyRefused (last_line PolicyRefused) e)
+          in_front bytes (due_of (refused command bytes)) (report_text policy command bytes) (report_written bytes policy command w fit has (refused command bytes) refl)
+          (f (due_of (refused command bytes)) (report_text policy command bytes) e)
+      run_front bytes fit (inr (inl (n, l, is, e))) = in_front bytes PolicyRefused (spelled l) ((fit, command, w, n), (command, w, l, is, refl)) (f PolicyRefused (spelled l) e)
       run_front bytes fit (inr (inr (e, a))) = in_front bytes NoMemory [] refl ([], ([], refl), a)
 
   pub fault_front : Run WriteFault → IfSome left (λ bytes. WritesSome unread words bytes old new)

@@ -1,57 +1,75 @@
 -- Which status a run of the program is due, and what it writes.
-use Rattle.std.specs.Prelude.{◌≡◌, ◌⊎◌, ℕ, ◌<◌, ◌≤◌, List, [], length, Option, Some, None}
+use Rattle.std.specs.Prelude.{◌≡◌, ◌⊎◌, ℕ, ◌<◌, ◌≤◌, true, List, [], length, Option, Some, None}
 use Rattle.std.specs.Io.KnownBytes.{Appends}
 use Rattle.policy_lang.specs.declared.Policy.{Policy}
+use Rattle.policy_text.specs.Basic.{is_basic}
 use Rattle.maple.specs.declared.status.Status.{Status}
 use Rattle.maple.specs.declared.status.Status.TheVariants.{Done, Usage, Policy as PolicyRefused, Script, ReadFault, WriteFault, NoMemory, TooLong}
+use Rattle.maple.specs.declared.words.Command.{Command}
+use Rattle.maple.specs.declared.words.Command.TheVariants.{Sim, Check}
 use Rattle.maple.specs.Fronts.{IsFront}
 use Rattle.maple.specs.Lines.{policy_part, script_lines, first_number}
-use Rattle.policy_text.specs.PolicyText.{IsTextOf}
+use Rattle.policy_text.specs.Texts.{IsTextOf}
+use Rattle.policy_print.specs.Printed.{policy_text}
+use Rattle.report_text.specs.declared.line.Line.{Line}
 use Rattle.report_text.specs.declared.line.ScriptRefusal.{ScriptRefusal}
+use Rattle.report_text.specs.Report.{spelled}
+use Rattle.maple.specs.Refusals.{IsRefusal}
 use Rattle.maple.specs.Running.{told_of}
 use Rattle.maple.specs.Statuses.{last_line}
 use Rattle.maple.specs.Steps.{refused_from}
-use Rattle.maple.specs.Words.{budget_of}
+use Rattle.maple.specs.Words.{command_of}
 
--- the words are those of `sim`, with this budget
-abbrev pub HasBudget : ℕ → List (List ℕ) → Type 0
-HasBudget budget words = budget_of words ≡ Some budget
+-- the words give this command
+abbrev pub HasCommand : Command → List (List ℕ) → Type 0
+HasCommand command words = command_of words ≡ Some command
 
--- the words are those of `sim`
-abbrev pub AreSim : List (List ℕ) → Type 0
-AreSim words = (budget : ℕ) × HasBudget budget words
+-- the words are in the grammar
+abbrev pub AreWords : List (List ℕ) → Type 0
+AreWords words = (command : Command) × HasCommand command words
 
 -- the input has at most 67,108,864 bytes
 abbrev pub IsFit : List ℕ → Type 0
 IsFit input = length input ≤ 67108864
 
--- the input begins with the text of this policy
-abbrev pub HasPolicy : Policy → List ℕ → Type 0
-HasPolicy policy input = IsTextOf policy (policy_part input)
+-- the command takes this policy: `check` each, and `sim` each that is basic
+abbrev pub Takes : Command → Policy → Type 0
+Takes (Sim budget) policy = is_basic policy ≡ true
+Takes Check policy = Unit {0}
 
--- the number of the first refused line of the script among the lines of the input, and why it is refused
-abbrev pub refused : List ℕ → Option (ℕ × ScriptRefusal)
-refused input = refused_from (first_number input) (script_lines input)
+-- the input begins with the text of this policy, which the command takes
+abbrev pub HasPolicy : Command → Policy → List ℕ → Type 0
+HasPolicy command policy input = IsTextOf policy (policy_part input) × Takes command policy
+
+-- the command finds no policy in the input
+abbrev pub HasNone : Command → List ℕ → Type 0
+HasNone command input = (policy : Policy) → ¬ (HasPolicy command policy input)
+
+-- the number of the first refused line of the script among the lines of the input, and why it is refused; `check` looks at no script
+abbrev pub refused : Command → List ℕ → Option (ℕ × ScriptRefusal)
+refused (Sim budget) input = refused_from (first_number input) (script_lines input)
+refused Check input = None
 
 -- no line of the script is refused
-abbrev pub IsScript : List ℕ → Type 0
-IsScript input = refused input ≡ None
+abbrev pub IsScript : Command → List ℕ → Type 0
+IsScript command input = refused command input ≡ None
 
 -- some line of the script is refused
-abbrev pub IsNoScript : List ℕ → Type 0
-IsNoScript input = (r : ℕ × ScriptRefusal) × (refused input ≡ Some r)
+abbrev pub IsNoScript : Command → List ℕ → Type 0
+IsNoScript command input = (r : ℕ × ScriptRefusal) × (refused command input ≡ Some r)
 
--- the report of the script ahead of its first refused line, and the last line: that of the refusal, or of a run that is done
-abbrev pub report_text : Policy → ℕ → List ℕ → List ℕ
-report_text policy budget input = told_of policy budget [] (first_number input) (script_lines input)
+-- what a command writes of a policy. `sim`: the report of the script ahead of its first refused line, in at most so many steps a packet, and the last line, that of the refusal or of a run that is done. `check`: the policy's printed form
+abbrev pub report_text : Policy → Command → List ℕ → List ℕ
+report_text policy (Sim budget) input = told_of policy budget [] (first_number input) (script_lines input)
+report_text policy Check input = policy_text policy
 
 -- the status that these words and this input are due where no device fails and memory is left: words first, then length, policy and script
 abbrev pub IsDue : Status → List (List ℕ) → List ℕ → Type 0
-IsDue Usage words input = ¬ (AreSim words)
-IsDue TooLong words input = AreSim words × (67108864 < length input)
-IsDue PolicyRefused words input = AreSim words × IsFit input × ((policy : Policy) → ¬ (HasPolicy policy input))
-IsDue Script words input = AreSim words × IsFit input × ((policy : Policy) × HasPolicy policy input) × IsNoScript input
-IsDue Done words input = AreSim words × IsFit input × ((policy : Policy) × HasPolicy policy input) × IsScript input
+IsDue Usage words input = ¬ (AreWords words)
+IsDue TooLong words input = AreWords words × (67108864 < length input)
+IsDue PolicyRefused words input = IsFit input × (command : Command) × HasCommand command words × HasNone command input
+IsDue Script words input = IsFit input × (command : Command) × HasCommand command words × ((policy : Policy) × HasPolicy command policy input) × IsNoScript command input
+IsDue Done words input = IsFit input × (command : Command) × HasCommand command words × ((policy : Policy) × HasPolicy command policy input) × IsScript command input
 IsDue ReadFault words input = ⊥
 IsDue WriteFault words input = ⊥
 IsDue NoMemory words input = ⊥
@@ -64,18 +82,22 @@ IsOrFails status result = (result ≡ status) ⊎ ((result ≡ ReadFault) ⊎ ((
 abbrev pub IsOrUnwritten : Status → Status → Type 0
 IsOrUnwritten status result = (result ≡ status) ⊎ ((result ≡ WriteFault) ⊎ (result ≡ NoMemory))
 
--- the text is the report of the input's policy and script, in as many steps a packet as the words give
+-- the text is what the words' command writes of the input's policy
 abbrev pub IsReport : List (List ℕ) → List ℕ → List ℕ → Type 0
-IsReport words input text = (budget : ℕ) × HasBudget budget words × (policy : Policy) × HasPolicy policy input × (text ≡ report_text policy budget input)
+IsReport words input text = (command : Command) × HasCommand command words × (policy : Policy) × HasPolicy command policy input × (text ≡ report_text policy command input)
+
+-- the text is the line by which the words' command refuses the input's policy
+abbrev pub IsRefusalText : List (List ℕ) → List ℕ → List ℕ → Type 0
+IsRefusalText words input text = (command : Command) × HasCommand command words × (l : Line) × IsRefusal command (policy_part input) l × (text ≡ spelled l)
 
 -- what is written by a run that ends with this status, where `risen` says that a read failed
 abbrev pub IsText : Type 0 → Status → List (List ℕ) → List ℕ → List ℕ → Type 0
 IsText risen Usage words input text = IsDue Usage words input × (text ≡ last_line Usage)
 IsText risen TooLong words input text = IsDue TooLong words input × (text ≡ last_line TooLong)
-IsText risen PolicyRefused words input text = IsDue PolicyRefused words input × (text ≡ last_line PolicyRefused)
+IsText risen PolicyRefused words input text = IsDue PolicyRefused words input × IsRefusalText words input text
 IsText risen Script words input text = IsDue Script words input × IsReport words input text
 IsText risen Done words input text = IsDue Done words input × IsReport words input text
-IsText risen ReadFault words input text = AreSim words × risen × (text ≡ last_line ReadFault)
+IsText risen ReadFault words input text = AreWords words × risen × (text ≡ last_line ReadFault)
 IsText risen WriteFault words input text = text ≡ []
 IsText risen NoMemory words input text = text ≡ []
 
@@ -83,9 +105,13 @@ IsText risen NoMemory words input text = text ≡ []
 abbrev pub IsFrontOfText : Type 0 → List (List ℕ) → List ℕ → List ℕ → Type 0
 IsFrontOfText risen words input front = (status : Status) × (text : List ℕ) × IsText risen status words input text × IsFront front text
 
--- the report of the input's policy and script was written, with its last line
+-- what the command writes of the input's policy was written
 abbrev pub Reports : List (List ℕ) → Option (List ℕ) → Option (List ℕ) → List ℕ → Type 0
 Reports words old new input = (text : List ℕ) × IsReport words input text × Appends old new text
+
+-- the line was written by which the command refuses the input's policy
+abbrev pub Refuses : List (List ℕ) → Option (List ℕ) → Option (List ℕ) → List ℕ → Type 0
+Refuses words old new input = (text : List ℕ) × IsRefusalText words input text × Appends old new text
 
 -- a front of what some run on this input writes was written
 abbrev pub WritesSome : Type 0 → List (List ℕ) → List ℕ → Option (List ℕ) → Option (List ℕ) → Type 0

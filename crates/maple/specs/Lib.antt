@@ -4,6 +4,7 @@ pub mod Ends
 pub mod Fronts
 pub mod Knowing
 pub mod Lines
+pub mod Refusals
 pub mod Report
 pub mod Running
 pub mod Runs

@@ -1,24 +1,39 @@
 -- The ways in which a run of the program goes.
-use Rattle.std.specs.Prelude.{◌≡◌, ◌⊎◌, ℕ, ◌<◌, List, [], length, Option, IfSome}
+use Rattle.std.specs.Prelude.{◌≡◌, ◌⊎◌, ℕ, ◌<◌, true, false, List, [], length, Option, IfSome}
 use Rattle.std.specs.Io.KnownBytes.{Appends, IsAtEnd}
 use Rattle.policy_lang.specs.declared.Policy.{Policy}
+use Rattle.policy_text.specs.Basic.{is_basic}
 use Rattle.maple.specs.declared.status.Status.{Status}
 use Rattle.maple.specs.declared.status.Status.TheVariants.{Usage, Policy as PolicyRefused, ReadFault, NoMemory, TooLong}
-use Rattle.maple.specs.Due.{HasBudget, AreSim, IsFit, HasPolicy, refused, report_text}
+use Rattle.maple.specs.declared.words.Command.{Command}
+use Rattle.report_text.specs.declared.line.Line.{Line}
+use Rattle.report_text.specs.declared.line.Line.TheVariants.{RefusedPolicy}
+use Rattle.report_text.specs.declared.line.PolicyRefusal.TheVariants.{Later}
+use Rattle.report_text.specs.Report.{spelled}
+use Rattle.maple.specs.Due.{HasCommand, AreWords, IsFit, HasPolicy, HasNone, refused, report_text}
 use Rattle.maple.specs.Ends.{Ends}
-use Rattle.maple.specs.Running.{due_of}
+use Rattle.maple.specs.Lines.{policy_part}
+use Rattle.maple.specs.Refusals.{IsRefusal}
+use Rattle.maple.specs.Running.{due_of, told_of}
+use Rattle.maple.specs.Steps.{refused_from}
 use Rattle.maple.specs.Statuses.{last_line}
 
--- an input that was read runs by its policy, has none, or finds no memory for it
-abbrev pub RunsText : Type 0 → Option (List ℕ) → Option (List ℕ) → ℕ → List ℕ → Status → Type 0
-RunsText risen old new budget input result =
-    ((policy : Policy) × HasPolicy policy input × Ends risen old new (due_of (refused input)) (report_text policy budget input) result)
-    ⊎ ((((policy : Policy) → ¬ (HasPolicy policy input)) × Ends risen old new PolicyRefused (last_line PolicyRefused) result) ⊎ ((result ≡ NoMemory) × Appends old new []))
+-- a script, whose first line has this number, runs under a basic policy, and another policy is refused
+abbrev pub Sims : Type 0 → Option (List ℕ) → Option (List ℕ) → Policy → ℕ → ℕ → List (List ℕ) → Status → Type 0
+Sims risen old new policy budget first lines result =
+    ((is_basic policy ≡ true) × Ends risen old new (due_of (refused_from first lines)) (told_of policy budget [] first lines) result)
+    ⊎ ((is_basic policy ≡ false) × Ends risen old new PolicyRefused (spelled (RefusedPolicy 1 1 Later)) result)
+
+-- an input that was read runs by its policy, has none that the command takes, or finds no memory for it
+abbrev pub RunsText : Type 0 → Option (List ℕ) → Option (List ℕ) → Command → List ℕ → Status → Type 0
+RunsText risen old new command input result =
+    ((policy : Policy) × HasPolicy command policy input × Ends risen old new (due_of (refused command input)) (report_text policy command input) result)
+    ⊎ ((HasNone command input × (l : Line) × IsRefusal command (policy_part input) l × Ends risen old new PolicyRefused (spelled l) result) ⊎ ((result ≡ NoMemory) × Appends old new []))
 
 -- a run whose words are refused, whose input can't be read, is too long or finds no memory, or which runs the input that was read
 pub data IsRunOf (left rest : Option (List ℕ)) (unread risen : Type 0) (old new : Option (List ℕ)) (words : List (List ℕ)) (result : Status) : Type 0 where
-  refused_words : ¬ (AreSim words) → Ends risen old new Usage (last_line Usage) result → IsRunOf left rest unread risen old new words result
-  failed_read : AreSim words → unread → Ends risen old new ReadFault (last_line ReadFault) result → IsRunOf left rest unread risen old new words result
-  read_too_long : AreSim words → IfSome left (λ bytes. 67108864 < length bytes) → Ends risen old new TooLong (last_line TooLong) result → IsRunOf left rest unread risen old new words result
-  lacked_memory : AreSim words → result ≡ NoMemory → Appends old new [] → IsRunOf left rest unread risen old new words result
-  ran : (budget : ℕ) → HasBudget budget words → (input : List ℕ) → IsFit input → IfSome left (λ bytes. input ≡ bytes) → IfSome left (λ bytes. IsAtEnd rest) → RunsText risen old new budget input result → IsRunOf left rest unread risen old new words result
+  refused_words : ¬ (AreWords words) → Ends risen old new Usage (last_line Usage) result → IsRunOf left rest unread risen old new words result
+  failed_read : AreWords words → unread → Ends risen old new ReadFault (last_line ReadFault) result → IsRunOf left rest unread risen old new words result
+  read_too_long : AreWords words → IfSome left (λ bytes. 67108864 < length bytes) → Ends risen old new TooLong (last_line TooLong) result → IsRunOf left rest unread risen old new words result
+  lacked_memory : AreWords words → result ≡ NoMemory → Appends old new [] → IsRunOf left rest unread risen old new words result
+  ran : (command : Command) → HasCommand command words → (input : List ℕ) → IsFit input → IfSome left (λ bytes. input ≡ bytes) → IfSome left (λ bytes. IsAtEnd rest) → RunsText risen old new command input result → IsRunOf left rest unread risen old new words result

@@ -13,11 +13,11 @@ status_number WriteFault = 5
 status_number NoMemory = 6
 status_number TooLong = 7
 
--- the line that each status writes last; that of a refused script is its refusal's
+-- the line that each status writes last; that of a refused policy or script is its refusal's
 abbrev pub last_line : Status → List ℕ
 last_line Done = codes "end\n"
 last_line Usage = codes "refused usage\n"
-last_line Policy = codes "refused policy\n"
+last_line Policy = []
 last_line Script = []
 last_line ReadFault = codes "refused read\n"
 last_line WriteFault = []

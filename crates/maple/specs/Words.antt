@@ -1,8 +1,11 @@
--- The words of a command line: `sim`, and behind it at most one option, `--budget N` or `--budget=N`.
+-- The words of a command line: `sim`, and behind it at most one option, `--budget N` or `--budget=N`; or `check` alone.
 use Rattle.std.specs.Prelude.{ℕ, ◌&&◌, ◌==◌, nat_le, if◌then◌else◌, List, [], ◌∷◌, length, Option, Some, None, codes}
-use Rattle.std.specs.Option.{option_and_then}
+use Rattle.std.specs.Option.{option_and_then, option_map}
 use Rattle.std.specs.Str.{bytes_eq}
 use Rattle.maple_base.specs.Numbers.{number_of}
+use Rattle.policy_eval.specs.Answers.{IsBudget}
+use Rattle.maple.specs.declared.words.Command.{Command}
+use Rattle.maple.specs.declared.words.Command.TheVariants.{Sim, Check}
 
 -- the number, where it is within the limits of a budget
 abbrev pub within_budget : ℕ → Option ℕ
@@ -25,7 +28,17 @@ options_budget (w ∷ []) = option_and_then budget_value (behind_text (codes "--
 options_budget (w ∷ value ∷ []) = if bytes_eq w (codes "--budget") then budget_value value else None
 options_budget ws = None
 
--- the budget of a run with these words, where they are in the grammar
-abbrev pub budget_of : List (List ℕ) → Option ℕ
-budget_of [] = None
-budget_of (w ∷ ws) = if bytes_eq w (codes "sim") then options_budget ws else None
+-- `check` has no options
+abbrev pub check_alone : List (List ℕ) → Option Command
+check_alone [] = Some Check
+check_alone ws = None
+
+-- the command that these words give, where they are in the grammar
+abbrev pub command_of : List (List ℕ) → Option Command
+command_of [] = None
+command_of (w ∷ ws) = if bytes_eq w (codes "sim") then option_map Sim (options_budget ws) else (if bytes_eq w (codes "check") then check_alone ws else None)
+
+-- the budget of a command is within its limits
+abbrev pub IsCommand : Command → Type 0
+IsCommand (Sim budget) = IsBudget budget
+IsCommand Check = Unit {0}

@@ -36,9 +36,8 @@ fn last_line(status: Status) -> &'static [u8]
     match status {
         Status::Done => b"end\n",
         Status::Usage => b"refused usage\n",
-        Status::Policy => b"refused policy\n",
         Status::ReadFault => b"refused read\n",
         Status::TooLong => b"refused input\n",
-        Status::Script | Status::WriteFault | Status::NoMemory => b"",
+        Status::Policy | Status::Script | Status::WriteFault | Status::NoMemory => b"",
     }
 }

@@ -6,6 +6,7 @@ pub mod finish;
 pub mod input;
 pub mod lines;
 pub mod output;
+pub mod policies;
 pub mod sim;
 pub mod status;
 pub mod step;

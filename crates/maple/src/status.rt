@@ -9,7 +9,7 @@ pub enum Status {
     Done,
     /// The words aren't in the grammar.
     Usage,
-    /// The text of the policy isn't in the grammar.
+    /// The policy is refused: its text is of none, or of one that the command doesn't run yet.
     Policy,
     /// A line of the script isn't in the grammar.
     Script,

@@ -1,31 +1,37 @@
 // The top call.
-ghost use Rattle.std.specs.Prelude.{◌≡◌, ◌≤◌, IfSome, length};
+ghost use Rattle.std.specs.Prelude.{◌≡◌, ◌+◌, ◌^◌, ◌<◌, ◌≤◌, IfSome, length, map};
 ghost use Rattle.std.specs.Io.KnownBytes.{Appends, IsAtEnd};
 ghost use Rattle.maple_io.specs.Counts.{HasRisen};
 ghost use Rattle.policy_eval.specs.Answers.{IsBudget};
 ghost use Rattle.maple.specs.declared.status.Status.{Status as StatusOf};
 ghost use Rattle.maple.specs.Ends.{WritesFront};
-ghost use Rattle.maple.specs.Runs.{IsRunOf, RunsText};
-ghost use Rattle.maple.specs.Due.{AreSim, IsDue, IsOrFails, IsOrUnwritten, Reports, WritesSome};
+ghost use Rattle.maple.specs.Lines.{ended_lines, without_end};
+ghost use Rattle.maple.specs.Runs.{IsRunOf, RunsText, Sims};
+ghost use Rattle.maple.specs.Due.{AreWords, IsDue, IsOrFails, IsOrUnwritten, Refuses, Reports, WritesSome};
 ghost use Rattle.maple.specs.Statuses.{last_line};
+ghost use Rattle.maple.specs.Words.{IsCommand};
 
 use crate::finish::finish;
 use crate::input::{ReadStop, read_all};
 use crate::lines::{line_count, split_input};
+use crate::policies::{put_policy, refusal_of, refuse_policy};
 use crate::sim::run_script;
 use crate::status::Status;
-use crate::words::budget_of;
+use crate::words::{Command, command_of};
 use maple_base::Words;
 use maple_io::{Sink, Source};
-use policy_text::{ReadError, read_policy};
+use policy_lang::Policy;
+use policy_text::{ReadError, is_basic, read_policy};
+use report_text::PolicyRefusal;
 use std::alloc::Global;
 
 /// Runs Maple with the words of a command line.
 ///
-/// The word `sim` reads the input to its end: a policy, a line `%%`, and a script. It writes what a
-/// switch and its controller do with each frame that the script brings, and then a last line. The
-/// option `--budget N`, or `--budget=N`, bounds the steps that the policy may take for a packet: 1
-/// to 65,536, and 4,096 without it.
+/// Both commands read the input to its end: a policy, a line `%%`, and a script. The word `sim`
+/// writes what a switch and its controller do with each frame that the script brings, and then a
+/// last line. The option `--budget N`, or `--budget=N`, bounds the steps that the policy may take for
+/// a packet: 1 to 65,536, and 4,096 without it. The word `check`, alone, writes the printed form of
+/// the policy, and looks at no script. Where the policy is refused both write where and why.
 pub fn maple<R, I: Source, O: Sink>(
     _rt: &R,
     alloc: Global,
@@ -34,9 +40,9 @@ pub fn maple<R, I: Source, O: Sink>(
     output: &mut O,
 ) -> Status
     // The words decide first.
-    ensures usage { result ≡ Status.Usage → ¬ (AreSim words.now) }
-    ensures usage_exact { ¬ (AreSim words.now) → IsOrUnwritten Status.Usage result }
-    ensures usage_front { ¬ (AreSim words.now) → WritesFront (O.taken output.old) (O.taken output.new) (last_line Status.Usage) }
+    ensures usage { result ≡ Status.Usage → ¬ (AreWords words.now) }
+    ensures usage_exact { ¬ (AreWords words.now) → IsOrUnwritten Status.Usage result }
+    ensures usage_front { ¬ (AreWords words.now) → WritesFront (O.taken output.old) (O.taken output.new) (last_line Status.Usage) }
     ensures usage_text { result ≡ Status.Usage → Appends (O.taken output.old) (O.taken output.new) (last_line Status.Usage) }
 
     // A read that fails, and an input that is too long.
@@ -47,7 +53,7 @@ pub fn maple<R, I: Source, O: Sink>(
 
     // The policy, and then the script.
     ensures policy { result ≡ Status.Policy → IfSome (I.left input.old) (λ bytes. IsDue Status.Policy words.now bytes) }
-    ensures policy_text { result ≡ Status.Policy → Appends (O.taken output.old) (O.taken output.new) (last_line Status.Policy) }
+    ensures policy_text { result ≡ Status.Policy → IfSome (I.left input.old) (λ bytes. Refuses words.now (O.taken output.old) (O.taken output.new) bytes) }
     ensures script { result ≡ Status.Script → IfSome (I.left input.old) (λ bytes. IsDue Status.Script words.now bytes) }
     ensures script_text { result ≡ Status.Script → IfSome (I.left input.old) (λ bytes. Reports words.now (O.taken output.old) (O.taken output.new) bytes) }
     ensures done { result ≡ Status.Done → IfSome (I.left input.old) (λ bytes. IsDue Status.Done words.now bytes) }
@@ -73,11 +79,11 @@ fn run_words<I: Source, O: Sink>(
 ) -> Status
     ensures { IsRunOf (I.left input.old) (I.left input.new) (HasRisen (I.failed input.old) (I.failed input.new)) (HasRisen (O.failed output.old) (O.failed output.new)) (O.taken output.old) (O.taken output.new) words.now result }
 {
-    let Some(budget) = budget_of(words) else {
+    let Some(command) = command_of(words) else {
         return finish(output, Status::Usage);
     };
     match read_all(alloc, input) {
-        Ok(text) => run_text(alloc, budget, &text, output),
+        Ok(text) => run_text(alloc, command, &text, output),
         Err(ReadStop::Failed) => finish(output, Status::ReadFault),
         Err(ReadStop::TooLong) => finish(output, Status::TooLong),
         Err(ReadStop::NoMemory) => Status::NoMemory,
@@ -85,18 +91,43 @@ fn run_words<I: Source, O: Sink>(
 }
 
 // Runs an input that was read to its end.
-fn run_text<O: Sink>(alloc: Global, budget: u32, text: &[u8], output: &mut O) -> Status
-    requires budget { IsBudget budget }
+fn run_text<O: Sink>(alloc: Global, command: Command, text: &[u8], output: &mut O) -> Status
+    requires budget { IsCommand command }
     requires fit { length text.now ≤ 67108864 }
-    ensures { RunsText (HasRisen (O.failed output.old) (O.failed output.new)) (O.taken output.old) (O.taken output.new) budget text.now result }
+    ensures { RunsText (HasRisen (O.failed output.old) (O.failed output.new)) (O.taken output.old) (O.taken output.new) command text.now result }
 {
-    let (policy, script) = split_input(text);
-    match read_policy(alloc, policy) {
-        Ok(accepted) => {
-            let first = line_count(policy) as u32 + 2;
-            run_script(alloc, &accepted, budget, first, script, output)
+    let (text, script) = split_input(text);
+    match read_policy(alloc, text) {
+        Ok(policy) => match command {
+            Command::Check => put_policy(alloc, &policy, output),
+            Command::Sim(budget) => {
+                let first = line_count(text) as u32 + 2;
+                sim(alloc, &policy, budget, first, script, output)
+            }
+        },
+        Err(ReadError::Refused { line, column, kind }) => {
+            refuse_policy(alloc, output, line, column, refusal_of(kind))
         }
-        Err(ReadError::Refused { .. }) => finish(output, Status::Policy),
         Err(ReadError::NoMemory) => Status::NoMemory,
+    }
+}
+
+// Runs a script, whose first line has this number, under a policy. One that is not basic is refused.
+fn sim<O: Sink>(
+    alloc: Global,
+    policy: &Policy,
+    budget: u32,
+    first: u32,
+    script: &[u8],
+    output: &mut O,
+) -> Status
+    requires budget { IsBudget budget }
+    requires numbers { first + length script.now < 2 ^ 32 }
+    ensures { Sims (HasRisen (O.failed output.old) (O.failed output.new)) (O.taken output.old) (O.taken output.new) policy.now budget first (map without_end (ended_lines script.now)) result }
+{
+    if is_basic(policy) {
+        run_script(alloc, policy, budget, first, script, output)
+    } else {
+        refuse_policy(alloc, output, 1, 1, PolicyRefusal::Later)
     }
 }

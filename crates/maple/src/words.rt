@@ -1,7 +1,7 @@
 // The words of a command line.
 ghost use Rattle.std.specs.Prelude.{◌≡◌};
 ghost use Rattle.std.specs.Option.{option_copied};
-ghost use Rattle.maple.specs.Words.{behind_text, budget_of, budget_value, options_budget, within_budget};
+ghost use Rattle.maple.specs.Words.{behind_text, budget_value, check_alone, command_of, options_budget, within_budget};
 
 use maple_base::{Bytes, Words, number_of};
 
@@ -14,15 +14,37 @@ const MOST: u32 = 65_536;
 // The digits of a budget's longest spelling.
 const DIGITS: usize = 20;
 
-/// The budget of a run with these words: `sim`, and behind it `--budget N`, `--budget=N` or
-/// nothing, which gives 4,096. N has 1 to 20 decimal digits, and is 1 to 65,536. `None` exactly
-/// where the words are others.
-pub fn budget_of(words: &Words) -> Option<u32>
-    ensures { result ≡ budget_of words.now }
+/// What the words of a command line ask for.
+#[derive(Clone, Copy, Debug, PartialEq, Eq)]
+pub enum Command {
+    /// Run the script of the input under its policy, which may take so many steps for a packet.
+    Sim(u32),
+    /// Print the policy of the input.
+    Check,
+}
+
+/// The command that these words give: `sim`, and behind it `--budget N`, `--budget=N` or nothing,
+/// which gives a budget of 4,096; or `check` alone. N has 1 to 20 decimal digits, and is 1 to
+/// 65,536. `None` exactly where the words are others.
+pub fn command_of(words: &Words) -> Option<Command>
+    ensures { result ≡ command_of words.now }
 {
     match words.items() {
-        [first, options @ ..] if first.items() == b"sim".as_slice() => options_budget(options),
+        [first, options @ ..] if first.items() == b"sim".as_slice() => {
+            Some(Command::Sim(options_budget(options)?))
+        }
+        [first, options @ ..] if first.items() == b"check".as_slice() => check_alone(options),
         _ => None,
+    }
+}
+
+fn check_alone(options: &[Bytes]) -> Option<Command>
+    ensures { result ≡ check_alone options.now }
+{
+    if options.is_empty() {
+        Some(Command::Check)
+    } else {
+        None
     }
 }
 

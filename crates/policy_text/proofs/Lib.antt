@@ -1,9 +1,7 @@
 pub mod Counts
-pub mod FirstWords
-pub mod Grammar
-pub mod Marks
-pub mod OnePolicy
-pub mod Plainness
+pub mod Fewness
+pub mod Narrow
+pub mod OneText
+pub mod Outlined
 pub mod Spending
-pub mod Steps
-pub mod Values
+pub mod Telling

@@ -23,7 +23,7 @@ use Rattle.policy_lang.proofs.PlainRuns.{plain_value, plain_numbers, Halt, Exhau
 use Rattle.policy_lang.proofs.Agreement.{statement_plainly}
 use Rattle.policy_lang.proofs.Plainly.{ending_of, block_plainly}
 use Rattle.policy_lang.specs.PlainParts.{is_plain_statement}
-use Rattle.policy_text.proofs.Plainness.{text_plain}
+use Rattle.policy_text.proofs.Telling.{text_formed}
 use Rattle.policy_text.proofs.Counts.{expr_nodes, all_nodes, head_nodes, statement_nodes, nodes_layer, block_nodes, nodes_of, block_size}
 use Rattle.policy_lang.proofs.Sizes.{formed_fits}
 use Rattle.policy_text.specs.Laws.{NodesSuffice, NeverSpent}
@@ -208,4 +208,4 @@ suffice policy env switch k b plain le e =
     not_spent [] (plain_run policy.body k b) (block_runs policy.body plain k b 0 (omega (arith, le, block_size policy.body))) (ap outcome_of (sym (block_plainly policy.body plain a [] b)) ∙ e)
 
 pub never : NeverSpent
-never text policy h env switch k e = suffice policy env switch k 4096 (text_plain text policy h) (formed_fits [] policy.body h.spells.formed) e
+never text policy h plain env switch k e = suffice policy env switch k 4096 plain (formed_fits policy.tables policy.body (text_formed text policy h)) e

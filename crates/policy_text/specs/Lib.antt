@@ -1,4 +1,3 @@
+pub mod Basic
 pub mod Laws
-pub mod Parsing
-pub mod PolicyText
-pub mod Tokens
+pub mod Texts

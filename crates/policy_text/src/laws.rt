@@ -1,16 +1,19 @@
 // What follows of a policy's text.
-ghost use Rattle.policy_text.specs.Laws.{OneText, OneEnding, OneCourse, NodesSuffice, NeverSpent};
+ghost use Rattle.policy_text.specs.Laws.{OneHead, OneEnding, OneCourse, OnePlainness, OneBasis, NodesSuffice, NeverSpent};
 
-/// A text is that of one policy's body alone: two policies that have it have the same words and
-/// numbers, end the same on each packet in each number of steps, and ask the same of each packet.
+/// A text is that of one policy alone: two policies that have it name the same tables, and both
+/// learn hosts or neither does; they end the same on each packet in each number of steps, and ask
+/// the same of each packet; both are plain, or neither is, and both are basic, or neither is.
 pub fn one_policy()
-    ensures text { OneText }
+    ensures head { OneHead }
     ensures ending { OneEnding }
     ensures course { OneCourse }
+    ensures plainness { OnePlainness }
+    ensures basis { OneBasis }
 {}
 
-/// A policy takes at most as many steps as it has nodes, and one that was read from a text never
-/// spends 4,096.
+/// A plain policy takes at most as many steps as it has nodes, and one that was read from a text
+/// never spends 4,096.
 pub fn steps_law()
     ensures suffice { NodesSuffice }
     ensures never { NeverSpent }

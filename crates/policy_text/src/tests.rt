@@ -1,5 +1,7 @@
+use crate::basic::is_basic;
 use crate::reading::{ReadError, read_policy};
 use maple_base::NoMemory;
+use policy_lang::plain::is_plain;
 use policy_lang::{Expr, Head, Statement};
 use std::alloc::Global;
 use std::process::Abort;
@@ -94,16 +96,17 @@ fn read(alloc: Global, text: &[u8]) -> Result<String, NoMemory> {
     Ok(shown)
 }
 
-// `policy {` and `}` round a text that is repeated, one in the middle, and one that is repeated.
+// A text with a part that is repeated, one in the middle, and one that is repeated.
 fn around(
     alloc: Global,
+    ahead: &[u8],
     times: u32,
-    front: &[u8],
-    inner: &[u8],
-    back: &[u8],
+    parts: [&[u8]; 3],
+    behind: &[u8],
 ) -> Result<Vec<u8>, NoMemory> {
+    let [front, inner, back] = parts;
     let mut text = Vec::new(alloc);
-    text.extend_from_slice(b"policy { ")?;
+    text.extend_from_slice(ahead)?;
     for _ in 0..times {
         text.extend_from_slice(front)?;
     }
@@ -111,7 +114,7 @@ fn around(
     for _ in 0..times {
         text.extend_from_slice(back)?;
     }
-    text.extend_from_slice(b" }")?;
+    text.extend_from_slice(behind)?;
     Ok(text)
 }
 
@@ -155,69 +158,157 @@ fn reads_what_is_written(rt: HostRuntime) -> Result<(), Fail> {
 }
 
 #[test]
-fn refuses_the_rest(rt: HostRuntime) -> Result<(), Fail> {
+fn tells_the_first_fault(rt: HostRuntime) -> Result<(), Fail> {
     let alloc = rt.alloc();
-    let rows: [&[u8]; 19] = [
-        b"",
-        b"policy",
-        b"policy {",
-        b"policy { } }",
-        b"policy { out 1 }",
-        b"policy { out pkt.tp_dst; }",
-        b"policy { if 1 { } }",
-        b"policy { if pkt.tp_dst { } }",
-        b"policy { if pkt.tp_dst is { } }",
-        b"policy { if pkt.dl_pcp is 1 { } }",
-        b"policy { if pkt.tp_dst is pkt.tp_src { } }",
-        b"policy { if pkt.tp_dst is 0x16 { } }",
-        b"policy { if tp_dst is 1 { } }",
-        b"policy { if pkt.tp_dst is 22 { drop; } else { } }",
-        b"policy { if pkt.tp_dst is 22 drop; }",
-        b"policy { if pkt.tp_dst is 22 { drop; }",
-        b"policy { if pkt.tp_dst is 22 { drop; ",
-        b"policy { if pkt.tp_dst is 22 { drop; } } }",
-        b"policy { drop; \xc3\xa9 }",
+    let rows: [(&[u8], &str); 34] = [
+        (b"", "refused 1 1 3"),
+        (b"policy", "refused 1 7 3"),
+        (b"policy {", "refused 1 9 3"),
+        (b"policy { } }", "refused 1 12 3"),
+        (b"policy { out 1 }", "refused 1 16 3"),
+        (b"policy { let at = 1; }", "refused 1 14 3"),
+        (b"policy { out 1 < 2 < 3; }", "refused 1 20 3"),
+        (b"policy { drop; \xc3\xa9 }", "refused 1 16 1"),
+        (b"policy { # \xc3\n }", "refused 1 12 1"),
+        (b"policy { $ }", "refused 1 10 2"),
+        (b"policy { out 0x; }", "refused 1 14 2"),
+        (
+            b"policy { let a123456789012345678901234567890z = 1; }",
+            "refused 1 14 2",
+        ),
+        (b"policy { out 18446744073709551616; }", "refused 1 14 7"),
+        (b"policy { out 1.2.3.256; }", "refused 1 14 7"),
+        (b"policy { out x; }", "refused 1 14 4"),
+        (b"policy { let x = x; }", "refused 1 18 4"),
+        (b"policy {\n  # x\n  out x;\n}\n", "refused 3 7 4"),
+        (b"policy { x = 1; }", "refused 1 10 4"),
+        (b"policy { if t[1] as x { } }", "refused 1 13 4"),
+        (b"policy { let x = 1; let x = 2; }", "refused 1 25 5"),
+        (
+            b"policy { let x = 1; if host(1) as x { } }",
+            "refused 1 35 5",
+        ),
+        (b"table t; table t; policy { }", "refused 1 16 5"),
+        (b"table t; policy { let t = 1; }", "refused 1 23 5"),
+        (b"policy { if 1 { drop; } }", "refused 1 13 6"),
+        (b"policy { if (1) { drop; } }", "refused 1 13 6"),
+        (b"policy { if ((1)) { drop; } }", "refused 1 13 6"),
+        (b"policy { out 1 + (2 < 3); }", "refused 1 18 6"),
+        (b"policy { out (1 < 2) + 3; }", "refused 1 14 6"),
+        (b"policy { out 1, (2) < 3; }", "refused 1 17 6"),
+        (b"policy { if not (x + 1) { } }", "refused 1 17 6"),
+        (b"policy { if (x) + 1 < 2 { } }", "refused 1 14 4"),
+        (b"policy { out y; let x = z; }", "refused 1 14 4"),
+        (b"policy { out y; out 1 }", "refused 1 23 3"),
+        (b"policy { out 1 out $ }", "refused 1 20 2"),
     ];
-    for text in rows {
+    for (text, want) in rows {
         let got = read(alloc, text)?;
-        assert_eq!(rt; got.as_str(), "refused 1 1 3");
+        assert_eq!(rt; got.as_str(), want);
     }
+    Ok(())
+}
+
+#[test]
+fn reads_the_whole_language(rt: HostRuntime) -> Result<(), Fail> {
+    let text = b"table seen; policy learning { let a = 1 + 0x10 - 2;
+        if host(pkt.dl_src) as p { a = p.port; route p; } else { flood; }
+        if seen[a] as n { while not (n == 3 or up(pkt.switch, n)) { out 1, (2); } }
+        if hop(pkt.switch) as q { route at(q, 2); } }";
+    let policy = read_policy(rt.alloc(), text).ok().ok_or("refused")?;
+    assert_eq!(rt; policy.learning(), true);
+    assert_eq!(rt; policy.tables().items().len(), 1);
+    assert_eq!(rt; policy.body().items().len(), 4);
+    assert_eq!(rt; is_plain(&policy), false);
     Ok(())
 }
 
 #[test]
 fn keeps_its_limits(rt: HostRuntime) -> Result<(), Fail> {
     let alloc = rt.alloc();
+    let open: &[u8] = b"policy { ";
     let test: &[u8] = b"if pkt.tp_dst is 22 { ";
-    let rows: [(u32, &[u8], &[u8], &[u8], bool); 10] = [
-        (30, test, b"", b"} ", true),
-        (30, test, b"out 1;", b"} ", true),
-        (31, test, b"", b"} ", false),
-        (20_000, test, b"", b"", false),
-        (2_048, b"drop;", b"", b"drop;", true),
-        (2_048, b"drop;", b"drop;", b"drop;", false),
-        (2_047, b"drop;", b"out 1;", b"drop;", true),
-        (2_047, b"drop;", b"if pkt.tp_dst is 22 { }", b"drop;", false),
-        (32_762, b" ", b" ", b" ", true),
-        (32_762, b" ", b"  ", b" ", false),
+    let rows: [(&[u8], u32, [&[u8]; 3], &[u8], (u32, u32, u8)); 16] = [
+        (open, 30, [test, b"", b"} "], b" }", (0, 0, 0)),
+        (open, 30, [test, b"out 1;", b"} "], b" }", (0, 0, 0)),
+        (open, 31, [test, b"", b"} "], b" }", (1, 687, 8)),
+        (open, 20_000, [test, b"", b""], b" }", (1, 65_537, 10)),
+        (open, 2_000, [test, b"", b""], b"", (1, 687, 8)),
+        (open, 2_048, [b"drop;", b"", b"drop;"], b" }", (0, 0, 0)),
+        (
+            open,
+            2_048,
+            [b"drop;", b"drop;", b"drop;"],
+            b" }",
+            (1, 20_490, 9),
+        ),
+        (
+            open,
+            2_047,
+            [b"drop;", b"out 1;", b"drop;"],
+            b" }",
+            (0, 0, 0),
+        ),
+        (
+            open,
+            2_047,
+            [b"drop;", b"if pkt.tp_dst is 22 { }", b"drop;"],
+            b" }",
+            (1, 20_498, 9),
+        ),
+        (open, 32_762, [b" ", b" ", b" "], b" }", (0, 0, 0)),
+        (open, 32_762, [b" ", b"  ", b" "], b" }", (1, 65_537, 10)),
+        (b"policy { out ", 64, [b"(", b"1", b")"], b"; }", (0, 0, 0)),
+        (b"policy { out ", 65, [b"(", b"1", b")"], b"; }", (1, 78, 8)),
+        (b"", 16, [b"table t; ", b"", b""], b"policy { }", (1, 16, 5)),
+        (
+            b"",
+            17,
+            [b"table t; ", b"", b""],
+            b"policy { }",
+            (1, 151, 10),
+        ),
+        (b"", 17, [b"table t; ", b"", b""], b"policy", (1, 151, 10)),
     ];
-    for (times, front, inner, back, fits) in rows {
-        let text = around(alloc, times, front, inner, back)?;
-        let refused = match read_policy(alloc, &text) {
-            Err(error) => {
-                assert_eq!(rt;
-                    error,
-                    ReadError::Refused {
-                        line: 1,
-                        column: 1,
-                        kind: 3
-                    }
-                );
-                true
-            }
-            Ok(_) => false,
+    for (ahead, times, parts, behind, place) in rows {
+        let text = around(alloc, ahead, times, parts, behind)?;
+        let told = match read_policy(alloc, &text) {
+            Err(ReadError::Refused { line, column, kind }) => (line, column, kind),
+            Err(ReadError::NoMemory) => return Err("no memory".into()),
+            Ok(_) => (0, 0, 0),
         };
-        assert_eq!(rt; refused, !fits);
+        assert_eq!(rt; told, place);
+    }
+    Ok(())
+}
+
+#[test]
+fn basic_policies(rt: HostRuntime) -> Result<(), Fail> {
+    let rows: [(&[u8], bool); 14] = [
+        (b"policy { }", true),
+        (b"policy { out 0x2; drop; }", true),
+        (b"policy { out (2); }", true),
+        (
+            b"policy { if (pkt.nw_src is (1.2.3.4)) { if pkt.tp_dst is 1 { } } drop; }",
+            true,
+        ),
+        (b"policy { out 1, 2; }", false),
+        (b"policy { flood; }", false),
+        (b"policy { out pkt.in_port; }", false),
+        (b"policy { out 1 + 1; }", false),
+        (b"policy { if pkt.tp_dst == 1 { } }", false),
+        (b"policy { if pkt.tp_dst is 1 { } else { } }", false),
+        (
+            b"policy { if pkt.tp_dst is 1 { if pkt.tp_src is 1 { out 1, 2; } } }",
+            false,
+        ),
+        (b"policy { let x = 1; }", false),
+        (b"policy learning { }", false),
+        (b"table t; policy { }", false),
+    ];
+    for (text, basic) in rows {
+        let policy = read_policy(rt.alloc(), text).ok().ok_or("refused")?;
+        assert_eq!(rt; is_basic(&policy), basic);
     }
     Ok(())
 }

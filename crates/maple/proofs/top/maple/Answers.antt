@@ -1,8 +1,11 @@
-use Rattle.maple.proofs.Tops.{policy_due, script_due, script_told, done_due, done_told, exact, fault_front, memory_front}
+use Rattle.maple.proofs.Tops.{policy_due, policy_told, script_due, script_told, done_due, done_told, exact, fault_front, memory_front}
 use Rattle.maple.proofs.top.maple.Goals as goal
 
 pub returns-clause-policy : goal.returns-clause-policy
 returns-clause-policy g c = λ e. policy_due _ _ _ _ _ _ _ (rw e at c.run_words.ensures)
+
+pub returns-clause-policy_text : goal.returns-clause-policy_text
+returns-clause-policy_text g c = λ e. policy_told _ _ _ _ _ _ _ (rw e at c.run_words.ensures)
 
 pub returns-clause-script : goal.returns-clause-script
 returns-clause-script g c = λ e. script_due _ _ _ _ _ _ _ (rw e at c.run_words.ensures)

@@ -1,0 +1,99 @@
+-- Which policy a text is of, and what is told of a text that is of none. A text is tested in three passes: over its bytes, words and signs; over its grammar and its limits; over its names and types. The first pass that finds a fault decides, by the least place, and there by the least number.
+use Rattle.std.specs.Prelude.{◌≡◌, ◌⊎◌, ℕ, map, List, [], Some, None, unwrap_or}
+use Rattle.std.specs.List.{slice_get}
+use Rattle.std.specs.Option.{option_map}
+use Rattle.policy_lang.specs.declared.Block.{Block}
+use Rattle.policy_lang.specs.declared.Policy.{Policy}
+use Rattle.policy_lang.specs.Blocks.{statements_of}
+use Rattle.policy_lang.specs.Faults.{Fault, number_of, name_faults, first_by}
+use Rattle.policy_tokens.specs.declared.token.Token.{Token}
+use Rattle.policy_tokens.specs.declared.token.Place.{Place}
+use Rattle.policy_tokens.specs.declared.fault.FaultKind.{FaultKind as TokenFault}
+use Rattle.policy_tokens.specs.declared.fault.TokensError.TheVariants.{Fault as token_fault}
+use Rattle.policy_tokens.specs.Faults.{faults, IsErrorOf}
+use Rattle.policy_tokens.specs.Kinds.{number_of as number_of_token}
+use Rattle.policy_tokens.specs.Tokens.{TokenList, tokens_of}
+use Rattle.policy_grammar.specs.Grammar.{File, AreStatements, file_tokens}
+use Rattle.policy_limits.specs.declared.fault.FaultKind.{FaultKind as OutlineFault}
+use Rattle.policy_limits.specs.Limits.{number_of as number_of_outline, first_limit, IsFault}
+use Rattle.policy_tree.specs.Trees.{AreTrees}
+use Rattle.policy_places.specs.Places.{place_of}
+use Rattle.policy_text.specs.declared.reading.ReadError.{ReadError}
+use Rattle.policy_text.specs.declared.reading.ReadError.TheVariants.{Refused, NoMemory}
+
+-- ---- texts of policies
+
+abbrev pub plain : TokenList → List Token
+plain list = map (λ p. p.token) list.tokens
+
+-- the tokens are those of a file that the grammar has and that passes no limit
+pub record IsFileOf (f : File) (tokens : List Token) : Type 0 where
+  pub body : AreStatements f.body
+  pub same : tokens ≡ file_tokens f
+  pub free : first_limit f ≡ None
+
+-- the policy is that of these tokens: it has what their file names, its body is the file's syntax tree, and its names and types are right
+pub record IsPolicyOf (policy : Policy) (tokens : List Token) : Type 0 where
+  pub file : File
+  pub is_file : IsFileOf file tokens
+  pub tables : policy.tables ≡ file.tables
+  pub learning : policy.learning ≡ file.learning
+  pub body : AreTrees file.body (statements_of policy.body)
+  pub named : name_faults policy.tables policy.body ≡ []
+
+-- the text is one of this policy: each of its bytes, words and signs is right, and the policy is that of its tokens
+pub record IsTextOf (policy : Policy) (text : List ℕ) : Type 0 where
+  pub faultless : faults text ≡ []
+  pub is_policy : IsPolicyOf policy (plain (tokens_of text))
+
+-- ---- what is told of other texts
+
+-- the place of the token that has so many ahead of it, and that of the end where all are ahead
+abbrev pub token_place : TokenList → ℕ → Place
+token_place list i = unwrap_or (option_map (λ t. t.place) (slice_get list.tokens i)) list.end
+
+-- the first pass finds this fault
+pub record IsTokenFault (text : List ℕ) (place : Place) (kind : ℕ) : Type 0 where
+  pub fault : TokenFault
+  pub first : IsErrorOf text (token_fault place fault)
+  pub number : kind ≡ number_of_token fault
+
+-- the second pass finds it
+pub record IsOutlineFault (list : TokenList) (place : Place) (kind : ℕ) : Type 0 where
+  pub token : ℕ
+  pub fault : OutlineFault
+  pub first : IsFault (plain list) token fault
+  pub lies : place ≡ token_place list token
+  pub number : kind ≡ number_of_outline fault
+
+-- the third pass finds it: in a syntax tree of the text
+pub record IsNameFault (list : TokenList) (place : Place) (kind : ℕ) : Type 0 where
+  pub file : File
+  pub is_file : IsFileOf file (plain list)
+  pub body : Block
+  pub tree : AreTrees file.body (statements_of body)
+  pub fault : Fault
+  pub first : first_by (place_of file) (name_faults file.tables body) ≡ Some fault
+  pub lies : place ≡ token_place list (place_of file fault.site)
+  pub number : kind ≡ number_of fault.rule
+
+-- one pass finds it, and the passes ahead find nothing
+abbrev pub IsTold : List ℕ → Place → ℕ → Type 0
+IsTold text place kind =
+    IsTokenFault text place kind ⊎ ((faults text ≡ []) × (IsOutlineFault (tokens_of text) place kind ⊎ IsNameFault (tokens_of text) place kind))
+
+abbrev pub HasNoPolicy : List ℕ → Type 0
+HasNoPolicy text = (policy : Policy) → ¬ (IsTextOf policy text)
+
+-- the error tells what is wrong with a text that no policy has, or that memory ran out
+abbrev pub IsRefused : List ℕ → ReadError → Type 0
+IsRefused text (Refused line column kind) = HasNoPolicy text × IsTold text (record { line = line; column = column }) kind
+IsRefused text NoMemory = Unit {0}
+
+-- ---- what is told of tokens
+
+-- the second or the third pass finds this, or memory ran out
+abbrev pub IsWrong : TokenList → ReadError → Type 0
+IsWrong list (Refused line column kind) =
+    IsOutlineFault list (record { line = line; column = column }) kind ⊎ IsNameFault list (record { line = line; column = column }) kind
+IsWrong list NoMemory = Unit {0}
