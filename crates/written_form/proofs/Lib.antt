@@ -1,0 +1,10 @@
+pub mod Levels
+pub mod Numbers
+pub mod Pieces
+pub mod SameBlocks
+pub mod SameExprs
+pub mod SpelledBlocks
+pub mod SpelledParts
+pub mod Unpassed
+pub mod UnpassedFiles
+pub mod UnpassedParts

@@ -1,0 +1,182 @@
+-- A number's decimal digits read as the number.
+use Rattle.std.proofs.Common.{not, drop, ◌≡◌, ℕ, ◌+◌, ◌-◌, ◌*◌, ◌/◌, ◌%◌, ◌^◌, ◌<◌, ◌≤◌, cond, eqb, true, false, ◌&&◌, ◌||◌, List, [], ◌∷◌, ◌++◌, length, Some, None, Ok, refl, sym, ap, ◌∙◌, arith, ⊎_elim}
+use Rattle.std.specs.Prelude.{nat_le, nat_lt}
+use Rattle.std.specs.Option.{option_map}
+use Rattle.std.specs.List.{All, list_all, find, slice_split}
+use Rattle.std.specs.Fmt.{decimal}
+use Rattle.std.specs.Str.{bytes_eq}
+use Rattle.std.proofs.lemmas.Bool.{and_parts, and_from, or_left, or_right, false_from_ne_true, false≢true, ltb-true, lt-ltb, leb-true, le-leb, eqb-true, or_cases}
+use Rattle.std.proofs.lemmas.List.Folds.{list_all-append}
+use Rattle.std.proofs.lemmas.List.Elements.{All-nil, All-cons}
+use Rattle.std.proofs.lemmas.List.Splits.{slice_split_none}
+use Rattle.std.proofs.lemmas.Slice.Eq.{bytes_eq-Decides}
+use Rattle.std.proofs.lemmas.Fmt.{decimal_by_steps}
+use Rattle.maple_base.specs.Names.{is_name, is_name_byte, is_first_byte, begins_name, is_keyword}
+use Rattle.maple_base.specs.Numbers.{is_digit, is_digits, digits_onto, numeral_within, is_hexadecimal, address_of, numeral_of, hex_onto}
+use Rattle.maple_base.specs.declared.number.Numeral.TheVariants.{Number as numeral, TooGreat}
+use Rattle.policy_tokens.specs.declared.token.Token.TheVariants.{Keyword as keyword, Name as name, Number as number}
+use Rattle.policy_tokens.specs.declared.token.Keyword.{Keyword}
+use Rattle.policy_tokens.specs.declared.token.Keyword.TheVariants.{Table, Policy, Learning, Drop, Flood, Out, Route, Let, If, Else, While, Host, Hop, Up, At, As, Is, And, Or, Not, In, Packet}
+use Rattle.policy_tokens.specs.Bytes.{is_word_byte, is_letter}
+use Rattle.policy_tokens.specs.Spellings.{keyword_text, keywords}
+use Rattle.policy_tokens.specs.Words.{plain_token, parts_token, numeral_token, token_or, word_token, sign_of, begins_word, token_of}
+use Rattle.written_form.proofs.Pieces.{Reads, is_word, word}
+
+-- ---- digits and their number
+
+record IsSpelling (n : ℕ) (ds : List ℕ) : Type 0 where
+  digits : is_digits ds ≡ true
+  worth : digits_onto 0 ds ≡ n
+
+a_digit : (n : ℕ) → n < 10 → is_digit (48 + n) ≡ true
+a_digit n h = and_from (nat_le 48 (48 + n)) (nat_lt (48 + n) 58) (le-leb 48 (48 + n) (omega arith)) (lt-ltb (48 + n) 58 (omega (arith, h)))
+
+onto_last : (ds : List ℕ) (n b : ℕ) → digits_onto n (ds ++ b ∷ []) ≡ 10 * digits_onto n ds + (b - 48)
+onto_last [] n b = refl
+onto_last (d ∷ ds) n b = onto_last ds (10 * n + (d - 48)) b
+
+one_digit : (n : ℕ) → n < 10 → IsSpelling n ((48 + n) ∷ [])
+one_digit n h =
+    record {
+      digits = and_from (is_digit (48 + n)) true (a_digit n h) refl;
+      worth = omega arith;
+    }
+
+all_digits : (ds : List ℕ) → is_digits ds ≡ true → list_all is_digit ds ≡ true
+all_digits ds h = (and_parts (nat_lt 0 (length ds)) (list_all is_digit ds) h).1
+
+filled : (ds : List ℕ) (b : ℕ) → nat_lt 0 (length (ds ++ b ∷ [])) ≡ true
+filled [] b = refl
+filled (d ∷ ds) b = lt-ltb 0 (length (d ∷ (ds ++ b ∷ []))) (omega arith)
+
+more_digits : (n : ℕ) (ds : List ℕ) → 10 ≤ n → IsSpelling (n / 10) ds → IsSpelling n (ds ++ (48 + n % 10) ∷ [])
+more_digits n ds h x =
+    let last = 48 + n % 10 in
+    let all = all_digits ds x.digits in
+    record {
+      digits = and_from (nat_lt 0 (length (ds ++ last ∷ []))) (list_all is_digit (ds ++ last ∷ [])) (filled ds last)
+          (list_all-append is_digit ds (last ∷ []) ∙ and_from (list_all is_digit ds) (is_digit last && true) all (and_from (is_digit last) true (a_digit (n % 10) (omega arith)) refl));
+      worth = onto_last ds 0 last ∙ omega (arith, x.worth);
+    }
+
+spelling : (n : ℕ) → n < 2 ^ 64 → IsSpelling n (decimal n)
+spelling n h = decimal_by_steps IsSpelling one_digit more_digits n h
+
+-- ---- digits are no name, no keyword and no two parts
+
+record IsDigit (b : ℕ) : Type 0 where
+  low : 48 ≤ b
+  high : b < 58
+
+digit_is : (b : ℕ) → is_digit b ≡ true → IsDigit b
+digit_is b h = let both = and_parts (nat_le 48 b) (nat_lt b 58) h in record { low = leb-true 48 b both.0; high = ltb-true b 58 both.1 }
+
+pub digit_word : (b : ℕ) → is_digit b ≡ true → is_word_byte b ≡ true
+digit_word b h =
+    let d = digit_is b h in
+    let here : nat_le 48 b && nat_le b 57 ≡ true = and_from (nat_le 48 b) (nat_le b 57) (le-leb 48 b d.low) (le-leb b 57 (omega (arith, d.high))) in
+    or_left (is_letter b || (nat_le 48 b && nat_le b 57) || eqb b 95 || eqb b 46) (eqb b 58)
+    (or_left (is_letter b || (nat_le 48 b && nat_le b 57) || eqb b 95) (eqb b 46)
+    (or_left (is_letter b || (nat_le 48 b && nat_le b 57)) (eqb b 95)
+    (or_right (is_letter b) (nat_le 48 b && nat_le b 57) here)))
+
+digit_words : (ds : List ℕ) → list_all is_digit ds ≡ true → list_all is_word_byte ds ≡ true
+digit_words [] h = refl
+digit_words (b ∷ bs) h =
+    let both = and_parts (is_digit b) (list_all is_digit bs) h in
+    and_from (is_word_byte b) (list_all is_word_byte bs) (digit_word b both.0) (digit_words bs both.1)
+
+first_digit : (b : ℕ) (bs : List ℕ) → is_digits (b ∷ bs) ≡ true → is_digit b ≡ true
+first_digit b bs h = (and_parts (is_digit b) (list_all is_digit bs) (all_digits (b ∷ bs) h)).0
+
+digits_word : (ds : List ℕ) → is_digits ds ≡ true → is_word ds ≡ true
+digits_word [] h = absurd (cc)
+digits_word (b ∷ bs) h = digit_words (b ∷ bs) (all_digits (b ∷ bs) h)
+
+no_first : (b : ℕ) → is_digit b ≡ true → is_first_byte b ≡ false
+no_first b h =
+    let d = digit_is b h in
+    false_from_ne_true (is_first_byte b) (λ e.
+    ⊎_elim
+    (λ small. absurd (omega (arith, d.high, leb-true 97 b (and_parts (nat_le 97 b) (nat_lt b 123) small).0)))
+    (λ line. let same : b ≡ 95 = eqb-true b 95 line in absurd (omega (arith, d.high, same)))
+    (or_cases (nat_le 97 b && nat_lt b 123) (eqb b 95) e))
+
+no_name_begins : (ds : List ℕ) → is_digits ds ≡ true → begins_name ds ≡ false
+no_name_begins [] h = refl
+no_name_begins (b ∷ bs) h = no_first b (first_digit b bs h)
+
+no_name : (ds : List ℕ) → is_digits ds ≡ true → is_name ds ≡ false
+no_name ds h =
+    false_from_ne_true (is_name ds) (λ e.
+    let whole = and_parts (nat_le (length ds) 31 && begins_name ds && list_all is_name_byte ds) (not (is_keyword ds)) e in
+    let bytes = and_parts (nat_le (length ds) 31 && begins_name ds) (list_all is_name_byte ds) whole.0 in
+    let begins = (and_parts (nat_le (length ds) 31) (begins_name ds) bytes.0).1 in
+    false≢true (sym (no_name_begins ds h) ∙ begins))
+
+keyword_digits : (k : Keyword) → is_digits (keyword_text k) ≡ false
+keyword_digits Table = refl
+keyword_digits Policy = refl
+keyword_digits Learning = refl
+keyword_digits Drop = refl
+keyword_digits Flood = refl
+keyword_digits Out = refl
+keyword_digits Route = refl
+keyword_digits Let = refl
+keyword_digits If = refl
+keyword_digits Else = refl
+keyword_digits While = refl
+keyword_digits Host = refl
+keyword_digits Hop = refl
+keyword_digits Up = refl
+keyword_digits At = refl
+keyword_digits As = refl
+keyword_digits Is = refl
+keyword_digits And = refl
+keyword_digits Or = refl
+keyword_digits Not = refl
+keyword_digits In = refl
+keyword_digits Packet = refl
+
+no_keyword : (ds : List ℕ) → is_digits ds ≡ true → (ks : List Keyword) → find (λ k. bytes_eq (keyword_text k) ds) ks ≡ None
+no_keyword ds h [] = refl
+no_keyword ds h (k ∷ ks) =
+    let other : bytes_eq (keyword_text k) ds ≡ false =
+    false_from_ne_true _ (λ e.
+    let same : keyword_text k ≡ ds = (bytes_eq-Decides (keyword_text k) ds).0 e in
+    false≢true (sym (keyword_digits k) ∙ ap is_digits same ∙ h)) in
+    ap (λ v. cond v (Some k) (find (λ k. bytes_eq (keyword_text k) ds) ks)) other ∙ no_keyword ds h ks
+
+no_dot : (ds : List ℕ) → list_all is_digit ds ≡ true → All (λ b. eqb b 46 ≡ false) ds
+no_dot [] h = All-nil (λ b. eqb b 46 ≡ false)
+no_dot (b ∷ bs) h =
+    let both = and_parts (is_digit b) (list_all is_digit bs) h in
+    let d = digit_is b both.0 in
+    let here : eqb b 46 ≡ false = false_from_ne_true _ (λ e. let same : b ≡ 46 = eqb-true b 46 e in absurd (omega (arith, d.low, same))) in
+    All-cons (λ b. eqb b 46 ≡ false) b bs here (no_dot bs both.1)
+
+word_begins : (ds : List ℕ) → is_digits ds ≡ true → begins_word ds ≡ true
+word_begins [] h = absurd (cc)
+word_begins (b ∷ bs) h = digit_word b (first_digit b bs h)
+
+-- ---- the token
+
+digits_numeral : (ds : List ℕ) (n : ℕ) → is_digits ds ≡ true → digits_onto 0 ds ≡ n → n < 2 ^ 64 → numeral_of ds ≡ Some (numeral n)
+digits_numeral ds n h e small =
+    ap (λ v. cond v (Some (numeral_within (2 ^ 64) (digits_onto 0 ds))) (cond (is_hexadecimal ds) (Some (numeral (hex_onto 0 (drop 2 ds)))) (address_of ds))) h
+    ∙ ap (λ m. Some (numeral_within (2 ^ 64) m)) e
+    ∙ ap (λ v. Some (cond v (numeral n) TooGreat)) (lt-ltb n (2 ^ 64) small)
+
+digits_token : (ds : List ℕ) (n : ℕ) → is_digits ds ≡ true → digits_onto 0 ds ≡ n → n < 2 ^ 64 → token_of ds ≡ Ok (number n)
+digits_token ds n h e small =
+    let find_key = find (λ k. bytes_eq (keyword_text k) ds) keywords in
+    let plain : plain_token ds ≡ None =
+    ap (λ v. cond v (Some (name ds)) (option_map keyword find_key)) (no_name ds h) ∙ ap (option_map keyword) (no_keyword ds h keywords) in
+    let parts : slice_split (λ b. eqb b 46) ds ≡ ds ∷ [] = slice_split_none (λ b. eqb b 46) ds (no_dot ds (all_digits ds h)) in
+    ap (λ v. cond v (word_token ds) (sign_of ds)) (word_begins ds h)
+    ∙ ap (λ o. token_or o (token_or (parts_token (slice_split (λ b. eqb b 46) ds)) (numeral_token (numeral_of ds)))) plain
+    ∙ ap (λ ps. token_or (parts_token ps) (numeral_token (numeral_of ds))) parts
+    ∙ ap numeral_token (digits_numeral ds n h e small)
+
+pub number_reads : (n : ℕ) → n < 2 ^ 64 → Reads false (decimal n) (number n ∷ [])
+number_reads n h = let s = spelling n h in word (decimal n) (number n) (digits_word (decimal n) s.digits) (digits_token (decimal n) n s.digits s.worth h)

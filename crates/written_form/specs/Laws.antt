@@ -1,0 +1,39 @@
+-- What holds of the printed form of each policy.
+use Rattle.std.specs.Prelude.{◌≡◌, ℕ, ◌≤◌, ◌↔◌, true, Bool, map, List, [], length, None}
+use Rattle.policy_lang.specs.declared.Block.{Block}
+use Rattle.policy_lang.specs.declared.Expr.{Expr}
+use Rattle.policy_lang.specs.declared.Policy.{Policy}
+use Rattle.policy_lang.specs.Blocks.{statements_of}
+use Rattle.policy_lang.specs.Faults.{checked}
+use Rattle.policy_tokens.specs.Faults.{faults}
+use Rattle.policy_tokens.specs.Tokens.{tokens_of}
+use Rattle.policy_grammar.specs.Grammar.{IsPhrase, AreStatements, file_tokens, File}
+use Rattle.policy_limits.specs.Limits.{first_limit}
+use Rattle.policy_tree.specs.Trees.{AreTrees}
+use Rattle.policy_print.specs.Printed.{level_of, policy_text}
+use Rattle.written_form.specs.Written.{phrase_of, written_block, file_of, sound_block, is_sound}
+
+-- the grammar has an expression at a place of this least level without parentheses exactly where its level is high enough: so each pair of parentheses that the printed form has must stand, and none is missing
+abbrev pub ParenthesesMustStand : Type 0
+ParenthesesMustStand = (e : Expr) (least : ℕ) → least ≤ 5 → IsPhrase least (phrase_of e) ↔ (least ≤ level_of e)
+
+-- the grammar has what is written
+abbrev pub IsOfGrammar : Type 0
+IsOfGrammar = (b : Block) → sound_block b ≡ true → AreStatements (written_block b)
+
+-- and its syntax tree is the one that was printed
+abbrev pub IsTree : Type 0
+IsTree = (b : Block) → sound_block b ≡ true → AreTrees (written_block b) (statements_of b)
+
+-- where no node of a tree passes a limit and the tables are few, no limit is passed by what is written
+abbrev pub NoneIsPassed : Type 0
+NoneIsPassed =
+    (tables : List (List ℕ)) (learning : Bool) (b : Block) → length tables ≤ 16 → (checked b).limits 1 1 ≡ [] → first_limit (record { tables = tables; learning = learning; body = written_block b }) ≡ None
+
+-- where the printed form has at most 65,536 bytes nothing is wrong with its bytes, words and signs, and its tokens are those of what is written
+pub record IsSpelled (p : Policy) : Type 0 where
+  pub faultless : faults (policy_text p) ≡ []
+  pub tokens : map (λ t. t.token) (tokens_of (policy_text p)).tokens ≡ file_tokens (file_of p)
+
+abbrev pub SpelledAsWritten : Type 0
+SpelledAsWritten = (p : Policy) → is_sound p ≡ true → length (policy_text p) ≤ 65536 → IsSpelled p

@@ -1,0 +1,22 @@
+//! What is written in the printed form of a policy.
+#![tactic(auto)]
+
+ghost use Rattle.written_form.specs.Laws.{ParenthesesMustStand, IsOfGrammar, IsTree, NoneIsPassed, SpelledAsWritten};
+
+/// What is written in the printed form is of the grammar, its syntax tree is the one that is
+/// printed, and parentheses stand exactly where they must.
+pub fn grammar_law()
+    ensures parentheses { ParenthesesMustStand }
+    ensures grammar { IsOfGrammar }
+    ensures tree { IsTree }
+{}
+
+/// What is written in the printed form passes no limit where the tree passes none.
+pub fn limit_law()
+    ensures { NoneIsPassed }
+{}
+
+/// The tokens of the printed form are those of what is written.
+pub fn spelling_law()
+    ensures { SpelledAsWritten }
+{}
