@@ -1,7 +1,7 @@
 //! Policies: the syntax tree of the policy language, and what a policy means.
 #![tactic(auto)]
 
-ghost use Rattle.std.specs.Prelude.{◌≡◌, List};
+ghost use Rattle.std.specs.Prelude.{◌≡◌, ◌≤◌, List, length};
 ghost use Rattle.policy_lang.specs.Blocks.{statements_of, IsOutList};
 ghost use Rattle.policy_lang.specs.Faults.{IsWellFormed};
 
@@ -170,13 +170,15 @@ pub struct Policy {
     tables: Names,
     learning: bool,
     body: Block,
+    ghost few: { length tables ≤ 16 },
     ghost formed: { IsWellFormed tables body },
 }
 
 impl Policy {
-    // A policy of parts that are well formed.
+    // A policy of at most 16 tables and of parts that are well formed.
     pub(crate) fn new(tables: Names, learning: bool, body: Block) -> Policy
-        requires { IsWellFormed tables body }
+        requires few { length tables ≤ 16 }
+        requires formed { IsWellFormed tables body }
         ensures tables { result.tables ≡ tables }
         ensures learning { result.learning ≡ learning }
         ensures body { result.body ≡ body }
@@ -188,9 +190,10 @@ impl Policy {
         }
     }
 
-    /// The names of its tables, in the order in which they are declared.
+    /// The names of its tables, at most 16, in the order in which they are declared.
     pub fn tables(&self) -> &Names
-        ensures { result.now ≡ self.now.tables }
+        ensures tables { result.now ≡ self.now.tables }
+        ensures few { length self.now.tables ≤ 16 }
     {
         &self.tables
     }

@@ -1,5 +1,5 @@
 -- A policy that is sound and well formed is read back from its printed form.
-use Rattle.std.proofs.Common.{◌≡◌, ℕ, Bool, true, List, [], ◌∷◌, ◌++◌, map, refl, subst, ◌∙◌}
+use Rattle.std.proofs.Common.{◌≡◌, ℕ, Bool, true, ◌≤◌, List, [], ◌∷◌, ◌++◌, length, map, refl, subst, ◌∙◌}
 use Rattle.std.specs.List.{list_all}
 use Rattle.std.proofs.lemmas.Bool.{and_from}
 use Rattle.maple_base.specs.Names.{is_name}
@@ -36,9 +36,9 @@ none_of_both (x ∷ xs) ys h g = absurd (cc)
 block_is_sound : (b : Block) (ss : List Statement) → ss ≡ statements_of b → list_all (λ s. s) (map is_sound_statement ss) ≡ true → sound_block b ≡ true
 block_is_sound b ss is h = fold_out-Block Bool Bool sound_statement sound_layer b ∙ subst (λ ts. list_all (λ s. s) (map is_sound_statement ts) ≡ true) is h
 
-pub read_back : (p : Policy) (names : List (List ℕ)) (ss : List Statement) → IsWellFormed p.tables p.body → names ≡ p.tables → list_all is_name names ≡ true
+pub read_back : (p : Policy) (names : List (List ℕ)) (ss : List Statement) → length p.tables ≤ 16 → IsWellFormed p.tables p.body → names ≡ p.tables → list_all is_name names ≡ true
     → ss ≡ statements_of p.body → list_all (λ s. s) (map is_sound_statement ss) ≡ true → IsReadBack p
-read_back p names ss formed same named is sound few short =
+read_back p names ss few formed same named is sound short =
     let tables = tables_faults [] p.tables in
     let limits = (checked p.body).limits 1 1 in
     let wrong = (checked p.body).wrong (table_names p.tables) 1 in
