@@ -7,6 +7,8 @@ pub mod input;
 pub mod lines;
 pub mod output;
 pub mod policies;
+#[cfg(test)]
+mod policy_tests;
 pub mod sim;
 pub mod status;
 pub mod step;

@@ -1,6 +1,9 @@
 //! What is written in the printed form of a policy.
 #![tactic(auto)]
 
+#[cfg(test)]
+mod tests;
+
 ghost use Rattle.written_form.specs.Laws.{ParenthesesMustStand, IsOfGrammar, IsTree, NoneIsPassed, SpelledAsWritten};
 
 /// What is written in the printed form is of the grammar, its syntax tree is the one that is
