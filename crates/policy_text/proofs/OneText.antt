@@ -19,13 +19,13 @@ use Rattle.tree_laws.proofs.AlikeCourses.{courses_alike, plain_alike}
 use Rattle.tree_laws.proofs.AlikeEndings.{endings_alike}
 
 -- what is computed of a body is the same of two trees of the same statements
-abbrev Alike : {A : Type 0} → (Block → A) → Type 0
+abbrev pub Alike : {A : Type 0} → (Block → A) → Type 0
 Alike f = (ss : Statements) (b c : Block) → AreTrees ss (statements_of b) → AreTrees ss (statements_of c) → f b ≡ f c
 
 files_same : (text : List ℕ) (p q : Policy) (h : IsTextOf p text) (k : IsTextOf q text) → k.is_policy.file ≡ h.is_policy.file
 files_same text p q h k = same_file (plain (tokens_of text)) k.is_policy.file h.is_policy.file k.is_policy.is_file h.is_policy.is_file
 
-one_of : {A : Type 0} (f : Block → A) → Alike f → (text : List ℕ) (p q : Policy) → IsTextOf p text → IsTextOf q text → f p.body ≡ f q.body
+pub one_of : {A : Type 0} (f : Block → A) → Alike f → (text : List ℕ) (p q : Policy) → IsTextOf p text → IsTextOf q text → f p.body ≡ f q.body
 one_of f alike text p q h k =
     let tree = subst (λ (g : File). AreTrees g.body (statements_of q.body)) (files_same text p q h k) k.is_policy.body in
     alike h.is_policy.file.body p.body q.body h.is_policy.body tree

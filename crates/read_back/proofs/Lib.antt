@@ -1,1 +1,4 @@
+pub mod AlikePrinted
+pub mod AlikeReads
+pub mod ReadAgain
 pub mod ReadBack

@@ -8,7 +8,7 @@ use Rattle.policy_lang.specs.declared.Policy.{Policy}
 use Rattle.policy_lang.specs.declared.Statement.{Statement}
 use Rattle.policy_lang.specs.declared.Statement.TheFolds.{fold_out-Block}
 use Rattle.policy_lang.specs.Blocks.{statements_of}
-use Rattle.policy_lang.specs.Faults.{Fault, checked, table_names, tables_faults, IsWellFormed}
+use Rattle.policy_lang.specs.Faults.{checked, table_names, tables_faults, IsWellFormed}
 use Rattle.written_form.specs.Written.{sound_statement, sound_layer, sound_block, file_of}
 use Rattle.written_form.proofs.SameBlocks.{of_grammar, is_tree}
 use Rattle.written_form.proofs.SpelledBlocks.{spelled_as_written}
@@ -18,15 +18,15 @@ use Rattle.read_back.specs.Parts.{is_sound_statement}
 
 -- ---- lists without an item
 
-none_ahead : (xs ys : List Fault) → xs ++ ys ≡ [] → xs ≡ []
+pub none_ahead : {A : Type 0} (xs ys : List A) → xs ++ ys ≡ [] → xs ≡ []
 none_ahead [] ys h = refl
 none_ahead (x ∷ xs) ys h = absurd (cc)
 
-none_behind : (xs ys : List Fault) → xs ++ ys ≡ [] → ys ≡ []
+pub none_behind : {A : Type 0} (xs ys : List A) → xs ++ ys ≡ [] → ys ≡ []
 none_behind [] ys h = h
 none_behind (x ∷ xs) ys h = absurd (cc)
 
-none_of_both : (xs ys : List Fault) → xs ≡ [] → ys ≡ [] → xs ++ ys ≡ []
+none_of_both : {A : Type 0} (xs ys : List A) → xs ≡ [] → ys ≡ [] → xs ++ ys ≡ []
 none_of_both [] ys h g = g
 none_of_both (x ∷ xs) ys h g = absurd (cc)
 

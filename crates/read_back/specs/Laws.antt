@@ -1,9 +1,35 @@
 -- What is printed of a policy is read back.
-use Rattle.std.specs.Prelude.{◌≤◌, length}
+use Rattle.std.specs.Prelude.{◌≡◌, ◌≤◌, ◌<◌, length}
 use Rattle.policy_lang.specs.declared.Policy.{Policy}
+use Rattle.policy_lang.specs.Courses.{block_course}
+use Rattle.policy_lang.specs.Evaluation.{block_ending}
+use Rattle.policy_lang.specs.Plain.{is_plain}
+use Rattle.policy_lang.specs.Reads.{reads_of}
 use Rattle.policy_print.specs.Printed.{policy_text}
+use Rattle.policy_text.specs.Basic.{is_basic}
 use Rattle.policy_text.specs.Texts.{IsTextOf}
+use Rattle.policy_text.specs.declared.reading.ReadError.{ReadError}
+use Rattle.policy_text.specs.declared.reading.ReadError.TheVariants.{Refused, NoMemory}
 
 -- where the printed form of a policy has at most 65,536 bytes, that form is a text of the policy itself
 abbrev pub IsReadBack : Policy → Type 0
 IsReadBack p = length (policy_text p) ≤ 65536 → IsTextOf p (policy_text p)
+
+-- two policies are the same in all that can be told of them but for the addresses of their boxes and vectors
+pub record IsSame (p q : Policy) : Type 0 where
+  pub tables : p.tables ≡ q.tables
+  pub learning : p.learning ≡ q.learning
+  -- on each packet they end the same, in each environment and each number of steps
+  pub ending : block_ending p.body ≡ block_ending q.body
+  -- and read the same cells
+  pub reads : reads_of p ≡ reads_of q
+  -- they ask the same of a packet
+  pub course : block_course p.body ≡ block_course q.body
+  pub plainness : is_plain p ≡ is_plain q
+  pub basis : is_basic p ≡ is_basic q
+  pub form : policy_text p ≡ policy_text q
+
+-- the printed form is refused for its length alone, or memory ran out
+abbrev pub IsTooLong : Policy → ReadError → Type 0
+IsTooLong p (Refused line column kind) = 65536 < length (policy_text p)
+IsTooLong p NoMemory = Unit {0}

@@ -5,10 +5,16 @@ mod sound;
 #[cfg(test)]
 mod tests;
 
-ghost use Rattle.read_back.specs.Laws.{IsReadBack};
+ghost use Rattle.std.specs.Prelude.{◌≡◌, IfOk, IfErr};
+ghost use Rattle.policy_print.specs.Printed.{policy_text};
+ghost use Rattle.read_back.specs.Laws.{IsReadBack, IsSame, IsTooLong};
 
+use maple_base::NoMemory;
 use policy_lang::Policy;
+use policy_print::print_policy;
+use policy_text::{ReadError, read_policy};
 use sound::{check_names, check_statements};
+use std::alloc::Global;
 
 /// The printed form of a policy, where it has at most 65,536 bytes, is a text of that policy:
 /// `policy_text::read_policy` gives a policy of the same tables, the same word `learning` and the
@@ -19,4 +25,27 @@ pub fn reads_back(policy: &Policy)
 {
     check_names(policy.tables().items());
     check_statements(policy.body().items());
+}
+
+// The printed form of a policy.
+fn printed(alloc: Global, policy: &Policy) -> Result<Vec<u8>, NoMemory>
+    ensures { IfOk result (λ form. form.items ≡ policy_text policy.now) }
+{
+    let mut form = Vec::new(alloc);
+    print_policy(policy, &mut form)?;
+    Ok(form)
+}
+
+/// The policy that is read of a policy's printed form. It is the same policy.
+///
+/// # Errors
+///
+/// A printed form of more than 65,536 bytes is refused. No other is, but for want of memory.
+pub fn reread(alloc: Global, policy: &Policy) -> Result<Policy, ReadError>
+    ensures same { IfOk result (λ again. IsSame policy.now again) }
+    ensures refused { IfErr result (λ error. IsTooLong policy.now error) }
+{
+    reads_back(policy);
+    let form = printed(alloc, policy)?;
+    read_policy(alloc, &form)
 }

@@ -17,7 +17,7 @@ use Rattle.policy_lang.specs.Values.{Datum, Truth, number_in, truth_in, ports_am
 use Rattle.policy_lang.specs.Courses.{Course, Stops, Going, ask_test, value_course, numbers_course, Coursing, chosen_course, head_course, course_statement, courses, course_block, block_course}
 use Rattle.policy_lang.specs.Plain.{plain_expr, plain_head, plain_else, plain_statement, plain_block, is_plain_block}
 use Rattle.policy_tree.specs.Trees.{AreTrees}
-use Rattle.tree_laws.proofs.Alike.{Boxed, joined, called, Reckoning, alike, lists_alike, Heading, heads_alike}
+use Rattle.tree_laws.proofs.Alike.{Boxed, joined, called, Reckoning, lists_alike, Heading, heads_alike}
 use Rattle.tree_laws.proofs.AlikeFolds.{Folding, one_block}
 
 -- ---- what an expression asks

@@ -7,7 +7,7 @@ use Rattle.policy_lang.specs.Blocks.{statements_of}
 use Rattle.policy_lang.specs.Faults.{checked}
 use Rattle.policy_tokens.specs.Faults.{faults}
 use Rattle.policy_tokens.specs.Tokens.{tokens_of}
-use Rattle.policy_grammar.specs.Grammar.{IsPhrase, AreStatements, file_tokens, File}
+use Rattle.policy_grammar.specs.Grammar.{IsPhrase, AreStatements, file_tokens}
 use Rattle.policy_limits.specs.Limits.{first_limit}
 use Rattle.policy_tree.specs.Trees.{AreTrees}
 use Rattle.policy_print.specs.Printed.{level_of, policy_text}

@@ -1,5 +1,5 @@
 -- What is written in the printed form of a policy: the words of its tree, and parentheses round each part whose level is too low for its place.
-use Rattle.std.specs.Prelude.{ℕ, Bool, true, false, ◌&&◌, ◌^◌, nat_lt, nat_le, if◌then◌else◌, map, List, [], ◌∷◌, length, Option, Some, None}
+use Rattle.std.specs.Prelude.{ℕ, Bool, true, ◌&&◌, ◌^◌, nat_lt, nat_le, if◌then◌else◌, map, List, [], ◌∷◌, length, Option, Some, None}
 use Rattle.std.specs.List.{list_all}
 use Rattle.maple_base.specs.Names.{is_name}
 use Rattle.policy_lang.specs.declared.Expr.{Expr}

@@ -1,0 +1,56 @@
+-- What is read of a policy's printed form is the same policy.
+use Rattle.std.proofs.Common.{◌≡◌, ℕ, ◌≤◌, List, [], ◌∷◌, ◌++◌, length, Result, Ok, Err, IfOk, sym, ap, ◌∙◌, ⊎_elim}
+use Rattle.std.specs.Prelude.{Bool, if◌then◌else◌, codes}
+use Rattle.std.specs.List.{flat_map, filter_map}
+use Rattle.std.proofs.lemmas.Bool.{lt-ltb, cases_lt}
+use Rattle.policy_lang.specs.declared.Policy.{Policy}
+use Rattle.policy_lang.specs.Reads.{block_part}
+use Rattle.policy_tokens.specs.declared.fault.FaultKind.TheVariants.{TooLong}
+use Rattle.policy_tokens.specs.Faults.{fault_at, strange_bytes, too_long, lexeme_fault, faults}
+use Rattle.policy_tokens.specs.Lexemes.{lexemes_of}
+use Rattle.policy_print.specs.Printed.{◌&◌, table_text, opening, Lines, block_text, policy_text}
+use Rattle.policy_text.specs.declared.reading.ReadError.{ReadError}
+use Rattle.policy_text.specs.Texts.{IsTextOf}
+use Rattle.policy_text.proofs.OneText.{one_of, one_head, one_ending, one_course, one_plainness, one_basis}
+use Rattle.read_back.specs.Laws.{IsReadBack, IsSame}
+use Rattle.read_back.proofs.AlikePrinted.{texts_alike}
+use Rattle.read_back.proofs.AlikeReads.{parts_alike}
+use Rattle.read_back.proofs.ReadBack.{none_ahead, none_behind}
+
+-- a text without a fault is short enough
+short : (text : List ℕ) → faults text ≡ [] → length text ≤ 65536
+short text h =
+    let past = fault_at 65536 TooLong ∷ [] in
+    let none = none_behind (strange_bytes 0 text) (too_long text) (none_ahead (strange_bytes 0 text ++ too_long text) (filter_map lexeme_fault (lexemes_of text)) h) in
+    ⊎_elim
+    (λ gt. absurd (cc (sym (ap (λ (b : Bool). if b then past else []) (lt-ltb 65536 (length text) gt)) ∙ none)))
+    (λ le. le)
+    (cases_lt 65536 (length text))
+
+-- two texts of one form
+forms_alike : (p q : Policy) → p.tables ≡ q.tables → p.learning ≡ q.learning → block_text p.body ≡ block_text q.body → policy_text p ≡ policy_text q
+forms_alike p q tables learning body =
+    ap (λ ts. flat_map table_text ts & opening p.learning & block_text p.body 1 & codes "}\n") tables
+    ∙ ap (λ l. flat_map table_text q.tables & opening l & block_text p.body 1 & codes "}\n") learning
+    ∙ ap (λ (f : Lines). flat_map table_text q.tables & opening q.learning & f 1 & codes "}\n") body
+
+same_read : (p q : Policy) → IsReadBack p → IsTextOf q (policy_text p) → IsSame p q
+same_read p q back other =
+    let text = policy_text p in
+    let own = back (short text other.faultless) in
+    let head = one_head text p q own other in
+    let parts = one_of block_part parts_alike text p q own other in
+    record {
+      tables = head.0;
+      learning = head.1;
+      ending = one_ending text p q own other;
+      reads = λ i budget env switch k. (parts i).reads (record { env = env; switch = switch; key = k }) [] budget;
+      course = one_course text p q own other;
+      plainness = one_plainness text p q own other;
+      basis = one_basis text p q own other;
+      form = forms_alike p q head.0 head.1 (one_of block_text texts_alike text p q own other);
+    }
+
+pub all_same : (p : Policy) (r : Result Policy ReadError) → IsReadBack p → IfOk r (λ q. IsTextOf q (policy_text p)) → IfOk r (λ q. IsSame p q)
+all_same p (Ok q) back read = same_read p q back read
+all_same p (Err e) back read = tt

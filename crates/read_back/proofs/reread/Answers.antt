@@ -1,0 +1,6 @@
+use Rattle.std.proofs.Common.{rules}
+use Rattle.read_back.proofs.ReadAgain.{all_same}
+use Rattle.read_back.proofs.reread.Goals as goal
+
+pub returns-clause-same : goal.returns-clause-same
+returns-clause-same c = all_same c.args.policy.now c.read_policy.result c.reads_back.ensures (search rules)
