@@ -1,5 +1,5 @@
 -- Two policies of one text are alike.
-use Rattle.std.proofs.Common.{◌≡◌, ℕ, List, length, sym, ap, subst, ◌∙◌}
+use Rattle.std.proofs.Common.{◌≡◌, ℕ, List, [], length, sym, ap, subst, ◌∙◌}
 use Rattle.std.specs.Prelude.{not, ◌&&◌, ◌==◌}
 use Rattle.policy_lang.specs.declared.Block.{Block}
 use Rattle.policy_lang.specs.declared.Policy.{Policy}
@@ -7,16 +7,18 @@ use Rattle.policy_lang.specs.Blocks.{statements_of}
 use Rattle.policy_lang.specs.Courses.{block_course}
 use Rattle.policy_lang.specs.Evaluation.{block_ending}
 use Rattle.policy_lang.specs.Plain.{is_plain, is_plain_block}
+use Rattle.policy_lang.specs.Reads.{block_part}
 use Rattle.policy_grammar.specs.Grammar.{Statements, File}
 use Rattle.policy_tokens.specs.Tokens.{tokens_of}
 use Rattle.policy_tree.specs.Trees.{AreTrees}
 use Rattle.policy_text.specs.Basic.{is_narrow}
-use Rattle.policy_text.specs.Laws.{OneHead, OneEnding, OneCourse, OnePlainness, OneBasis}
+use Rattle.policy_text.specs.Laws.{OneHead, OneEnding, OneReading, OneCourse, OnePlainness, OneBasis}
 use Rattle.policy_text.specs.Texts.{plain, IsTextOf}
 use Rattle.policy_text.proofs.Narrow.{narrow_alike}
 use Rattle.policy_text.proofs.Telling.{same_file}
 use Rattle.tree_laws.proofs.AlikeCourses.{courses_alike, plain_alike}
 use Rattle.tree_laws.proofs.AlikeEndings.{endings_alike}
+use Rattle.tree_laws.proofs.AlikeReads.{reads_alike}
 
 -- what is computed of a body is the same of two trees of the same statements
 abbrev pub Alike : {A : Type 0} → (Block → A) → Type 0
@@ -37,6 +39,11 @@ one_head text p q h k =
 
 pub one_ending : OneEnding
 one_ending = one_of block_ending endings_alike
+
+pub one_reading : OneReading
+one_reading text p q h k =
+    let same = one_of block_part reads_alike text p q h k in
+    λ i budget env switch key. (same i).reads (record { env = env; switch = switch; key = key }) [] budget
 
 pub one_course : OneCourse
 one_course = one_of block_course courses_alike

@@ -8,6 +8,7 @@ use Rattle.policy_lang.specs.declared.Policy.{Policy}
 use Rattle.policy_lang.specs.Evaluation.{block_ending, eval_of}
 use Rattle.policy_lang.specs.Plain.{is_plain}
 use Rattle.policy_lang.specs.Courses.{block_course}
+use Rattle.policy_lang.specs.Reads.{reads_of}
 use Rattle.policy_lang.specs.Faults.{checked}
 use Rattle.policy_text.specs.Basic.{is_basic}
 use Rattle.policy_text.specs.Texts.{IsTextOf}
@@ -19,6 +20,10 @@ OneHead = (text : List ℕ) (p q : Policy) → IsTextOf p text → IsTextOf q te
 -- they end the same at each key, in each environment, and with each number of steps
 abbrev pub OneEnding : Type 0
 OneEnding = (text : List ℕ) (p q : Policy) → IsTextOf p text → IsTextOf q text → block_ending p.body ≡ block_ending q.body
+
+-- they read the same cells
+abbrev pub OneReading : Type 0
+OneReading = (text : List ℕ) (p q : Policy) → IsTextOf p text → IsTextOf q text → reads_of p ≡ reads_of q
 
 -- they ask the same of a packet
 abbrev pub OneCourse : Type 0

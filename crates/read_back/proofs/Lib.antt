@@ -1,4 +1,3 @@
 pub mod AlikePrinted
-pub mod AlikeReads
 pub mod ReadAgain
 pub mod ReadBack

@@ -4,17 +4,15 @@ use Rattle.std.specs.Prelude.{Bool, if◌then◌else◌, codes}
 use Rattle.std.specs.List.{flat_map, filter_map}
 use Rattle.std.proofs.lemmas.Bool.{lt-ltb, cases_lt}
 use Rattle.policy_lang.specs.declared.Policy.{Policy}
-use Rattle.policy_lang.specs.Reads.{block_part}
 use Rattle.policy_tokens.specs.declared.fault.FaultKind.TheVariants.{TooLong}
 use Rattle.policy_tokens.specs.Faults.{fault_at, strange_bytes, too_long, lexeme_fault, faults}
 use Rattle.policy_tokens.specs.Lexemes.{lexemes_of}
 use Rattle.policy_print.specs.Printed.{◌&◌, table_text, opening, Lines, block_text, policy_text}
 use Rattle.policy_text.specs.declared.reading.ReadError.{ReadError}
 use Rattle.policy_text.specs.Texts.{IsTextOf}
-use Rattle.policy_text.proofs.OneText.{one_of, one_head, one_ending, one_course, one_plainness, one_basis}
+use Rattle.policy_text.proofs.OneText.{one_of, one_head, one_ending, one_reading, one_course, one_plainness, one_basis}
 use Rattle.read_back.specs.Laws.{IsReadBack, IsSame}
 use Rattle.read_back.proofs.AlikePrinted.{texts_alike}
-use Rattle.read_back.proofs.AlikeReads.{parts_alike}
 use Rattle.read_back.proofs.ReadBack.{none_ahead, none_behind}
 
 -- a text without a fault is short enough
@@ -39,12 +37,11 @@ same_read p q back other =
     let text = policy_text p in
     let own = back (short text other.faultless) in
     let head = one_head text p q own other in
-    let parts = one_of block_part parts_alike text p q own other in
     record {
       tables = head.0;
       learning = head.1;
       ending = one_ending text p q own other;
-      reads = λ i budget env switch k. (parts i).reads (record { env = env; switch = switch; key = k }) [] budget;
+      reads = one_reading text p q own other;
       course = one_course text p q own other;
       plainness = one_plainness text p q own other;
       basis = one_basis text p q own other;

@@ -19,12 +19,13 @@ use Rattle.tree_laws.proofs.AlikeFolds.{Folding, one_block}
 
 -- ---- expressions
 
-abbrev Valuing : Type 0
+abbrev pub Valuing : Type 0
 Valuing = Arrival → Scope → ℕ → Given
 
 -- two that agree where no step is left, and where one is
-by_steps : {f g : Valuing} → ((a : Arrival) (s : Scope) → f a s zero ≡ g a s zero) → ((a : Arrival) (s : Scope) (left : ℕ) → f a s (suc left) ≡ g a s (suc left)) → f ≡ g
-by_steps {f} {g} h k = λ i a s left. same a s left i
+pub by_steps : {A : Type 0} {f g : Arrival → Scope → ℕ → A} → ((a : Arrival) (s : Scope) → f a s zero ≡ g a s zero)
+    → ((a : Arrival) (s : Scope) (left : ℕ) → f a s (suc left) ≡ g a s (suc left)) → f ≡ g
+by_steps {A} {f} {g} h k = λ i a s left. same a s left i
   where
     same : (a : Arrival) (s : Scope) (left : ℕ) → f a s left ≡ g a s left
     same a s zero = h a s
@@ -49,33 +50,33 @@ pair_given operator.LessEqual = from_two is_at_most
 pair_given operator.Plus = from_two sum_of
 pair_given operator.Minus = from_two difference_of
 
-abbrev call_value : Callee → Valuing → Valuing → Valuing
+abbrev pub call_value : Callee → Valuing → Valuing → Valuing
 call_value c f g = stepped (λ a s left. call_given c a (f a s left) (g a s))
 
-abbrev pair_value : Operator → Valuing → Valuing → Valuing
+abbrev pub pair_value : Operator → Valuing → Valuing → Valuing
 pair_value o f g = stepped (λ a s left. pair_given o (f a s left) (g a s))
 
-abbrev not_value : Valuing → Valuing
+abbrev pub not_value : Valuing → Valuing
 not_value f = stepped (λ a s left. from_one opposite (f a s left))
 
-abbrev is_value : Field → Valuing → Valuing
+abbrev pub is_value : Field → Valuing → Valuing
 is_value x f = stepped (λ a s left. from_one (has_value (field_of a.key x)) (f a s left))
 
-call_values : (c : Callee) (p : Boxed) (l : Expr) (q : Boxed) (r : Expr) → value_of (called c p l q r) ≡ call_value c (value_of l) (value_of r)
+pub call_values : (c : Callee) (p : Boxed) (l : Expr) (q : Boxed) (r : Expr) → value_of (called c p l q r) ≡ call_value c (value_of l) (value_of r)
 call_values Up p l q r = by_steps (λ a s. refl) (λ a s left. refl)
 call_values At p l q r = by_steps (λ a s. refl) (λ a s left. refl)
 
-pair_values : (o : Operator) (p : Boxed) (l : Expr) (q : Boxed) (r : Expr) → value_of (joined o p l q r) ≡ pair_value o (value_of l) (value_of r)
+pub pair_values : (o : Operator) (p : Boxed) (l : Expr) (q : Boxed) (r : Expr) → value_of (joined o p l q r) ≡ pair_value o (value_of l) (value_of r)
 pair_values operator.Or p l q r = by_steps (λ a s. refl) (λ a s left. refl)
 pair_values o p l q r = by_steps (λ a s. refl) (λ a s left. refl)
 
-not_values : (p : Boxed) (e : Expr) → value_of (Not' p e) ≡ not_value (value_of e)
+pub not_values : (p : Boxed) (e : Expr) → value_of (Not' p e) ≡ not_value (value_of e)
 not_values p e = by_steps (λ a s. refl) (λ a s left. refl)
 
-is_values : (f : Field) (p : Boxed) (e : Expr) → value_of (Is' f p e) ≡ is_value f (value_of e)
+pub is_values : (f : Field) (p : Boxed) (e : Expr) → value_of (Is' f p e) ≡ is_value f (value_of e)
 is_values f p e = by_steps (λ a s. refl) (λ a s left. refl)
 
-abbrev values : Reckoning Valuing
+abbrev pub values : Reckoning Valuing
 values = record {
   of = value_of;
   call = call_value;
@@ -97,10 +98,10 @@ add_value f g a s left = with_number (f a s left) (g a s)
 
 -- ---- heads
 
-abbrev Asking : Type 0
+abbrev pub Asking : Type 0
 Asking = Arrival → Scope → ℕ → Held
 
-abbrev heads : Heading values Asking
+abbrev pub heads : Heading values Asking
 heads = record {
   of = head_of;
   host = λ x f a s. counted (λ left. by_cell x s (λ n. place_of_host (a.env (cell.Host n))) (f a s left));
@@ -116,18 +117,14 @@ heads = record {
 -- ---- statements
 
 -- two statements that run alike behind a step
-run_alike : (x y : Statement-F Running Running) → ((a : Arrival) (s : Scope) (left : ℕ) → by_statement x a s (suc left) ≡ by_statement y a s (suc left)) → by_statement x ≡ by_statement y
-run_alike x y h = λ i a s left. same a s left i
-  where
-    same : (a : Arrival) (s : Scope) (left : ℕ) → by_statement x a s left ≡ by_statement y a s left
-    same a s zero = refl
-    same a s (suc left) = h a s left
+pub run_alike : (x y : Statement-F Running Running) → ((a : Arrival) (s : Scope) (left : ℕ) → by_statement x a s (suc left) ≡ by_statement y a s (suc left)) → by_statement x ≡ by_statement y
+run_alike x y h = by_steps (λ a s. refl) h
 
-rounds_alike : (n : ℕ) (e f : Expr) → value_of e ≡ value_of f → (body : Running) (a : Arrival) (s : Scope) (left : ℕ) → rounds n e body a s left ≡ rounds n f body a s left
+pub rounds_alike : (n : ℕ) (e f : Expr) → value_of e ≡ value_of f → (body : Running) (a : Arrival) (s : Scope) (left : ℕ) → rounds n e body a s left ≡ rounds n f body a s left
 rounds_alike zero e f h body a s left = refl
 rounds_alike (suc n) e f h body a s left = λ i. round s (by_truth s (h i a s left)) (body a s) (λ t more. rounds_alike n e f h body a t more i)
 
-abbrev endings : Folding Running
+abbrev pub endings : Folding Running
 endings = record {
   statement = by_statement;
   block = by_block;

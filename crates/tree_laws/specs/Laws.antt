@@ -6,6 +6,7 @@ use Rattle.policy_lang.specs.Courses.{block_course}
 use Rattle.policy_lang.specs.Evaluation.{block_ending}
 use Rattle.policy_lang.specs.Faults.{checked}
 use Rattle.policy_lang.specs.Plain.{is_plain_block}
+use Rattle.policy_lang.specs.Reads.{block_part}
 use Rattle.policy_grammar.specs.Grammar.{Statements, File}
 use Rattle.policy_limits.specs.Limits.{first_limit}
 use Rattle.policy_tree.specs.Trees.{AreTrees}
@@ -21,6 +22,10 @@ CheckedAlike = (ss : Statements) (b c : Block) → AreTrees ss (statements_of b)
 -- they end the same on each packet, in each environment, and with each number of steps
 abbrev pub EndAlike : Type 0
 EndAlike = (ss : Statements) (b c : Block) → AreTrees ss (statements_of b) → AreTrees ss (statements_of c) → block_ending b ≡ block_ending c
+
+-- and read the same cells
+abbrev pub ReadAlike : Type 0
+ReadAlike = (ss : Statements) (b c : Block) → AreTrees ss (statements_of b) → AreTrees ss (statements_of c) → block_part b ≡ block_part c
 
 -- they ask the same of a packet
 abbrev pub AskAlike : Type 0

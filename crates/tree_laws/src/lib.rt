@@ -4,18 +4,19 @@
 #[cfg(test)]
 mod tests;
 
-ghost use Rattle.tree_laws.specs.Laws.{NoneIsPassed, CheckedAlike, EndAlike, AskAlike, PlainAlike};
+ghost use Rattle.tree_laws.specs.Laws.{NoneIsPassed, CheckedAlike, EndAlike, ReadAlike, AskAlike, PlainAlike};
 
 /// A text that passes no limit has a tree none of whose nodes passes one.
 pub fn limit_law()
     ensures { NoneIsPassed }
 {}
 
-/// Two trees of the same text are checked alike, end alike on each packet, and ask the same of it;
-/// both are plain, or neither is.
+/// Two trees of the same text are checked alike, end alike on each packet, read the same cells, and
+/// ask the same of the packet; both are plain, or neither is.
 pub fn tree_laws()
     ensures checked { CheckedAlike }
     ensures ending { EndAlike }
+    ensures reads { ReadAlike }
     ensures course { AskAlike }
     ensures plain { PlainAlike }
 {}
