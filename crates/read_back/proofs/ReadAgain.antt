@@ -1,5 +1,5 @@
 -- What is read of a policy's printed form is the same policy.
-use Rattle.std.proofs.Common.{◌≡◌, ℕ, ◌≤◌, List, [], ◌∷◌, ◌++◌, length, Result, Ok, Err, IfOk, sym, ap, ◌∙◌, ⊎_elim}
+use Rattle.std.proofs.Common.{◌≡◌, ℕ, ◌≤◌, List, [], ◌∷◌, ◌++◌, length, Result, Ok, Err, IfOk, OnOk, sym, ap, ◌∙◌, ⊎_elim}
 use Rattle.std.specs.Prelude.{Bool, if◌then◌else◌, codes}
 use Rattle.std.specs.List.{flat_map, filter_map}
 use Rattle.std.proofs.lemmas.Bool.{lt-ltb, cases_lt}
@@ -51,3 +51,7 @@ same_read p q back other =
 pub all_same : (p : Policy) (r : Result Policy ReadError) → IsReadBack p → IfOk r (λ q. IsTextOf q (policy_text p)) → IfOk r (λ q. IsSame p q)
 all_same p (Ok q) back read = same_read p q back read
 all_same p (Err e) back read = tt
+
+pub all_short : (p : Policy) (r : Result Policy ReadError) → IfOk r (λ q. IsTextOf q (policy_text p)) → OnOk r (length (policy_text p) ≤ 65536)
+all_short p (Ok q) read = short (policy_text p) read.faultless
+all_short p (Err e) read = tt

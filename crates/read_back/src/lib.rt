@@ -5,7 +5,7 @@ mod sound;
 #[cfg(test)]
 mod tests;
 
-ghost use Rattle.std.specs.Prelude.{◌≡◌, IfOk, IfErr};
+ghost use Rattle.std.specs.Prelude.{◌≡◌, ◌≤◌, length, IfOk, OnOk, IfErr};
 ghost use Rattle.policy_print.specs.Printed.{policy_text};
 ghost use Rattle.read_back.specs.Laws.{IsReadBack, IsSame, IsTooLong};
 
@@ -43,6 +43,7 @@ fn printed(alloc: Global, policy: &Policy) -> Result<Vec<u8>, NoMemory>
 /// A printed form of more than 65,536 bytes is refused. No other is, but for want of memory.
 pub fn reread(alloc: Global, policy: &Policy) -> Result<Policy, ReadError>
     ensures same { IfOk result (λ again. IsSame policy.now again) }
+    ensures short { OnOk result (length (policy_text policy.now) ≤ 65536) }
     ensures refused { IfErr result (λ error. IsTooLong policy.now error) }
 {
     reads_back(policy);
