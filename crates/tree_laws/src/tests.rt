@@ -11,6 +11,9 @@ fn fault_of(alloc: Global, text: &[u8]) -> Option<(u32, u8)> {
     let tokens = read_tokens(alloc, text).ok()?;
     let reading = read_events(alloc, tokens.items()).ok()?;
     let parts = build(alloc, &reading.events).ok()??;
+    if parts.tables.len() > 16 {
+        return None;
+    }
     match Policy::build(alloc, parts.tables, parts.learning, parts.body) {
         Ok(_) => Some((0, 0)),
         Err(BuildError::Fault { node, kind }) => Some((node, kind)),

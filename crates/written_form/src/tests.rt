@@ -11,6 +11,9 @@ fn policy_of(alloc: Global, text: &[u8]) -> Option<Policy> {
     let tokens = read_tokens(alloc, text).ok()?;
     let reading = read_events(alloc, tokens.items()).ok()?;
     let parts = build(alloc, &reading.events).ok()??;
+    if parts.tables.len() > 16 {
+        return None;
+    }
     Policy::build(alloc, parts.tables, parts.learning, parts.body).ok()
 }
 
