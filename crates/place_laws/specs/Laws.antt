@@ -1,0 +1,45 @@
+-- What holds of the places of names that heads bind. A place is told of such a name as that of the name behind the next `as`; here it is that of the head's own.
+use Rattle.std.specs.Prelude.{◌≡◌, ℕ, ◌+◌, List, [], ◌∷◌, ◌++◌, length, map, Some}
+use Rattle.std.specs.List.{slice_get}
+use Rattle.policy_tokens.specs.declared.token.Token.TheVariants.{Name as name}
+use Rattle.policy_grammar.specs.Grammar.{Question, Host, Hop, Lookup, Holds, Statements, Nothing, Plain, If, IfElse, While, action_tokens, AreStatements, File, file_tokens}
+use Rattle.policy_places.specs.Places.{phrase_length, question_length, statements_length, if_length, body_first, places_of, name_behind}
+
+-- a head that binds a name: the numbers of its first token and of the name's, and the name
+pub record Binding : Type 0 where
+  pub first : ℕ
+  pub last : ℕ
+  pub bound : List ℕ
+
+-- a head whose first token has this number; ahead of its name stand four tokens and its expression
+abbrev pub binding_at : ℕ → ℕ → List ℕ → List Binding
+binding_at i inside x = record { first = i; last = i + 4 + inside; bound = x } ∷ []
+
+abbrev pub question_bindings : ℕ → Question → List Binding
+question_bindings i (Host a x) = binding_at i (phrase_length a) x
+question_bindings i (Hop a x) = binding_at i (phrase_length a) x
+question_bindings i (Lookup t a x) = binding_at i (phrase_length a) x
+question_bindings i (Holds a) = []
+
+-- the heads of statements whose first token has this number, in the order of the text
+abbrev pub statements_bindings : ℕ → Statements → List Binding
+statements_bindings i Nothing = []
+statements_bindings i (Plain s rest) = statements_bindings (i + length (action_tokens s)) rest
+statements_bindings i (If q first rest) =
+    question_bindings (i + 1) q ++ (statements_bindings (i + 2 + question_length q) first ++ statements_bindings (i + if_length q first) rest)
+statements_bindings i (IfElse q first second rest) =
+    question_bindings (i + 1) q ++ (statements_bindings (i + 2 + question_length q) first
+    ++ (statements_bindings (i + if_length q first + 2) second ++ statements_bindings (i + if_length q first + 3 + statements_length second) rest))
+statements_bindings i (While a body rest) =
+    statements_bindings (i + 2 + phrase_length a) body ++ statements_bindings (i + 3 + phrase_length a + statements_length body) rest
+
+abbrev pub file_bindings : File → List Binding
+file_bindings f = statements_bindings (body_first f) f.body
+
+-- the place that is told of the name of each head is that of the head's own name
+abbrev pub EachHasItsOwn : Type 0
+EachHasItsOwn = (f : File) → AreStatements f.body → map (λ b. name_behind b.first (places_of f).bound) (file_bindings f) ≡ map (λ b. b.last) (file_bindings f)
+
+-- where that name stands
+abbrev pub NamesStandThere : Type 0
+NamesStandThere = (f : File) → map (λ b. slice_get (file_tokens f) b.last) (file_bindings f) ≡ map (λ b. Some (name b.bound)) (file_bindings f)
