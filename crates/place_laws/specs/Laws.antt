@@ -1,9 +1,26 @@
--- What holds of the places of names that heads bind. A place is told of such a name as that of the name behind the next `as`; here it is that of the head's own.
+-- What holds of the places of nodes and names. Nodes have the same numbers in a text and in its tree. The place that is told of a name that a head binds, that of the name behind the next `as`, is that of the head's own.
 use Rattle.std.specs.Prelude.{◌≡◌, ℕ, ◌+◌, List, [], ◌∷◌, ◌++◌, length, map, Some}
 use Rattle.std.specs.List.{slice_get}
+use Rattle.policy_lang.specs.declared.Block.{Block}
+use Rattle.policy_lang.specs.declared.Expr.{Expr}
+use Rattle.policy_lang.specs.Blocks.{statements_of}
+use Rattle.policy_lang.specs.Faults.{size_of, checked}
 use Rattle.policy_tokens.specs.declared.token.Token.TheVariants.{Name as name}
-use Rattle.policy_grammar.specs.Grammar.{Question, Host, Hop, Lookup, Holds, Statements, Nothing, Plain, If, IfElse, While, action_tokens, AreStatements, File, file_tokens}
-use Rattle.policy_places.specs.Places.{phrase_length, question_length, statements_length, if_length, body_first, places_of, name_behind}
+use Rattle.policy_grammar.specs.Grammar.{Phrase, Question, Host, Hop, Lookup, Holds, Statements, Nothing, Plain, If, IfElse, While, action_tokens, AreStatements, File, file_tokens}
+use Rattle.policy_tree.specs.Trees.{IsExpr, AreTrees}
+use Rattle.policy_places.specs.Places.{phrase_length, phrase_places, statements_places, question_length, statements_length, if_length, body_first, places_of, name_behind}
+
+-- ---- nodes
+
+-- an expression has as many places as its tree has nodes
+abbrev pub ExpressionsAgree : Type 0
+ExpressionsAgree = (a : Phrase) (e : Expr) (whole first : ℕ) → IsExpr a e → length (phrase_places whole first a) ≡ size_of e
+
+-- and so have statements; so in each part of a text the nodes behind it have the numbers that they have in the tree
+abbrev pub StatementsAgree : Type 0
+StatementsAgree = (ss : Statements) (b : Block) (first : ℕ) → AreTrees ss (statements_of b) → length (statements_places first ss) ≡ (checked b).size
+
+-- ---- names that heads bind
 
 -- a head that binds a name: the numbers of its first token and of the name's, and the name
 pub record Binding : Type 0 where
