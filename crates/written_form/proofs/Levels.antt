@@ -49,7 +49,7 @@ fits (LessEqual' p l q r) = (omega arith, part 4 (level_of l) (phrase_of l) (fit
 pub stands : (e : Expr) → IsPhrase 0 (phrase_of e)
 stands e = whole (level_of e) (phrase_of e) (fits e)
 
-within : (e : Expr) (least : ℕ) → least ≤ 5 → IsPhrase least (phrase_of e) → least ≤ level_of e
+pub within : (e : Expr) (least : ℕ) → least ≤ 5 → IsPhrase least (phrase_of e) → least ≤ level_of e
 within (Number n) least le h = le
 within (Var x) least le h = le
 within (SwitchOf x) least le h = le

@@ -1,3 +1,5 @@
+pub mod Dropped
+pub mod Fewest
 pub mod Levels
 pub mod Numbers
 pub mod Pieces

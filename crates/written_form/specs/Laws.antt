@@ -1,5 +1,5 @@
 -- What holds of the printed form of each policy.
-use Rattle.std.specs.Prelude.{◌≡◌, ℕ, ◌≤◌, ◌↔◌, true, Bool, map, List, [], length, None}
+use Rattle.std.specs.Prelude.{◌≡◌, ℕ, ◌≤◌, ◌↔◌, true, Bool, map, List, [], length, None, All}
 use Rattle.policy_lang.specs.declared.Block.{Block}
 use Rattle.policy_lang.specs.declared.Expr.{Expr}
 use Rattle.policy_lang.specs.declared.Policy.{Policy}
@@ -7,15 +7,24 @@ use Rattle.policy_lang.specs.Blocks.{statements_of}
 use Rattle.policy_lang.specs.Faults.{checked}
 use Rattle.policy_tokens.specs.Faults.{faults}
 use Rattle.policy_tokens.specs.Tokens.{tokens_of}
-use Rattle.policy_grammar.specs.Grammar.{IsPhrase, AreStatements, file_tokens}
+use Rattle.policy_grammar.specs.Grammar.{Phrase, IsPhrase, AreStatements, file_tokens}
 use Rattle.policy_limits.specs.Limits.{first_limit}
-use Rattle.policy_tree.specs.Trees.{AreTrees}
+use Rattle.policy_tree.specs.Trees.{IsExpr, AreTrees}
 use Rattle.policy_print.specs.Printed.{level_of, policy_text}
-use Rattle.written_form.specs.Written.{phrase_of, written_block, file_of, sound_block, is_sound}
+use Rattle.written_form.specs.Parentheses.{groups_of, dropped}
+use Rattle.written_form.specs.Written.{in_group, phrase_of, written_block, file_of, sound_block, is_sound}
 
--- the grammar has an expression at a place of this least level without parentheses exactly where its level is high enough: so each pair of parentheses that the printed form has must stand, and none is missing
+-- the grammar has an expression at a place of this least level without parentheses exactly where its level is high enough: so no pair of parentheses is missing
 abbrev pub ParenthesesMustStand : Type 0
 ParenthesesMustStand = (e : Expr) (least : ℕ) → least ≤ 5 → IsPhrase least (phrase_of e) ↔ (least ≤ level_of e)
+
+-- with any pair of its parentheses dropped the grammar does not have what is written of an expression at a place of this least level
+abbrev pub NoneCanBeDropped : Type 0
+NoneCanBeDropped = (e : Expr) (least : ℕ) → least ≤ 5 → All (λ a. ¬ (IsPhrase least a)) (dropped (in_group least (level_of e) (phrase_of e)))
+
+-- and nothing that the grammar has there, and whose tree is the expression, has fewer pairs
+abbrev pub FewestParentheses : Type 0
+FewestParentheses = (a : Phrase) (e : Expr) (least : ℕ) → least ≤ 5 → IsPhrase least a → IsExpr a e → groups_of (in_group least (level_of e) (phrase_of e)) ≤ groups_of a
 
 -- the grammar has what is written
 abbrev pub IsOfGrammar : Type 0

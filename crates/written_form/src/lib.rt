@@ -4,12 +4,15 @@
 #[cfg(test)]
 mod tests;
 
-ghost use Rattle.written_form.specs.Laws.{ParenthesesMustStand, IsOfGrammar, IsTree, NoneIsPassed, SpelledAsWritten};
+ghost use Rattle.written_form.specs.Laws.{ParenthesesMustStand, NoneCanBeDropped, FewestParentheses, IsOfGrammar, IsTree, NoneIsPassed, SpelledAsWritten};
 
-/// What is written in the printed form is of the grammar, its syntax tree is the one that is
-/// printed, and parentheses stand exactly where they must.
+/// What is written in the printed form is of the grammar, and its syntax tree is the one that is
+/// printed. Parentheses stand exactly where they must: with any pair dropped it is not of the
+/// grammar, and nothing with fewer pairs has this tree.
 pub fn grammar_law()
     ensures parentheses { ParenthesesMustStand }
+    ensures dropped { NoneCanBeDropped }
+    ensures fewest { FewestParentheses }
     ensures grammar { IsOfGrammar }
     ensures tree { IsTree }
 {}
