@@ -1,3 +1,4 @@
+pub mod Heads
 pub mod Numbers
 pub mod Own
 pub mod Standing

@@ -1,4 +1,4 @@
--- The place that is told of the name of each head is that of the head's own.
+-- The first name behind each head that binds one is the head's own.
 use Rattle.std.proofs.Common.{◌≡◌, ℕ, ◌+◌, ◌<◌, ◌≤◌, Bool, true, false, List, [], ◌∷◌, ◌++◌, length, map, refl, sym, ap, ◌∙◌, subst, arith, append_assoc, append-nil, length-append}
 use Rattle.std.specs.Prelude.{All, if◌then◌else◌}
 use Rattle.std.proofs.lemmas.Bool.{lt-ltb, le-ltb, false≢true}
@@ -12,7 +12,7 @@ use Rattle.policy_grammar.specs.declared.operator.Operator.{Operator}
 use Rattle.policy_grammar.specs.declared.operator.Operator.TheVariants.{Or, And, Equal, NotEqual, Less, LessEqual, Plus, Minus}
 use Rattle.policy_grammar.specs.Grammar.{Callee, Up, At, Phrase, Single, Call, Group, Negation, Test, Pair, callee_token, operator_token, phrase_tokens, left_level, right_level, is_single, IsPhrase, Question, Host, Hop, Lookup, Holds, question_tokens, IsQuestion, Action, Drop, Flood, Out, Route, Let, Assign, more_tokens, action_tokens, IsAction, in_braces, if_tokens, while_tokens, Statements, Nothing, Plain, If, IfElse, While, statements_tokens, AreStatements, File, tables_tokens, learning_tokens, file_tokens}
 use Rattle.policy_places.specs.Places.{phrase_length, question_length, statements_length, if_length, body_first, is_as, bound_names, name_behind}
-use Rattle.place_laws.specs.Laws.{Binding, binding_at, question_bindings, statements_bindings, file_bindings, EachHasItsOwn}
+use Rattle.place_laws.specs.Laws.{Binding, binding_at, question_bindings, statements_bindings, file_bindings}
 
 -- ---- heads in the order of the text
 
@@ -254,8 +254,8 @@ file_binds f h =
     binds_both (binds_none 0 (tables_quiet f.tables)) (binds_past refl (binds_both (binds_none (tables + 1) (learning_quiet f.learning))
     (block_binds (binds_from e (statements_binds f.body (body_first f) h)))))
 
-pub each_has_its_own : EachHasItsOwn
-each_has_its_own f h =
+pub next_is_own : (f : File) → AreStatements f.body → map (λ b. name_behind b.first (bound_names 0 (file_tokens f))) (file_bindings f) ≡ map (λ b. b.last) (file_bindings f)
+next_is_own f h =
     let bs = file_bindings f in
     let b = file_binds f h in
     let names : bound_names 0 (file_tokens f) ≡ names_of bs =

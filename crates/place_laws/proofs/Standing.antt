@@ -53,9 +53,9 @@ stands_in_braces e x = stands_past (sign mark.OpenBrace ∷ []) e (stands_no_mor
 
 -- ---- heads
 
-behind_all : (ts us : List Token) (t : Token) → slice_get (ts ++ t ∷ us) (length ts) ≡ Some t
-behind_all [] us t = refl
-behind_all (u ∷ ts) us t = behind_all ts us t
+pub behind_all : {A : Type 0} (xs ys : List A) (x : A) → slice_get (xs ++ x ∷ ys) (length xs) ≡ Some x
+behind_all [] ys x = refl
+behind_all (y ∷ xs) ys x = behind_all xs ys x
 
 -- a name behind these tokens
 stands_at : (ahead : List Token) (x : List ℕ) (i inside : ℕ) → length ahead ≡ 4 + inside → Stands i (ahead ++ name x ∷ []) (binding_at i inside x)

@@ -1,14 +1,14 @@
--- What holds of the places of nodes and names. Nodes have the same numbers in a text and in its tree. The place that is told of a name that a head binds, that of the name behind the next `as`, is that of the head's own.
+-- What holds of the places of nodes and names. A text has as many places as its tree has nodes. The place that is told of a name that a head binds, that of the name behind the next `as`, is that of the head's own.
 use Rattle.std.specs.Prelude.{◌≡◌, ℕ, ◌+◌, List, [], ◌∷◌, ◌++◌, length, map, Some}
 use Rattle.std.specs.List.{slice_get}
 use Rattle.policy_lang.specs.declared.Block.{Block}
 use Rattle.policy_lang.specs.declared.Expr.{Expr}
 use Rattle.policy_lang.specs.Blocks.{statements_of}
-use Rattle.policy_lang.specs.Faults.{size_of, checked}
+use Rattle.policy_lang.specs.Faults.{AtBound, size_of, checked}
 use Rattle.policy_tokens.specs.declared.token.Token.TheVariants.{Name as name}
 use Rattle.policy_grammar.specs.Grammar.{Phrase, Question, Host, Hop, Lookup, Holds, Statements, Nothing, Plain, If, IfElse, While, action_tokens, AreStatements, File, file_tokens}
 use Rattle.policy_tree.specs.Trees.{IsExpr, AreTrees}
-use Rattle.policy_places.specs.Places.{phrase_length, phrase_places, statements_places, question_length, statements_length, if_length, body_first, places_of, name_behind}
+use Rattle.policy_places.specs.Places.{phrase_length, phrase_places, places_from, question_places, action_places, statements_places, question_length, statements_length, if_length, body_first, place_of}
 
 -- ---- nodes
 
@@ -16,7 +16,7 @@ use Rattle.policy_places.specs.Places.{phrase_length, phrase_places, statements_
 abbrev pub ExpressionsAgree : Type 0
 ExpressionsAgree = (a : Phrase) (e : Expr) (whole first : ℕ) → IsExpr a e → length (phrase_places whole first a) ≡ size_of e
 
--- and so have statements; so in each part of a text the nodes behind it have the numbers that they have in the tree
+-- and so have statements
 abbrev pub StatementsAgree : Type 0
 StatementsAgree = (ss : Statements) (b : Block) (first : ℕ) → AreTrees ss (statements_of b) → length (statements_places first ss) ≡ (checked b).size
 
@@ -53,9 +53,38 @@ statements_bindings i (While a body rest) =
 abbrev pub file_bindings : File → List Binding
 file_bindings f = statements_bindings (body_first f) f.body
 
--- the place that is told of the name of each head is that of the head's own name
+-- the numbers of the nodes of these heads, in the same order: a head that binds a name is a node of this number
+abbrev pub question_numbers : ℕ → Question → List ℕ
+question_numbers n (Host a x) = n ∷ []
+question_numbers n (Hop a x) = n ∷ []
+question_numbers n (Lookup t a x) = n ∷ []
+question_numbers n (Holds a) = []
+
+-- of statements whose first node and whose first token have these numbers
+abbrev pub statements_numbers : ℕ → ℕ → Statements → List ℕ
+statements_numbers n i Nothing = []
+statements_numbers n i (Plain s rest) = statements_numbers (n + length (action_places i s)) (i + length (action_tokens s)) rest
+statements_numbers n i (If q first rest) =
+    let inner = n + 1 + length (question_places (i + 1) q) in
+    let next = inner + length (statements_places (i + 2 + question_length q) first) in
+    question_numbers (n + 1) q ++ (statements_numbers inner (i + 2 + question_length q) first ++ statements_numbers next (i + if_length q first) rest)
+statements_numbers n i (IfElse q first second rest) =
+    let inner = n + 1 + length (question_places (i + 1) q) in
+    let other = inner + length (statements_places (i + 2 + question_length q) first) in
+    let next = other + length (statements_places (i + if_length q first + 2) second) in
+    question_numbers (n + 1) q ++ (statements_numbers inner (i + 2 + question_length q) first
+    ++ (statements_numbers other (i + if_length q first + 2) second ++ statements_numbers next (i + if_length q first + 3 + statements_length second) rest))
+statements_numbers n i (While a body rest) =
+    let inner = n + 1 + length (places_from (i + 1) a) in
+    let next = inner + length (statements_places (i + 2 + phrase_length a) body) in
+    statements_numbers inner (i + 2 + phrase_length a) body ++ statements_numbers next (i + 3 + phrase_length a + statements_length body) rest
+
+abbrev pub file_numbers : File → List ℕ
+file_numbers f = statements_numbers 1 (body_first f) f.body
+
+-- the place that is told of the name that the head of a node binds is that of the head's own name, whatever the site's second number
 abbrev pub EachHasItsOwn : Type 0
-EachHasItsOwn = (f : File) → AreStatements f.body → map (λ b. name_behind b.first (places_of f).bound) (file_bindings f) ≡ map (λ b. b.last) (file_bindings f)
+EachHasItsOwn = (f : File) (last : ℕ → ℕ) → AreStatements f.body → map (λ n. place_of f (AtBound n (last n))) (file_numbers f) ≡ map (λ b. b.last) (file_bindings f)
 
 -- where that name stands
 abbrev pub NamesStandThere : Type 0

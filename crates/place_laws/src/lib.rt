@@ -6,8 +6,8 @@ mod tests;
 
 ghost use Rattle.place_laws.specs.Laws.{ExpressionsAgree, StatementsAgree, EachHasItsOwn, NamesStandThere};
 
-/// Each part of a text has as many places as its tree has nodes, so the numbers by which a fault is
-/// told of the tree are those of the text.
+/// Each expression, and all statements of a block, have as many places in a text as their tree has
+/// nodes.
 pub fn number_laws()
     ensures expressions { ExpressionsAgree }
     ensures statements { StatementsAgree }

@@ -13,8 +13,8 @@ fn name_of(alloc: Global, text: &[u8], node: u32) -> Option<u64> {
     Some(places.place(Site::AtBound(node, node)))
 }
 
-// Heads in blocks and in an `else`, one whose expression has parentheses, and one that binds nothing
-// ahead of one that does.
+// Heads in blocks, in an `else` and in a loop, one whose expression has parentheses, and one that
+// binds nothing ahead of one that does.
 #[test]
 fn own_names(rt: HostRuntime) -> Result<(), Fail> {
     let alloc = rt.alloc();

@@ -1,4 +1,4 @@
-use Rattle.place_laws.proofs.Own.{each_has_its_own}
+use Rattle.place_laws.proofs.Heads.{each_has_its_own}
 use Rattle.place_laws.proofs.Standing.{names_stand_there}
 use Rattle.place_laws.proofs.binding_laws.Goals as goal
 
