@@ -1,5 +1,5 @@
 -- What is read of a policy's printed form is the same policy.
-use Rattle.std.proofs.Common.{◌≡◌, ℕ, ◌≤◌, List, [], ◌∷◌, ◌++◌, length, Result, Ok, Err, IfOk, OnOk, sym, ap, ◌∙◌, ⊎_elim}
+use Rattle.std.proofs.Common.{◌≡◌, ℕ, ◌≤◌, List, [], ◌∷◌, ◌++◌, length, Result, Ok, Err, IfOk, OnOk, IfErr, sym, ap, ◌∙◌, ⊎_elim}
 use Rattle.std.specs.Prelude.{Bool, if◌then◌else◌, codes}
 use Rattle.std.specs.List.{flat_map, filter_map}
 use Rattle.std.proofs.lemmas.Bool.{lt-ltb, cases_lt}
@@ -9,9 +9,10 @@ use Rattle.policy_tokens.specs.Faults.{fault_at, strange_bytes, too_long, lexeme
 use Rattle.policy_tokens.specs.Lexemes.{lexemes_of}
 use Rattle.policy_print.specs.Printed.{◌&◌, table_text, opening, Lines, block_text, policy_text}
 use Rattle.policy_text.specs.declared.reading.ReadError.{ReadError}
-use Rattle.policy_text.specs.Texts.{IsTextOf}
+use Rattle.policy_text.specs.declared.reading.ReadError.TheVariants.{Refused, NoMemory}
+use Rattle.policy_text.specs.Texts.{IsTextOf, IsRefused}
 use Rattle.policy_text.proofs.OneText.{one_of, one_head, one_ending, one_reading, one_course, one_plainness, one_basis}
-use Rattle.read_back.specs.Laws.{IsReadBack, IsSame}
+use Rattle.read_back.specs.Laws.{IsReadBack, IsSame, IsTooLong, OneForm}
 use Rattle.read_back.proofs.AlikePrinted.{texts_alike}
 use Rattle.read_back.proofs.ReadBack.{none_ahead, none_behind}
 
@@ -25,11 +26,12 @@ short text h =
     (λ le. le)
     (cases_lt 65536 (length text))
 
--- two texts of one form
-forms_alike : (p q : Policy) → p.tables ≡ q.tables → p.learning ≡ q.learning → block_text p.body ≡ block_text q.body → policy_text p ≡ policy_text q
-forms_alike p q tables learning body =
-    ap (λ ts. flat_map table_text ts & opening p.learning & block_text p.body 1 & codes "}\n") tables
-    ∙ ap (λ l. flat_map table_text q.tables & opening l & block_text p.body 1 & codes "}\n") learning
+pub one_form : OneForm
+one_form text p q h k =
+    let head = one_head text p q h k in
+    let body = one_of block_text texts_alike text p q h k in
+    ap (λ ts. flat_map table_text ts & opening p.learning & block_text p.body 1 & codes "}\n") head.0
+    ∙ ap (λ l. flat_map table_text q.tables & opening l & block_text p.body 1 & codes "}\n") head.1
     ∙ ap (λ (f : Lines). flat_map table_text q.tables & opening q.learning & f 1 & codes "}\n") body
 
 same_read : (p q : Policy) → IsReadBack p → IsTextOf q (policy_text p) → IsSame p q
@@ -45,7 +47,7 @@ same_read p q back other =
       course = one_course text p q own other;
       plainness = one_plainness text p q own other;
       basis = one_basis text p q own other;
-      form = forms_alike p q head.0 head.1 (one_of block_text texts_alike text p q own other);
+      form = one_form text p q own other;
     }
 
 pub all_same : (p : Policy) (r : Result Policy ReadError) → IsReadBack p → IfOk r (λ q. IsTextOf q (policy_text p)) → IfOk r (λ q. IsSame p q)
@@ -55,3 +57,11 @@ all_same p (Err e) back read = tt
 pub all_short : (p : Policy) (r : Result Policy ReadError) → IfOk r (λ q. IsTextOf q (policy_text p)) → OnOk r (length (policy_text p) ≤ 65536)
 all_short p (Ok q) read = short (policy_text p) read.faultless
 all_short p (Err e) read = tt
+
+refused_for_length : (p : Policy) (e : ReadError) → IsReadBack p → IsRefused (policy_text p) e → IsTooLong p e
+refused_for_length p (Refused line column kind) back h = (⊎_elim (λ gt. gt) (λ le. absurd (h.0 p (back le))) (cases_lt 65536 (length (policy_text p))), h)
+refused_for_length p NoMemory back h = tt
+
+pub all_refused : (p : Policy) (r : Result Policy ReadError) → IsReadBack p → IfErr r (IsRefused (policy_text p)) → IfErr r (IsTooLong p)
+all_refused p (Ok q) back h = tt
+all_refused p (Err e) back h = refused_for_length p e back h

@@ -1,5 +1,5 @@
 -- What is printed of a policy is read back.
-use Rattle.std.specs.Prelude.{◌≡◌, ◌≤◌, ◌<◌, length}
+use Rattle.std.specs.Prelude.{◌≡◌, ℕ, ◌≤◌, ◌<◌, List, length}
 use Rattle.policy_lang.specs.declared.Policy.{Policy}
 use Rattle.policy_lang.specs.Courses.{block_course}
 use Rattle.policy_lang.specs.Evaluation.{block_ending}
@@ -7,7 +7,7 @@ use Rattle.policy_lang.specs.Plain.{is_plain}
 use Rattle.policy_lang.specs.Reads.{reads_of}
 use Rattle.policy_print.specs.Printed.{policy_text}
 use Rattle.policy_text.specs.Basic.{is_basic}
-use Rattle.policy_text.specs.Texts.{IsTextOf}
+use Rattle.policy_text.specs.Texts.{IsTextOf, IsRefused}
 use Rattle.policy_text.specs.declared.reading.ReadError.{ReadError}
 use Rattle.policy_text.specs.declared.reading.ReadError.TheVariants.{Refused, NoMemory}
 
@@ -15,7 +15,7 @@ use Rattle.policy_text.specs.declared.reading.ReadError.TheVariants.{Refused, No
 abbrev pub IsReadBack : Policy → Type 0
 IsReadBack p = length (policy_text p) ≤ 65536 → IsTextOf p (policy_text p)
 
--- two policies are the same in all that can be told of them but for the addresses of their boxes and vectors
+-- two policies mean the same and are printed the same; as values they may differ, by the addresses of their boxes and vectors
 pub record IsSame (p q : Policy) : Type 0 where
   pub tables : p.tables ≡ q.tables
   pub learning : p.learning ≡ q.learning
@@ -29,7 +29,11 @@ pub record IsSame (p q : Policy) : Type 0 where
   pub basis : is_basic p ≡ is_basic q
   pub form : policy_text p ≡ policy_text q
 
--- the printed form is refused for its length alone, or memory ran out
+-- two policies of one text have one printed form
+abbrev pub OneForm : Type 0
+OneForm = (text : List ℕ) (p q : Policy) → IsTextOf p text → IsTextOf q text → policy_text p ≡ policy_text q
+
+-- a printed form is refused for its length alone, as a text of its length is, or memory ran out
 abbrev pub IsTooLong : Policy → ReadError → Type 0
-IsTooLong p (Refused line column kind) = 65536 < length (policy_text p)
+IsTooLong p (Refused line column kind) = (65536 < length (policy_text p)) × IsRefused (policy_text p) (Refused line column kind)
 IsTooLong p NoMemory = Unit {0}

@@ -7,7 +7,8 @@ mod tests;
 
 ghost use Rattle.std.specs.Prelude.{◌≡◌, ◌≤◌, length, IfOk, OnOk, IfErr};
 ghost use Rattle.policy_print.specs.Printed.{policy_text};
-ghost use Rattle.read_back.specs.Laws.{IsReadBack, IsSame, IsTooLong};
+ghost use Rattle.policy_text.specs.Texts.{IsTextOf};
+ghost use Rattle.read_back.specs.Laws.{IsReadBack, IsSame, IsTooLong, OneForm};
 
 use maple_base::NoMemory;
 use policy_lang::Policy;
@@ -16,16 +17,21 @@ use policy_text::{ReadError, read_policy};
 use sound::{check_names, check_statements};
 use std::alloc::Global;
 
-/// The printed form of a policy, where it has at most 65,536 bytes, is a text of that policy:
-/// `policy_text::read_policy` gives a policy of the same tables, the same word `learning` and the
-/// same syntax tree. The call changes nothing: it goes over the tree once, so that its contract can
-/// speak of the numbers and names in it.
+/// The printed form of a policy, where it has at most 65,536 bytes, is a text of that policy: its
+/// tokens are those of a file of the same tables and the same word `learning`, whose syntax tree is
+/// the policy's. The call changes nothing: it goes over the tree once, so that its contract can speak
+/// of the numbers and names in it.
 pub fn reads_back(policy: &Policy)
     ensures { IsReadBack policy.now }
 {
     check_names(policy.tables().items());
     check_statements(policy.body().items());
 }
+
+/// Two policies of one text have one printed form.
+pub fn one_form()
+    ensures { OneForm }
+{}
 
 // The printed form of a policy.
 fn printed(alloc: Global, policy: &Policy) -> Result<Vec<u8>, NoMemory>
@@ -43,6 +49,7 @@ fn printed(alloc: Global, policy: &Policy) -> Result<Vec<u8>, NoMemory>
 /// A printed form of more than 65,536 bytes is refused. No other is, but for want of memory.
 pub fn reread(alloc: Global, policy: &Policy) -> Result<Policy, ReadError>
     ensures same { IfOk result (λ again. IsSame policy.now again) }
+    ensures text { IfOk result (λ again. IsTextOf again (policy_text policy.now)) }
     ensures short { OnOk result (length (policy_text policy.now) ≤ 65536) }
     ensures refused { IfErr result (λ error. IsTooLong policy.now error) }
 {
