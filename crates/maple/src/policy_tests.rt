@@ -70,7 +70,7 @@ fn refused_policies(rt: HostRuntime) -> Result<(), Fail> {
     Ok(())
 }
 
-// Policies that are right, but not of the basic language.
+// Policies that are right, but not of the basic language: `sim` refuses them, and `check` doesn't.
 #[test]
 fn later_policies(rt: HostRuntime) -> Result<(), Fail> {
     let alloc = rt.alloc();
@@ -85,7 +85,18 @@ fn later_policies(rt: HostRuntime) -> Result<(), Fail> {
         "policy learning { drop; }",
         "table t; policy { drop; }",
     ];
-    for policy in later {
+    let forms = [
+        "policy {\n  if pkt.tp_dst is 22 {\n    drop;\n  } else {\n    out 2;\n  }\n}\n",
+        "policy {\n  if pkt.tp_dst == 22 {\n    drop;\n  }\n}\n",
+        "policy {\n  out 1, 2;\n}\n",
+        "policy {\n  flood;\n}\n",
+        "policy {\n  let x = 1;\n  out x;\n}\n",
+        "policy {\n  route at(1, 2);\n}\n",
+        "policy {\n  while up(1, 2) {\n  }\n}\n",
+        "policy learning {\n  drop;\n}\n",
+        "table t;\npolicy {\n  drop;\n}\n",
+    ];
+    for (policy, form) in later.iter().zip(forms) {
         gives(
             &rt,
             alloc,
@@ -93,11 +104,12 @@ fn later_policies(rt: HostRuntime) -> Result<(), Fail> {
             Status::Policy,
             "refused policy 1:1 Later\n",
         )?;
+        answers(&rt, alloc, &["check"], policy, Status::Done, form)?;
     }
     Ok(())
 }
 
-// The printed forms of policies.
+// The printed forms of policies; and that each form is its own.
 #[test]
 fn checks(rt: HostRuntime) -> Result<(), Fail> {
     let alloc = rt.alloc();
@@ -114,15 +126,20 @@ fn checks(rt: HostRuntime) -> Result<(), Fail> {
             "table t;policy learning{if t[1]as x{out(x),1+(2+3);}else{flood;}}",
             "table t;\npolicy learning {\n  if t[1] as x {\n    out x, 1 + (2 + 3);\n  } else {\n    flood;\n  }\n}\n",
         ),
+        (
+            "policy{if host(pkt.dl_dst)as p{let q=p;q=at(p.switch,(p.port));route q;}if hop(pkt.switch)as n{out n;}}",
+            "policy {\n  if host(pkt.dl_dst) as p {\n    let q = p;\n    q = at(p.switch, p.port);\n    route q;\n  }\n  if hop(pkt.switch) as n {\n    out n;\n  }\n}\n",
+        ),
     ];
     for (input, output) in rows {
         answers(&rt, alloc, &["check"], input, Status::Done, output)?;
+        answers(&rt, alloc, &["check"], output, Status::Done, output)?;
     }
     Ok(())
 }
 
-// The printed form of one operator in another, on the left and on the right, where parentheses
-// stand as these tell; and that it is read back.
+// The printed form of one operator inside another, as its left and as its right part, with
+// parentheses where `left` and `right` tell; and that the form is its own.
 fn nests(
     rt: &impl Abort,
     alloc: Global,
@@ -144,22 +161,29 @@ fn nests(
     answers(rt, alloc, &["check"], &form, Status::Done, &form)
 }
 
+const COMPARISONS: [&str; 4] = ["==", "!=", "<", "<="];
+
 #[test]
-fn operators_in_operators(rt: HostRuntime) -> Result<(), Fail> {
+fn sums_in_operators(rt: HostRuntime) -> Result<(), Fail> {
     let alloc = rt.alloc();
-    let comparisons = ["==", "!=", "<", "<="];
     for outer in ["+", "-"] {
         for inner in ["+", "-"] {
             nests(&rt, alloc, [outer, inner], ["1", "2"], [false, true])?;
         }
     }
-    for outer in comparisons {
+    for outer in COMPARISONS {
         for inner in ["+", "-"] {
             nests(&rt, alloc, [outer, inner], ["1", "2"], [false, false])?;
         }
     }
+    Ok(())
+}
+
+#[test]
+fn operators_in_and_and_or(rt: HostRuntime) -> Result<(), Fail> {
+    let alloc = rt.alloc();
     for outer in ["and", "or"] {
-        for inner in comparisons {
+        for inner in COMPARISONS {
             nests(
                 &rt,
                 alloc,
@@ -193,13 +217,20 @@ fn operators_in_operators(rt: HostRuntime) -> Result<(), Fail> {
     Ok(())
 }
 
-// Of these expressions each is its own printed form, or has the form behind it.
+// Each expression has the printed form beside it, and that form is its own.
 #[test]
 fn negations_and_tests(rt: HostRuntime) -> Result<(), Fail> {
     let alloc = rt.alloc();
     let rows = [
         ("not not up(1, 2)", "not not up(1, 2)"),
         ("not (1 < 2)", "not 1 < 2"),
+        ("not (1 <= 2)", "not 1 <= 2"),
+        ("not (1 == 2)", "not 1 == 2"),
+        ("not (1 != 2)", "not 1 != 2"),
+        (
+            "(pkt.tp_dst is 1) or (pkt.tp_src is 2)",
+            "pkt.tp_dst is 1 or pkt.tp_src is 2",
+        ),
         ("not (up(1, 2) and up(3, 4))", "not (up(1, 2) and up(3, 4))"),
         ("not (up(1, 2) or up(3, 4))", "not (up(1, 2) or up(3, 4))"),
         (

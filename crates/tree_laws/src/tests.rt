@@ -1,19 +1,30 @@
+ghost use Rattle.std.specs.Prelude.{◌≤◌, IfSome, length};
+
 use policy_grammar::read_events;
 use policy_lang::{BuildError, Policy};
 use policy_limits::read_outline;
 use policy_tokens::read_tokens;
-use policy_tree::build;
+use policy_tree::{Parts, build};
 use std::alloc::Global;
 use std::test::Fail;
 
-/// What is wrong with the tree of a text, by node and kind; 0 and 0 where nothing is.
-fn fault_of(alloc: Global, text: &[u8]) -> Option<(u32, u8)> {
+// The tree of a text, whatever limits it passes, with at most 16 tables.
+fn parts_of(alloc: Global, text: &[u8]) -> Option<Parts>
+    ensures few { IfSome result (λ parts. length parts.tables.items ≤ 16) }
+{
     let tokens = read_tokens(alloc, text).ok()?;
     let reading = read_events(alloc, tokens.items()).ok()?;
     let parts = build(alloc, &reading.events).ok()??;
     if parts.tables.len() > 16 {
         return None;
     }
+    Some(parts)
+}
+
+// What is wrong with a tree, by node and kind; 0 and 0 where nothing is.
+fn fault_of(alloc: Global, parts: Parts) -> Option<(u32, u8)>
+    requires few { length parts.tables.items ≤ 16 }
+{
     match Policy::build(alloc, parts.tables, parts.learning, parts.body) {
         Ok(_) => Some((0, 0)),
         Err(BuildError::Fault { node, kind }) => Some((node, kind)),
@@ -21,13 +32,13 @@ fn fault_of(alloc: Global, text: &[u8]) -> Option<(u32, u8)> {
     }
 }
 
-/// Whether a text passes no limit, as its tokens are counted.
+// Whether a text passes no limit, as its tokens are counted.
 fn is_outlined(alloc: Global, text: &[u8]) -> Option<bool> {
     let tokens = read_tokens(alloc, text).ok()?;
     Some(read_outline(alloc, tokens.items()).is_ok())
 }
 
-/// A text with a part that is repeated.
+// A text with a part that is repeated.
 fn repeated(
     alloc: Global,
     ahead: &[u8],
@@ -44,7 +55,7 @@ fn repeated(
     Ok(text)
 }
 
-// A text passes a limit of its tokens exactly where its tree passes it.
+// Of these texts, each passes a limit of its tokens exactly where its tree passes it.
 #[test]
 fn limits(rt: HostRuntime) -> Result<(), Fail> {
     let alloc = rt.alloc();
@@ -63,12 +74,13 @@ fn limits(rt: HostRuntime) -> Result<(), Fail> {
     for (ahead, part, times, behind, fault) in rows {
         let text = repeated(alloc, ahead, part, times, behind)?;
         assert_eq!(rt; is_outlined(alloc, &text), Some(fault == (0, 0)));
-        assert_eq!(rt; fault_of(alloc, &text), Some(fault));
+        let parts = parts_of(alloc, &text).ok_or("no tree")?;
+        assert_eq!(rt; fault_of(alloc, parts), Some(fault));
     }
     Ok(())
 }
 
-// The same fault is found in both trees, which lie at places of their own.
+// Two trees of one text, both of which stand in memory, have the same first fault.
 #[test]
 fn alike(rt: HostRuntime) -> Result<(), Fail> {
     let alloc = rt.alloc();
@@ -79,8 +91,10 @@ fn alike(rt: HostRuntime) -> Result<(), Fail> {
         (b"policy learning { if host(1) as x { route x; } }", (0, 0)),
     ];
     for (text, fault) in rows {
-        assert_eq!(rt; fault_of(alloc, text), Some(fault));
-        assert_eq!(rt; fault_of(alloc, text), Some(fault));
+        let first = parts_of(alloc, text).ok_or("no tree")?;
+        let second = parts_of(alloc, text).ok_or("no second tree")?;
+        assert_eq!(rt; fault_of(alloc, first), Some(fault));
+        assert_eq!(rt; fault_of(alloc, second), Some(fault));
     }
     Ok(())
 }
