@@ -57,7 +57,7 @@ placed e least le h =
     (λ low. of_group least (phrase_of e) (λ held. omega (arith, within e least le held, ltb-true (level_of e) least low)) (h 0))
     (λ _. h least)
 
-needed : (e : Expr) (least : ℕ) → Needed least (phrase_of e)
+pub needed : (e : Expr) (least : ℕ) → Needed least (phrase_of e)
 needed (Number n) least = All-nil (Fails least)
 needed (Var x) least = All-nil (Fails least)
 needed (SwitchOf x) least = All-nil (Fails least)

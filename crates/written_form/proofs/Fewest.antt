@@ -67,7 +67,7 @@ abbrev HasParts : ℕ → ℕ → ℕ → (Expr → Type 0) → (Expr → Type 0
 HasParts level left right A B e = (l : Expr) × (r : Expr) × (level_of e ≡ level) × (own e ≡ pairs left l + pairs right r) × A l × B r
 
 -- nothing is below the level 0
-at_least_0 : (e : Expr) → own e ≡ pairs 0 e
+pub at_least_0 : (e : Expr) → own e ≡ pairs 0 e
 at_least_0 e = omega (arith, as_it_is 0 e (omega arith))
 
 call_has : (c : Callee) (A B : Expr → Type 0) (e : Expr) → Both A B (call_parts c e) → HasParts 5 0 0 A B e

@@ -1,5 +1,7 @@
 pub mod Dropped
+pub mod DroppedBlocks
 pub mod Fewest
+pub mod FewestBlocks
 pub mod Levels
 pub mod Numbers
 pub mod Pieces

@@ -7,11 +7,11 @@ use Rattle.policy_lang.specs.Blocks.{statements_of}
 use Rattle.policy_lang.specs.Faults.{checked}
 use Rattle.policy_tokens.specs.Faults.{faults}
 use Rattle.policy_tokens.specs.Tokens.{tokens_of}
-use Rattle.policy_grammar.specs.Grammar.{Phrase, IsPhrase, AreStatements, file_tokens}
+use Rattle.policy_grammar.specs.Grammar.{Phrase, Statements, IsPhrase, AreStatements, file_tokens}
 use Rattle.policy_limits.specs.Limits.{first_limit}
 use Rattle.policy_tree.specs.Trees.{IsExpr, AreTrees}
 use Rattle.policy_print.specs.Printed.{level_of, policy_text}
-use Rattle.written_form.specs.Parentheses.{groups_of, dropped}
+use Rattle.written_form.specs.Parentheses.{groups_of, dropped, groups_in, dropped_in}
 use Rattle.written_form.specs.Written.{in_group, phrase_of, written_block, file_of, sound_block, is_sound}
 
 -- the grammar has an expression at a place of this least level without parentheses exactly where its level is high enough: so no pair of parentheses is missing
@@ -25,6 +25,14 @@ NoneCanBeDropped = (e : Expr) (least : ℕ) → least ≤ 5 → All (λ a. ¬ (I
 -- and nothing that the grammar has there, and whose tree is the expression, has fewer pairs
 abbrev pub FewestParentheses : Type 0
 FewestParentheses = (a : Phrase) (e : Expr) (least : ℕ) → least ≤ 5 → IsPhrase least a → IsExpr a e → groups_of (in_group least (level_of e) (phrase_of e)) ≤ groups_of a
+
+-- the same of a block: with any pair dropped the grammar does not have what is written of it
+abbrev pub NoneOfABlock : Type 0
+NoneOfABlock = (b : Block) → All (λ ss. ¬ (AreStatements ss)) (dropped_in (written_block b))
+
+-- and none of the grammar's statements whose tree is the block have fewer pairs
+abbrev pub FewestOfABlock : Type 0
+FewestOfABlock = (ss : Statements) (b : Block) → AreStatements ss → AreTrees ss (statements_of b) → groups_in (written_block b) ≤ groups_in ss
 
 -- the grammar has what is written
 abbrev pub IsOfGrammar : Type 0

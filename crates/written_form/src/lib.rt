@@ -4,7 +4,7 @@
 #[cfg(test)]
 mod tests;
 
-ghost use Rattle.written_form.specs.Laws.{ParenthesesMustStand, NoneCanBeDropped, FewestParentheses, IsOfGrammar, IsTree, NoneIsPassed, SpelledAsWritten};
+ghost use Rattle.written_form.specs.Laws.{ParenthesesMustStand, NoneCanBeDropped, FewestParentheses, NoneOfABlock, FewestOfABlock, IsOfGrammar, IsTree, NoneIsPassed, SpelledAsWritten};
 
 /// What is written in the printed form is of the grammar, and its syntax tree is the one that is
 /// printed. Parentheses stand exactly where they must: with any pair dropped it is not of the
@@ -13,6 +13,8 @@ pub fn grammar_law()
     ensures parentheses { ParenthesesMustStand }
     ensures dropped { NoneCanBeDropped }
     ensures fewest { FewestParentheses }
+    ensures block_dropped { NoneOfABlock }
+    ensures block_fewest { FewestOfABlock }
     ensures grammar { IsOfGrammar }
     ensures tree { IsTree }
 {}
