@@ -19,12 +19,14 @@ pub fn grammar_law()
     ensures tree { IsTree }
 {}
 
-/// What is written in the printed form passes no limit where the tree passes none.
+/// What is written in the printed form passes no limit where the tree passes none and the tables are
+/// at most 16.
 pub fn limit_law()
     ensures { NoneIsPassed }
 {}
 
-/// The tokens of the printed form are those of what is written.
+/// Where the printed form has at most 65,536 bytes, nothing is wrong with its bytes, words and signs,
+/// and its tokens are those of what is written.
 pub fn spelling_law()
     ensures { SpelledAsWritten }
 {}
