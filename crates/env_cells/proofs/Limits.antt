@@ -1,5 +1,5 @@
 -- An accepted update keeps an environment within its limits.
-use Rattle.std.proofs.Common.{◌≡◌, ℕ, ◌+◌, ◌-◌, ◌<◌, ◌≤◌, Bool, true, false, cond, Option, Some, None, Result, Ok, Err, List, [], ◌∷◌, sym, ap, subst, ◌∙◌, refl, arith}
+use Rattle.std.proofs.Common.{◌≡◌, ℕ, ◌+◌, ◌-◌, ◌≤◌, Bool, true, false, cond, Option, Some, None, Ok, Err, List, [], ◌∷◌, sym, ap, subst, ◌∙◌, refl, arith}
 use Rattle.std.specs.Prelude.{is_some, unwrap_or, nat_lt, ◌||◌}
 use Rattle.std.specs.declared.cmp.Ordering.{Ordering}
 use Rattle.std.specs.declared.cmp.Ordering.TheVariants.{Less, Equal, Greater}
@@ -10,10 +10,8 @@ use Rattle.std.specs.FinMap as map
 use Rattle.std.specs.FinSet as set
 use Rattle.std.proofs.lemmas.Bool.Decides.{nat_tests}
 use Rattle.maple_base.specs.declared.cells.Place.{Place}
-use Rattle.maple_base.specs.declared.cells.Port.{Port}
-use Rattle.env_cells.specs.declared.updates.UpdateRefused.{UpdateRefused}
-use Rattle.env_cells.specs.declared.updates.UpdateRefused.TheVariants.{Full}
-use Rattle.env_cells.specs.Environment.{Environment, PortSet, Table, place_cmp, name_cmp, nothing_known, knows, ports_in, is_port}
+use Rattle.maple_base.specs.declared.update_refused.UpdateRefused.TheVariants.{Full}
+use Rattle.env_cells.specs.Environment.{Environment, PortSet, NumberTable, place_cmp, name_cmp, nothing_known, knows, ports_in}
 use Rattle.env_cells.specs.Named.{numbers_in, tables_named}
 use Rattle.env_cells.specs.Refusals.{full}
 use Rattle.env_cells.specs.Limits.{IsPlaceOf, IsWithinLimits}
@@ -76,8 +74,8 @@ none_known = record {
   ports = λ switch ports is. let none = map.get-empty {X = PortSet} nat_cmp switch in cc;
   hosts = omega (arith, map.len-empty nat_cmp Place);
   links = omega (arith, map.len-empty place_cmp Place);
-  tables = omega (arith, map.len-empty name_cmp Table);
-  numbers = λ name numbers is. let none = map.get-empty {X = Table} name_cmp name in cc;
+  tables = omega (arith, map.len-empty name_cmp NumberTable);
+  numbers = λ name numbers is. let none = map.get-empty {X = NumberTable} name_cmp name in cc;
   starts = λ from to is. let none = map.get-empty {X = Place} place_cmp from in cc;
   ends = λ from to is. let none = map.get-empty {X = Place} place_cmp from in cc;
 }
@@ -153,10 +151,10 @@ module _ (e : Environment) (within : IsWithinLimits e) where
       (removed place_cmp_total (λ p q. IsPlaceOf e p) e.links from within.starts)
       (removed place_cmp_total (λ p q. IsPlaceOf e q) e.links from within.ends)
 
-  kept_tables : (tables : map.FinMap name_cmp Table) (place : Place) → IsPlaceOf e place → IsPlaceOf (record e { tables = tables }) place
+  kept_tables : (tables : map.FinMap name_cmp NumberTable) (place : Place) → IsPlaceOf e place → IsPlaceOf (record e { tables = tables }) place
   kept_tables tables place is = record { switch = is.switch; port = is.port }
 
-  limits_tables : (tables : map.FinMap name_cmp Table) → map.len tables ≤ 16 → ((name : List ℕ) (numbers : Table) → map.get tables name ≡ Some numbers → map.len numbers ≤ 65536) → IsWithinLimits (record e { tables = tables })
+  limits_tables : (tables : map.FinMap name_cmp NumberTable) → map.len tables ≤ 16 → ((name : List ℕ) (numbers : NumberTable) → map.get tables name ≡ Some numbers → map.len numbers ≤ 65536) → IsWithinLimits (record e { tables = tables })
   limits_tables tables few small = record {
     switches = within.switches;
     ports = within.ports;
@@ -168,7 +166,7 @@ module _ (e : Environment) (within : IsWithinLimits e) where
     ends = λ from to is. kept_tables tables to (within.ends from to is);
   }
 
-  pub limits_numbers : (name : List ℕ) (numbers : Table) → map.contains_key e.tables name ≡ true → map.len numbers ≤ 65536 → IsWithinLimits (record e { tables = map.insert e.tables name numbers })
+  pub limits_numbers : (name : List ℕ) (numbers : NumberTable) → map.contains_key e.tables name ≡ true → map.len numbers ≤ 65536 → IsWithinLimits (record e { tables = map.insert e.tables name numbers })
   limits_numbers name numbers declared small =
       limits_tables (map.insert e.tables name numbers) (len_replaced nat_list_cmp_total e.tables name numbers 16 declared within.tables)
       (inserted nat_list_cmp_total (λ q ns. map.len ns ≤ 65536) e.tables name numbers (λ q tied. small) within.numbers)
@@ -176,7 +174,7 @@ module _ (e : Environment) (within : IsWithinLimits e) where
   pub few_numbers : (name : List ℕ) → map.len (numbers_in e.tables name) ≤ 65536
   few_numbers name = go (map.get e.tables name) refl
     where
-      go : (x : Option Table) → map.get e.tables name ≡ x → map.len (unwrap_or x map.empty) ≤ 65536
+      go : (x : Option NumberTable) → map.get e.tables name ≡ x → map.len (unwrap_or x map.empty) ≤ 65536
       go None is = omega (arith, map.len-empty nat_cmp ℕ)
       go (Some ns) is = within.numbers name ns is
 
@@ -185,8 +183,8 @@ module _ (e : Environment) (within : IsWithinLimits e) where
       limits_numbers name (map.remove (numbers_in e.tables name) key) declared (len_removed nat_cmp_total (numbers_in e.tables name) key 65536 (few_numbers name))
 
   -- each declared table has the numbers of one that was there, or none
-  small_named : (names : List (List ℕ)) (name : List ℕ) (numbers : Table) → map.get (tables_named e.tables names) name ≡ Some numbers → map.len numbers ≤ 65536
-  small_named [] name numbers is = let none = map.get-empty {X = Table} name_cmp name in cc
+  small_named : (names : List (List ℕ)) (name : List ℕ) (numbers : NumberTable) → map.get (tables_named e.tables names) name ≡ Some numbers → map.len numbers ≤ 65536
+  small_named [] name numbers is = let none = map.get-empty {X = NumberTable} name_cmp name in cc
   small_named (n ∷ names) name numbers is =
       inserted nat_list_cmp_total (λ q ns. map.len ns ≤ 65536) (tables_named e.tables names) n (numbers_in e.tables n) (λ q tied. few_numbers n) (small_named names) name numbers is
 
@@ -202,7 +200,7 @@ module _ (e : Environment) (within : IsWithinLimits e) where
       go false rest = rest
 
   len_named : (names : List (List ℕ)) → map.len (tables_named e.tables names) ≡ set.len (set.from_list {R = name_cmp} names)
-  len_named [] = map.len-empty name_cmp Table ∙ sym (set.len-empty name_cmp)
+  len_named [] = map.len-empty name_cmp NumberTable ∙ sym (set.len-empty name_cmp)
   len_named (n ∷ names) =
       map.len-insert nat_list_cmp_total (tables_named e.tables names) n (numbers_in e.tables n)
       ∙ (λ i. cond (there_as names n i) (len_named names i) (len_named names i + 1)) ∙ sym (set.len-insert nat_list_cmp_total (set.from_list names) n)

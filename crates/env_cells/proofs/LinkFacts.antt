@@ -1,19 +1,19 @@
 -- What holds of the list of links of an environment.
-use Rattle.std.proofs.Common.{◌≡◌, ◌≢◌, ℕ, zero, suc, ◌+◌, ◌<◌, ◌≤◌, Bool, true, false, cond, Some, None, List, [], ◌∷◌, length, get_or, sym, ap, subst, ◌∙◌, refl, arith}
-use Rattle.std.specs.Prelude.{T, All, Contains, ◌||◌, ◌&&◌, is_some, IsTrue}
+use Rattle.std.proofs.Common.{◌≡◌, ◌≢◌, ℕ, zero, suc, ◌<◌, ◌≤◌, Bool, true, false, cond, Some, List, [], ◌∷◌, length, get_or, sym, ap, ◌∙◌, refl, arith}
+use Rattle.std.specs.Prelude.{All, Contains, ◌||◌, ◌&&◌}
 use Rattle.std.specs.declared.cmp.Ordering.{Ordering}
 use Rattle.std.specs.declared.cmp.Ordering.TheVariants.{Less, Equal, Greater}
-use Rattle.std.specs.Ordering.{eq_by_cmp, is_eq, is_lt, nat_cmp, ordering_reverse}
-use Rattle.std.specs.Cmp.{IsTotalOrder, nat_cmp_total, tied_itself}
+use Rattle.std.specs.Ordering.{eq_by_cmp, is_eq, nat_cmp, ordering_reverse}
+use Rattle.std.specs.Cmp.{IsTotalOrder, tied_itself}
 use Rattle.std.specs.List.{list_any}
 use Rattle.std.specs.FinMap as map
 use Rattle.std.specs.FinMap.{nat_cmp-IsAntisymmetric}
 use Rattle.std.specs.FinMap.Entries.{find, is_sorted, below_all}
 use Rattle.std.proofs.lemmas.List.{length-map}
 use Rattle.maple_base.specs.declared.cells.Place.{Place}
-use Rattle.env_cells.specs.Environment.{Environment, PortSet, place_cmp, knows, is_port}
-use Rattle.env_cells.specs.Limits.{IsPlaceOf, IsWithinLimits}
-use Rattle.env_cells.specs.Lists.{StartApart, IsBetweenPorts, IsKnown, IsAmong, NamesFewSwitches}
+use Rattle.env_cells.specs.Environment.{Environment, PortSet, knows}
+use Rattle.env_cells.specs.Limits.{IsWithinLimits}
+use Rattle.env_cells.specs.Lists.{StartApart, IsBetweenPorts, IsKnown, NamesFewSwitches}
 use Rattle.env_cells.proofs.Places.{truth, rises}
 use Rattle.env_cells.proofs.PlaceOrder.{place_cmp_total}
 

@@ -1,5 +1,5 @@
 -- The finite map of a list of entries, against what a tree says of the list.
-use Rattle.std.proofs.Common.{◌≡◌, ℕ, Bool, true, false, cond, Option, Some, None, Result, Ok, Err, OnErr, List, [], ◌∷◌, length, sym, ap, ◌∙◌, subst, refl}
+use Rattle.std.proofs.Common.{◌≡◌, ℕ, true, false, cond, Some, None, Result, Ok, Err, OnErr, List, [], ◌∷◌, length, sym, ap, ◌∙◌, subst, refl}
 use Rattle.std.specs.Prelude.{T, ◌&&◌, is_some, IsSome, unwrap_or}
 use Rattle.std.specs.declared.cmp.Ordering.{Ordering}
 use Rattle.std.specs.declared.cmp.Ordering.TheVariants.{Less, Equal, Greater}

@@ -2,10 +2,9 @@
 use Rattle.std.proofs.Common.{◌≡◌, ℕ, ◌+◌, Bool, true, false, cond, List, [], ◌∷◌, ◌++◌, length, sym, ap, ◌∙◌, refl, add-one, arith, get_or, take}
 use Rattle.std.specs.Prelude.{◌&&◌, ◌||◌, not, ◌<◌}
 use Rattle.std.proofs.lemmas.Bool.Decides.{nat_tests}
-use Rattle.std.specs.declared.cmp.Ordering.{Ordering}
 use Rattle.std.specs.declared.cmp.Ordering.TheVariants.{Less, Equal, Greater}
 use Rattle.std.specs.Ordering.{eq_by_cmp, is_eq, nat_cmp, match_ordering}
-use Rattle.std.specs.Cmp.{IsTotalOrder, eq_by_cmp_equiv, nat_cmp_total}
+use Rattle.std.specs.Cmp.{eq_by_cmp_equiv, nat_cmp_total}
 use Rattle.std.specs.List.{AllByRecursion, list_any, list_all}
 use Rattle.std.specs.List.Sorted.{IsStrictlySortedBy}
 use Rattle.std.specs.Set.{remove_key}
@@ -18,7 +17,7 @@ use Rattle.std.specs.Prelude.{filter, map}
 use Rattle.std.proofs.lemmas.List.{map-append, append-nil, take_more}
 use Rattle.std.proofs.lemmas.List.Elements.{filter-append}
 use Rattle.maple_base.specs.declared.cells.Port.{Port}
-use Rattle.env_cells.specs.Environment.{is_port}
+use Rattle.maple_base.specs.Ports.{is_port}
 use Rattle.env_cells.specs.Listed.{is_listed_up, listed_up}
 
 or_cond : (b c : Bool) → cond b true c ≡ (b || c)

@@ -4,7 +4,7 @@ use Rattle.std.specs.FinMap as map
 use Rattle.std.specs.FinSet as set
 use Rattle.env_cells.specs.declared.updates.Update.{Update}
 use Rattle.env_cells.specs.declared.updates.Update.TheVariants.{Switch, Port as PortState, Host, NoHost, Link, NoLink, Set, Unset, Tables}
-use Rattle.env_cells.specs.Environment.{Environment, PortSet, Table, ports_in}
+use Rattle.env_cells.specs.Environment.{Environment, PortSet, NumberTable, ports_in}
 use Rattle.env_cells.specs.Named.{numbers_in, tables_named}
 use Rattle.env_cells.specs.Listed.{listed_up}
 
@@ -13,7 +13,7 @@ abbrev pub with_ports : Environment → ℕ → PortSet → Environment
 with_ports e switch ports = record e { switches = map.insert e.switches switch ports }
 
 -- a table has these numbers and no others
-abbrev pub with_numbers : Environment → List ℕ → Table → Environment
+abbrev pub with_numbers : Environment → List ℕ → NumberTable → Environment
 with_numbers e name numbers = record e { tables = map.insert e.tables name numbers }
 
 abbrev pub applied : Environment → Update → Environment

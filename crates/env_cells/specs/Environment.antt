@@ -1,5 +1,5 @@
 -- What is known of a network, as finite maps.
-use Rattle.std.specs.Prelude.{ℕ, Bool, ◌&&◌, nat_le, unwrap_or, List, refl}
+use Rattle.std.specs.Prelude.{ℕ, Bool, unwrap_or, List, refl}
 use Rattle.std.specs.Coded.{Coded, code_by, coded×, coded_ℕ, coded_list}
 use Rattle.std.specs.declared.cmp.Ordering.{Ordering}
 use Rattle.std.specs.Ordering.{nat_cmp, on, then_cmp}
@@ -20,9 +20,9 @@ name_cmp = slice_cmp nat_cmp
 abbrev pub PortSet : Type 0
 PortSet = set.FinSet nat_cmp
 
--- a table: numbers by their keys
-abbrev pub Table : Type 0
-Table = map.FinMap nat_cmp ℕ
+-- the numbers of a table by their keys
+abbrev pub NumberTable : Type 0
+NumberTable = map.FinMap nat_cmp ℕ
 
 -- the up ports of a switch; one that is not known has none
 abbrev pub ports_in : map.FinMap nat_cmp PortSet → ℕ → PortSet
@@ -34,7 +34,7 @@ pub record Environment : Type 0 where
   pub switches : map.FinMap nat_cmp PortSet
   pub hosts : map.FinMap nat_cmp Place
   pub links : map.FinMap place_cmp Place
-  pub tables : map.FinMap name_cmp Table
+  pub tables : map.FinMap name_cmp NumberTable
 
 -- without switches, hosts, links and tables
 abbrev pub nothing_known : Environment
@@ -48,21 +48,17 @@ knows e switch = map.contains_key e.switches switch
 abbrev pub declares : Environment → List ℕ → Bool
 declares e name = map.contains_key e.tables name
 
--- whether a number is that of a port of a switch, by OpenFlow 1.0
-abbrev pub is_port : ℕ → Bool
-is_port n = nat_le 1 n && nat_le n 65280
-
 abbrev pub place_code : Coded Place
 place_code = code_by (ℕ × ℕ) (coded× coded_ℕ coded_ℕ) (λ p. (p.switch, p.port)) (λ p. record { switch = p.0; port = p.1 }) (λ _. refl)
 
 abbrev pub ports_code : Coded PortSet
 ports_code = set.code coded_ℕ
 
-abbrev pub table_code : Coded Table
+abbrev pub table_code : Coded NumberTable
 table_code = map.code coded_ℕ coded_ℕ
 
 abbrev Parts : Type 0
-Parts = (map.FinMap nat_cmp PortSet × map.FinMap nat_cmp Place) × (map.FinMap place_cmp Place × map.FinMap name_cmp Table)
+Parts = (map.FinMap nat_cmp PortSet × map.FinMap nat_cmp Place) × (map.FinMap place_cmp Place × map.FinMap name_cmp NumberTable)
 
 abbrev parts_code : Coded Parts
 parts_code = coded× (coded× (map.code coded_ℕ ports_code) (map.code coded_ℕ place_code)) (coded× (map.code place_code place_code) (map.code (coded_list coded_ℕ) table_code))

@@ -3,6 +3,7 @@ use Rattle.std.specs.Prelude.{◌≡◌, ℕ, ◌+◌, ◌≤◌, Bool, true, fa
 use Rattle.std.proofs.Common.{arith}
 use Rattle.std.specs.Cmp.Lexicographic.{nat_list_cmp_total}
 use Rattle.std.specs.FinSet as set
+use Rattle.env_cells.specs.Most.{most_tables}
 use Rattle.env_cells.specs.Environment.{name_cmp}
 
 pub len-names : (names : List (List ℕ)) → set.len (set.from_list {R = name_cmp} names) ≤ length names
@@ -13,5 +14,5 @@ len-names (n ∷ names) = go (set.contains (set.from_list {R = name_cmp} names) 
     go true is few = omega (arith, is, few)
     go false is few = omega (arith, is, few)
 
-pub few_names : (names : List (List ℕ)) → length names ≤ 16 → set.len (set.from_list {R = name_cmp} names) ≤ 16
+pub few_names : (names : List (List ℕ)) → length names ≤ most_tables → set.len (set.from_list {R = name_cmp} names) ≤ most_tables
 few_names names few = omega (arith, len-names names, few)

@@ -1,11 +1,15 @@
-pub mod Environment
-pub mod Named
-pub mod Listed
-pub mod Changes
-pub mod Refusals
+-- A reader must believe: Environment (what is known of a network), Changes and Named (the environment after an update), Listed (the ports that a list says are up), Refusals (why an update is
+-- refused), Values (what there is in a cell), Limits, Most, Lists (what holds of environments and their links).
+-- FewNames is a lemma for callers. Answers and Sorted serve private contracts and proofs alone.
 pub mod Answers
+pub mod Changes
+pub mod Environment
+pub mod FewNames
+pub mod Limits
+pub mod Listed
+pub mod Lists
+pub mod Most
+pub mod Named
+pub mod Refusals
 pub mod Sorted
 pub mod Values
-pub mod Limits
-pub mod Lists
-pub mod FewNames

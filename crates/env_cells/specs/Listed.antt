@@ -2,7 +2,8 @@
 use Rattle.std.specs.Prelude.{Bool, ◌&&◌, List, map as map_list, filter}
 use Rattle.std.specs.FinSet as set
 use Rattle.maple_base.specs.declared.cells.Port.{Port}
-use Rattle.env_cells.specs.Environment.{PortSet, is_port}
+use Rattle.maple_base.specs.Ports.{is_port}
+use Rattle.env_cells.specs.Environment.{PortSet}
 
 -- the entry says that its port is up, and a switch may have such a port
 abbrev pub is_listed_up : Port → Bool

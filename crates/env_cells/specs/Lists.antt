@@ -2,7 +2,9 @@
 use Rattle.std.specs.Prelude.{◌≢◌, ℕ, ◌≤◌, List, length, All, Contains, IsTrue}
 use Rattle.std.specs.List.{AllPairs}
 use Rattle.maple_base.specs.declared.cells.Place.{Place}
-use Rattle.env_cells.specs.Environment.{Environment, knows, is_port}
+use Rattle.maple_base.specs.Ports.{is_port}
+use Rattle.env_cells.specs.Most.{most_switches}
+use Rattle.env_cells.specs.Environment.{Environment, knows}
 
 -- no two links have the same first place
 abbrev pub StartApart : List (Place × Place) → Type 0
@@ -25,4 +27,4 @@ pub record IsAmong (switches : List ℕ) (link : Place × Place) : Type 0 where
 
 -- the links name at most 64 switches: 64 switches at most can be listed that have among them both switches of each link
 abbrev pub NamesFewSwitches : List (Place × Place) → Type 0
-NamesFewSwitches links = (switches : List ℕ) × (length switches ≤ 64) × All (IsAmong switches) links
+NamesFewSwitches links = (switches : List ℕ) × (length switches ≤ most_switches) × All (IsAmong switches) links

@@ -4,14 +4,14 @@ use Rattle.std.specs.declared.cmp.Ordering.{Ordering}
 use Rattle.std.specs.Ordering.{eq_by_cmp}
 use Rattle.std.specs.List.{slice_index_or, list_any}
 use Rattle.std.specs.FinMap as map
-use Rattle.env_cells.specs.Environment.{Table, name_cmp}
+use Rattle.env_cells.specs.Environment.{NumberTable, name_cmp}
 
 -- the numbers of a table; one that is not declared has none
-abbrev pub numbers_in : map.FinMap name_cmp Table → List ℕ → Table
+abbrev pub numbers_in : map.FinMap name_cmp NumberTable → List ℕ → NumberTable
 numbers_in tables name = unwrap_or (map.get tables name) map.empty
 
 -- the tables of these names, each with the numbers that it has, and empty where it is new
-abbrev pub tables_named : map.FinMap name_cmp Table → List (List ℕ) → map.FinMap name_cmp Table
+abbrev pub tables_named : map.FinMap name_cmp NumberTable → List (List ℕ) → map.FinMap name_cmp NumberTable
 tables_named tables [] = map.empty
 tables_named tables (name ∷ names) = map.insert (tables_named tables names) name (numbers_in tables name)
 
@@ -22,5 +22,5 @@ pub record IsFirst {K X : Type 0} (R : K → K → Ordering) (entries : List (K 
   pub here : (d : K × X) → eq_by_cmp R key (slice_index_or entries place d).0 ≡ true
 
 -- what there is at a name once each of these names that had no table has an empty one
-abbrev pub with_empty : map.FinMap name_cmp Table → List (List ℕ) → List ℕ → Option Table
+abbrev pub with_empty : map.FinMap name_cmp NumberTable → List (List ℕ) → List ℕ → Option NumberTable
 with_empty tables names q = if list_any (eq_by_cmp name_cmp q) names then Some (numbers_in tables q) else map.get tables q

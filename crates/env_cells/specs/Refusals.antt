@@ -1,13 +1,14 @@
 -- Why an update is refused: the first of four reasons, in this order.
-use Rattle.std.specs.Prelude.{◌≤◌, ℕ, Bool, true, false, not, ◌&&◌, nat_lt, if◌then◌else◌, List, Option, Some, None}
+use Rattle.std.specs.Prelude.{◌≤◌, ℕ, Bool, true, not, ◌&&◌, nat_lt, if◌then◌else◌, Option, Some, None}
 use Rattle.std.specs.FinMap as map
 use Rattle.std.specs.FinSet as set
-use Rattle.maple_base.specs.declared.cells.Place.{Place}
 use Rattle.env_cells.specs.declared.updates.Update.{Update}
-use Rattle.env_cells.specs.declared.updates.Update.TheVariants.{Switch, Port, Host, NoHost, Link, NoLink, Set, Unset, Tables}
-use Rattle.env_cells.specs.declared.updates.UpdateRefused.{UpdateRefused}
-use Rattle.env_cells.specs.declared.updates.UpdateRefused.TheVariants.{UnknownTable, UnknownSwitch, PortRange, Full}
-use Rattle.env_cells.specs.Environment.{Environment, name_cmp, knows, ports_in, declares, is_port}
+use Rattle.env_cells.specs.declared.updates.Update.TheVariants.{Switch, Port, Host, Link, NoLink, Set, Unset, Tables}
+use Rattle.maple_base.specs.declared.update_refused.UpdateRefused.{UpdateRefused}
+use Rattle.maple_base.specs.declared.update_refused.UpdateRefused.TheVariants.{UnknownTable, UnknownSwitch, PortRange, Full}
+use Rattle.maple_base.specs.Ports.{is_port}
+use Rattle.env_cells.specs.Most.{most_switches, most_up_ports, most_hosts, most_links, most_tables, most_numbers}
+use Rattle.env_cells.specs.Environment.{Environment, name_cmp, knows, ports_in, declares}
 use Rattle.env_cells.specs.Named.{numbers_in}
 use Rattle.env_cells.specs.Listed.{listed_up}
 
@@ -43,11 +44,11 @@ else_full (Some r) count limit = Some r
 
 -- what would pass its limit: the switches, the up ports of a switch, the hosts, the links, the numbers of a table
 abbrev pub full_of : Environment → Update → Option UpdateRefused
-full_of e (Switch switch ports) = else_full (full (map.len (map.insert e.switches switch (listed_up ports))) 64) (set.len (listed_up ports)) 1364
-full_of e (Port switch port true) = full (set.len (set.insert (ports_in e.switches switch) port)) 1364
-full_of e (Host mac place) = full (map.len (map.insert e.hosts mac place)) 65536
-full_of e (Link from to) = full (map.len (map.insert e.links from to)) 4096
-full_of e (Set table key value) = full (map.len (map.insert (numbers_in e.tables table) key value)) 65536
+full_of e (Switch switch ports) = else_full (full (map.len (map.insert e.switches switch (listed_up ports))) most_switches) (set.len (listed_up ports)) most_up_ports
+full_of e (Port switch port true) = full (set.len (set.insert (ports_in e.switches switch) port)) most_up_ports
+full_of e (Host mac place) = full (map.len (map.insert e.hosts mac place)) most_hosts
+full_of e (Link from to) = full (map.len (map.insert e.links from to)) most_links
+full_of e (Set table key value) = full (map.len (map.insert (numbers_in e.tables table) key value)) most_numbers
 full_of e u = None
 
 -- the first reason to refuse an update
@@ -60,5 +61,5 @@ refusal_of e u =
 
 -- `Tables` declares at most 16 tables
 abbrev pub HasRoomForTables : Update → Type 0
-HasRoomForTables (Tables names) = set.len (set.from_list {R = name_cmp} names) ≤ 16
+HasRoomForTables (Tables names) = set.len (set.from_list {R = name_cmp} names) ≤ most_tables
 HasRoomForTables u = Unit {0}

@@ -4,37 +4,47 @@ ghost use Rattle.std.specs.FinMap as map;
 ghost use Rattle.maple_base.specs.Kinds.{of_kind};
 ghost use Rattle.env_cells.specs.declared.updates.Update.{Update};
 ghost use Rattle.env_cells.specs.declared.updates.Update.TheVariants as updates;
-ghost use Rattle.env_cells.specs.declared.updates.UpdateRefused.{UpdateRefused};
-ghost use Rattle.env_cells.specs.declared.updates.UpdateRefused.TheVariants.{UnknownSwitch, PortRange};
+ghost use Rattle.maple_base.specs.declared.update_refused.UpdateRefused.{UpdateRefused};
+ghost use Rattle.maple_base.specs.declared.update_refused.UpdateRefused.TheVariants.{UnknownSwitch, PortRange};
 ghost use Rattle.env_cells.specs.declared.updates.UpdateError.TheVariants.{Refused};
 ghost use Rattle.maple_base.specs.declared.cells.Cell.TheVariants.{Up, Num};
 ghost use Rattle.maple_base.specs.declared.cells.Value.TheVariants.{Flag};
-ghost use Rattle.env_cells.specs.Environment.{nothing_known, knows, is_port};
+ghost use Rattle.maple_base.specs.Ports.{is_port};
+ghost use Rattle.env_cells.specs.Environment.{nothing_known, knows};
 ghost use Rattle.env_cells.specs.Changes.{applied};
 ghost use Rattle.env_cells.specs.Refusals.{refusal_of, full, HasRoomForTables};
 ghost use Rattle.env_cells.specs.Answers.{Answers, Tells};
 ghost use Rattle.env_cells.specs.Values.{value_in, IsNoHop};
 ghost use Rattle.env_cells.specs.Limits.{IsWithinLimits};
+ghost use Rattle.env_cells.specs.Most.{most_links, most_switches};
 ghost use Rattle.env_cells.specs.Lists.{StartApart, IsBetweenPorts, IsKnown, NamesFewSwitches};
 
 use crate::link_map::LinkMap;
 use crate::number_map::NumberMap;
 use crate::tables::TableMap;
-use crate::up_ports::{UpPorts, is_port};
-use crate::{Links, Update, UpdateError, UpdateRefused};
-use maple_base::{Cell, Name, Names, NoMemory, Place, Ports, Value};
+use crate::up_ports::UpPorts;
+use crate::{Links, Update, UpdateError};
+use maple_base::{Cell, Name, Names, NoMemory, Place, Ports, UpdateRefused, Value, is_port};
 use std::alloc::Global;
 use std::marker::Model;
 
-const SWITCHES: u64 = 64;
+/// The most switches of an environment.
+pub const MOST_SWITCHES: u64 = 64;
 
-const UP_PORTS: u64 = 1364;
+/// The most up ports of a switch.
+pub const MOST_UP_PORTS: u64 = 1364;
 
-const HOSTS: u64 = 65536;
+/// The most hosts of an environment.
+pub const MOST_HOSTS: u64 = 65536;
 
-const LINKS: u64 = 4096;
+/// The most links of an environment.
+pub const MOST_LINKS: u64 = 4096;
 
-const NUMBERS: u64 = 65536;
+/// The most tables of an environment.
+pub const MOST_TABLES: u64 = 16;
+
+/// The most numbers of a table.
+pub const MOST_NUMBERS: u64 = 65536;
 
 /// What is known of the network: the switches with their up ports, hosts, links, and tables of
 /// numbers. At most 64 switches with 1,364 up ports each, 65,536 hosts, 4,096 links, and 16 tables
@@ -109,10 +119,10 @@ impl Env {
     pub fn links(&self) -> &Links
         ensures links { result.now ≡ map.entries self.now.links }
         ensures apart { StartApart result.now }
-        ensures few { length result.now ≤ 4096 }
+        ensures few { length result.now ≤ most_links }
         ensures ports { All IsBetweenPorts result.now }
         ensures known { All (IsKnown self.now) result.now }
-        ensures switches { map.len self.now.switches ≤ 64 }
+        ensures switches { map.len self.now.switches ≤ most_switches }
         ensures named { NamesFewSwitches result.now }
     {
         self.links.links()
@@ -189,9 +199,9 @@ impl Env {
     fn set_switch(&mut self, switch: u64, ports: &Ports) -> Result<(), UpdateError>
         ensures { Answers self.old (updates.Switch switch ports.now) result self.new }
     {
-        check_room(self.switches.len_with(switch), SWITCHES)?;
+        check_room(self.switches.len_with(switch), MOST_SWITCHES)?;
         let up = UpPorts::listed(self.alloc, ports.items())?;
-        check_room(up.len(), UP_PORTS)?;
+        check_room(up.len(), MOST_UP_PORTS)?;
         self.switches.insert(switch, up)?;
         Ok(())
     }
@@ -203,7 +213,7 @@ impl Env {
             return Err(UpdateError::Refused(UpdateRefused::UnknownSwitch));
         };
         check_port(u64::from(port))?;
-        check_room(up.len_with(port), UP_PORTS)?;
+        check_room(up.len_with(port), MOST_UP_PORTS)?;
         self.switches.raise(switch, port)?;
         Ok(())
     }
@@ -222,7 +232,7 @@ impl Env {
     {
         self.check_switch(place.switch)?;
         check_port(place.port)?;
-        check_room(self.hosts.len_with(mac), HOSTS)?;
+        check_room(self.hosts.len_with(mac), MOST_HOSTS)?;
         self.hosts.insert(mac, place)?;
         Ok(())
     }
@@ -240,7 +250,7 @@ impl Env {
         self.check_switch(to.switch)?;
         check_port(from.port)?;
         check_port(to.port)?;
-        check_room(self.links.len_with(from), LINKS)?;
+        check_room(self.links.len_with(from), MOST_LINKS)?;
         self.links.insert(from, to)?;
         Ok(())
     }
@@ -260,7 +270,7 @@ impl Env {
         let Some(numbers) = self.tables.get(table) else {
             return Err(UpdateError::Refused(UpdateRefused::UnknownTable));
         };
-        check_room(numbers.len_with(key), NUMBERS)?;
+        check_room(numbers.len_with(key), MOST_NUMBERS)?;
         self.tables.set(table, key, value)?;
         Ok(())
     }

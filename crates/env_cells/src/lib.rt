@@ -6,11 +6,12 @@ mod link_map;
 pub mod links;
 mod number_map;
 mod tables;
-#[cfg(test)]
-mod tests;
 mod up_ports;
 pub mod updates;
 
-pub use environment::Env;
+pub use environment::{
+    Env, MOST_HOSTS, MOST_LINKS, MOST_NUMBERS, MOST_SWITCHES, MOST_TABLES, MOST_UP_PORTS,
+};
 pub use links::Links;
-pub use updates::{Update, UpdateError, UpdateRefused};
+pub use maple_base::UpdateRefused;
+pub use updates::{Update, UpdateError};

@@ -5,7 +5,8 @@ ghost use Rattle.std.specs.Ordering.{nat_cmp};
 ghost use Rattle.std.specs.Coded.{coded_ℕ};
 ghost use Rattle.std.specs.FinMap as map;
 ghost use Rattle.std.specs.FinSet as set;
-ghost use Rattle.env_cells.specs.Environment.{is_port, ports_in};
+ghost use Rattle.maple_base.specs.Ports.{is_port};
+ghost use Rattle.env_cells.specs.Environment.{ports_in};
 
 use crate::up_ports::UpPorts;
 use maple_base::NoMemory;

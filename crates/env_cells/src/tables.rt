@@ -13,12 +13,12 @@ use maple_base::{Name, NoMemory};
 use std::alloc::Global;
 use std::marker::Model;
 
-type Table = (Name, NumberMap<u64>);
+type NamedTable = (Name, NumberMap<u64>);
 
 /// The declared tables. There are few, so a table is sought among all of them.
 #[derive(Drop)]
 pub struct TableMap {
-    tables: Vec<Table>,
+    tables: Vec<NamedTable>,
 }
 
 impl Model for TableMap {
@@ -113,7 +113,7 @@ impl TableMap {
 }
 
 // Drops the tables of other names.
-fn keep(tables: &mut Vec<Table>, names: &[Name])
+fn keep(tables: &mut Vec<NamedTable>, names: &[Name])
     ensures items { tables.new.items ≡ filter (λ table. list_any (eq_by_cmp name_cmp table.0) names.now) tables.old.items }
     ensures shorter { vec_len tables.new ≤ vec_len tables.old }
     ensures capacity { vec_capacity tables.new ≡ vec_capacity tables.old }
@@ -122,7 +122,7 @@ fn keep(tables: &mut Vec<Table>, names: &[Name])
 }
 
 // Adds an empty table for each name that has none.
-fn add(tables: &mut Vec<Table>, names: &[Name])
+fn add(tables: &mut Vec<NamedTable>, names: &[Name])
     requires room { vec_len tables.old + length names.now ≤ vec_capacity tables.old }
     ensures added { (q : List ℕ) → map.get (map.from_entries {R = name_cmp} tables.new.items) q ≡ with_empty (map.from_entries tables.old.items) names.now q }
 {
@@ -134,14 +134,14 @@ fn add(tables: &mut Vec<Table>, names: &[Name])
     }
 }
 
-fn is_declared(tables: &[Table], name: &Name) -> bool
+fn is_declared(tables: &[NamedTable], name: &Name) -> bool
     ensures { result ≡ is_some (find name_cmp name.now tables.now) }
 {
     place_of(tables, name).is_some()
 }
 
 // Where the first table of the name stands.
-fn place_of(tables: &[Table], name: &Name) -> Option<usize>
+fn place_of(tables: &[NamedTable], name: &Name) -> Option<usize>
     ensures found { IfSome result (IsFirst name_cmp tables.now name.now) }
     ensures absent { IfNone result (find name_cmp name.now tables.now ≡ None) }
 {

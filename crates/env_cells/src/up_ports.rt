@@ -2,10 +2,10 @@
 ghost use Rattle.std.specs.Prelude.{◌≡◌, ◌<◌, ◌^◌, IfOk, OnOk, OnErr, IsTrue};
 ghost use Rattle.std.specs.Ordering.{nat_cmp};
 ghost use Rattle.std.specs.FinSet as set;
-ghost use Rattle.env_cells.specs.Environment.{is_port};
+ghost use Rattle.maple_base.specs.Ports.{is_port};
 ghost use Rattle.env_cells.specs.Listed.{is_listed_up, listed_up};
 
-use maple_base::{NoMemory, Port};
+use maple_base::{NoMemory, Port, is_port};
 use std::alloc::{AllocError, Global};
 use std::collections::BTreeSet;
 use std::marker::Model;
@@ -22,7 +22,7 @@ impl Model for UpPorts {
     ghost use Rattle.std.specs.Ordering.{nat_cmp};
     ghost use Rattle.std.specs.Coded.{coded_ℕ};
     ghost use Rattle.std.specs.FinSet as set;
-    ghost use Rattle.env_cells.specs.Environment.{is_port};
+    ghost use Rattle.maple_base.specs.Ports.{is_port};
 
     ghost Value = { set.FinSet nat_cmp };
 
@@ -116,11 +116,4 @@ fn is_listed_up(port: &Port) -> bool
     ensures { result ≡ is_listed_up port.now }
 {
     port.up && is_port(u64::from(port.number))
-}
-
-/// Whether a switch may have a port of this number (OpenFlow 1.0, 5.2.1).
-pub fn is_port(number: u64) -> bool
-    ensures { result ≡ is_port number }
-{
-    1 <= number && number <= 65280
 }

@@ -2,7 +2,7 @@
 ghost use Rattle.std.specs.Prelude.{◌≡◌};
 ghost use Rattle.env_cells.specs.declared.updates.UpdateError.TheVariants.{NoMemory as memory_error, Refused};
 
-use maple_base::{Name, Names, NoMemory, Place, Ports};
+use maple_base::{Name, Names, NoMemory, Place, Ports, UpdateRefused};
 use thiserror::Error;
 
 /// A change of what is known of the network. A port's number is in 1 to 65,280 (OpenFlow 1.0,
@@ -29,24 +29,6 @@ pub enum Update {
     /// These tables are there and no others. One that was there keeps its numbers, a new one is
     /// empty.
     Tables(Names),
-}
-
-/// Why an update is refused: the first of these that applies.
-#[derive(Clone, Copy, Debug, PartialEq, Eq, Error)]
-pub enum UpdateRefused {
-    /// The table isn't declared.
-    #[error("unknown table")]
-    UnknownTable,
-    /// A switch isn't known.
-    #[error("unknown switch")]
-    UnknownSwitch,
-    /// A port isn't in 1 to 65,280.
-    #[error("port out of range")]
-    PortRange,
-    /// There would be `count` switches, up ports of a switch, hosts, links or numbers of a table,
-    /// where `limit` is the most.
-    #[error("{count} where {limit} is the limit")]
-    Full { count: u64, limit: u64 },
 }
 
 /// Why an update isn't made.

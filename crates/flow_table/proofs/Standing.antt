@@ -1,5 +1,5 @@
 -- The first rule that fits, and the place of a rule.
-use Rattle.std.proofs.Common.{◌≡◌, ℕ, ◌<◌, true, false, List, length, get_or, Option, Some, None, Bor, refl, sym, ap, ◌∙◌, ⊎_elim, arith}
+use Rattle.std.proofs.Common.{◌≡◌, ℕ, ◌<◌, true, false, List, length, get_or, Option, Some, None, Bor, sym, ap, ◌∙◌, ⊎_elim, arith}
 use Rattle.std.specs.List.{HoldsAt, AllWithin}
 use Rattle.std.specs.Prelude.{IfSome, MatchOption, unwrap_or}
 use Rattle.std.proofs.lemmas.Bool.{cases_order}

@@ -6,8 +6,6 @@ mod applied;
 mod change;
 mod lookup;
 mod table;
-#[cfg(test)]
-mod tests;
 
 pub use applied::Applied;
 pub use table::Table;

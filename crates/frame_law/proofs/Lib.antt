@@ -1,5 +1,4 @@
 pub mod Facts
-pub mod NumberBack
 pub mod Opening
 pub mod Packets
 pub mod Whole

@@ -4,11 +4,10 @@ use Rattle.std.specs.Prelude.{◌&&◌, ◌==◌, nat_lt, nat_le}
 use Rattle.std.proofs.Math.Nat.{mod-eq_of_lt}
 use Rattle.std.proofs.lemmas.Bool.Decides.{nat_tests}
 use Rattle.maple_base.specs.declared.key.Key.{Key}
-use Rattle.maple_base.specs.NetworkOrder.{number_at}
 use Rattle.packet_key.specs.Frames.{is_tagged, is_length, has_snap, type_of, payload, dl_type_of, packet_in, link_key}
-use Rattle.script_text.specs.Frames.{number}
+use Rattle.maple_base.specs.NetworkOrder.{number, number_at}
 use Rattle.frame_law.proofs.Facts.{LinkFacts}
-use Rattle.frame_law.proofs.NumberBack.{number_back}
+use Rattle.maple_base.proofs.NumberBack.{number_back}
 
 -- a key of these link numbers, with all else 0
 abbrev pub linked : ℕ → ℕ → ℕ → ℕ → ℕ → ℕ → Key

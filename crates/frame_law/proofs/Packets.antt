@@ -1,5 +1,5 @@
 -- An IP packet, read back.
-use Rattle.std.proofs.Common.{◌≡◌, ℕ, ◌+◌, ◌*◌, ◌/◌, ◌<◌, ◌≤◌, Bool, true, false, cond, List, ◌++◌, length, refl, ap, ◌∙◌, arith, Ok, Err}
+use Rattle.std.proofs.Common.{◌≡◌, ℕ, ◌*◌, ◌/◌, ◌≤◌, true, false, cond, List, ◌++◌, length, refl, ap, ◌∙◌, arith, Ok, Err}
 use Rattle.std.specs.Prelude.{◌&&◌, not, nat_lt, nat_le}
 use Rattle.std.proofs.lemmas.Bool.Decides.{nat_tests}
 use Rattle.maple_base.specs.declared.key.Key.{Key}
@@ -8,7 +8,7 @@ use Rattle.packet_key.specs.declared.malformed.Malformed.TheVariants.{Ip, Transp
 use Rattle.packet_key.specs.Frames.{has_header, port_width, width_in, segment as segment_in, with_packet, ip_key}
 use Rattle.script_text.specs.Frames.{ip_header}
 use Rattle.frame_law.proofs.Facts.{NetFacts}
-use Rattle.frame_law.proofs.NumberBack.{number_back}
+use Rattle.maple_base.proofs.NumberBack.{number_back}
 use Rattle.frame_law.proofs.Opening.{link_part, not_short}
 
 abbrev with_ip : Key → ℕ → ℕ → ℕ → ℕ → ℕ → ℕ → Key

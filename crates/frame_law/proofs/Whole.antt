@@ -1,17 +1,18 @@
 -- The key of the frame of a packet is the packet's key.
-use Rattle.std.proofs.Common.{◌≡◌, ℕ, ◌+◌, ◌≤◌, Bool, true, false, cond, List, [], ◌++◌, length, refl, sym, ap, ◌∙◌, ⊎_elim, arith, Result, Ok, Err}
+use Rattle.std.proofs.Common.{◌≡◌, ℕ, ◌+◌, Bool, true, false, cond, List, [], ◌++◌, length, refl, sym, ap, ◌∙◌, ⊎_elim, arith, Result, Ok, Err}
 use Rattle.std.specs.Prelude.{◌&&◌, ◌||◌, ◌==◌, nat_lt}
 use Rattle.std.proofs.lemmas.Bool.{cases_Bool}
 use Rattle.std.proofs.lemmas.Bool.Decides.{nat_tests}
 use Rattle.maple_base.specs.declared.key.Key.{Key}
 use Rattle.packet_key.specs.declared.malformed.Malformed.{Malformed}
 use Rattle.packet_key.specs.declared.malformed.Malformed.TheVariants.{Ethernet, Tag}
-use Rattle.packet_key.specs.Frames.{is_tagged, port_width, dl_type_of, packet_in, link_key, ip_key, key_of}
-use Rattle.script_text.specs.Frames.{number, addresses, tag, tcp, udp, icmp, segment, ip_header, ip_packet, frame}
+use Rattle.packet_key.specs.Frames.{is_tagged, dl_type_of, packet_in, link_key, ip_key, key_of}
+use Rattle.maple_base.specs.NetworkOrder.{number}
+use Rattle.script_text.specs.Frames.{addresses, tag, tcp, udp, icmp, segment, ip_header, ip_packet, frame}
 use Rattle.script_text.specs.PacketFields.{is_packet}
 use Rattle.frame_law.specs.Laws.{KeyOfFrame}
 use Rattle.frame_law.proofs.Facts.{NetFacts, NoNet, link_facts, net_facts, tagged_small, icmp_small, no_ports, no_net}
-use Rattle.frame_law.proofs.NumberBack.{number_back}
+use Rattle.maple_base.proofs.NumberBack.{number_back}
 use Rattle.frame_law.proofs.Opening.{Opened, link_part, plain_frame, tagged_frame, opened_plain, opened_tagged}
 use Rattle.frame_law.proofs.Packets.{ip_back}
 

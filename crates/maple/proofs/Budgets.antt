@@ -6,7 +6,7 @@ use Rattle.std.specs.Str.{bytes_eq}
 use Rattle.std.proofs.lemmas.Bool.{cases_Bool}
 use Rattle.std.proofs.lemmas.Bool.Decides.{nat_tests}
 use Rattle.policy_lang.proofs.Courses.{both as both_true}
-use Rattle.maple_base.specs.Numbers.{number_of}
+use Rattle.maple_text.specs.Numbers.{number_of}
 use Rattle.policy_eval.specs.Answers.{IsBudget}
 use Rattle.maple.specs.declared.words.Command.{Command}
 use Rattle.maple.specs.declared.words.Command.TheVariants.{Sim, Check}

@@ -1,36 +1,36 @@
 -- How the ends of parts of a run join.
-use Rattle.std.proofs.Common.{ℕ, List, ◌++◌, Option, refl, sym, ap, ◌∙◌, append_assoc}
-use Rattle.std.specs.Io.KnownBytes.{Appends}
+use Rattle.std.proofs.Common.{ℕ, List, ◌++◌, refl, sym, ap, ◌∙◌, append_assoc}
+use Rattle.maple_io.specs.Views.{SinkView, WriteFailed, Wrote}
 use Rattle.std.proofs.KnownBytes.{Appends-trans}
 use Rattle.maple.specs.declared.status.Status.{Status}
 use Rattle.maple.specs.declared.status.Status.TheVariants.{Done, Usage, Policy, Script, ReadFault, WriteFault, NoMemory, TooLong}
-use Rattle.maple.specs.Ends.{Ends, WritesFront, IsGiven}
+use Rattle.maple.specs.Ends.{Ends, WroteFront, IsGiven}
 
-pub given_ends : (risen : Type 0) (old new : Option (List ℕ)) (text : List ℕ) (status : Status) → IsGiven status → Appends old new text → Ends risen old new status text status
-given_ends risen old new text Done h a = (refl, a)
-given_ends risen old new text Usage h a = (refl, a)
-given_ends risen old new text Policy h a = (refl, a)
-given_ends risen old new text Script h a = (refl, a)
-given_ends risen old new text ReadFault h a = (refl, a)
-given_ends risen old new text WriteFault h a = absurd h
-given_ends risen old new text NoMemory h a = absurd h
-given_ends risen old new text TooLong h a = (refl, a)
+pub given_ends : (old new : SinkView) (text : List ℕ) (status : Status) → IsGiven status → Wrote old new text → Ends old new status text status
+given_ends old new text Done h a = (refl, a)
+given_ends old new text Usage h a = (refl, a)
+given_ends old new text Policy h a = (refl, a)
+given_ends old new text Script h a = (refl, a)
+given_ends old new text ReadFault h a = (refl, a)
+given_ends old new text WriteFault h a = absurd h
+given_ends old new text NoMemory h a = absurd h
+given_ends old new text TooLong h a = (refl, a)
 
 -- a front behind a whole piece
-pub front_behind : (old mid new : Option (List ℕ)) (first text : List ℕ) → Appends old mid first → WritesFront mid new text → WritesFront old new (first ++ text)
-front_behind old mid new first text a (front, (rest, is), b) = (first ++ front, (rest, append_assoc first front rest ∙ ap (λ l. first ++ l) is), Appends-trans old mid new first front a b)
+pub front_behind : (old mid new : SinkView) (first text : List ℕ) → Wrote old mid first → WroteFront mid new text → WroteFront old new (first ++ text)
+front_behind old mid new first text a (front, (rest, is), b) = (first ++ front, (rest, append_assoc first front rest ∙ ap (λ l. first ++ l) is), Appends-trans old.taken mid.taken new.taken first front a b)
 
 -- a front of a piece is a front of the whole
-pub front_longer : (old new : Option (List ℕ)) (first text : List ℕ) → WritesFront old new first → WritesFront old new (first ++ text)
+pub front_longer : (old new : SinkView) (first text : List ℕ) → WroteFront old new first → WroteFront old new (first ++ text)
 front_longer old new first text (front, (rest, is), a) = (front, (rest ++ text, sym (append_assoc front rest text) ∙ ap (λ l. l ++ text) is), a)
 
 -- an end behind a whole piece
-pub ends_behind : (r s : Type 0) (old mid new : Option (List ℕ)) (first text : List ℕ) (due result : Status) → (r → s) → Appends old mid first → Ends r mid new due text result → Ends s old new due (first ++ text) result
-ends_behind r s old mid new first text due Done f a e = (e.0, Appends-trans old mid new first text a e.1)
-ends_behind r s old mid new first text due Usage f a e = (e.0, Appends-trans old mid new first text a e.1)
-ends_behind r s old mid new first text due Policy f a e = (e.0, Appends-trans old mid new first text a e.1)
-ends_behind r s old mid new first text due Script f a e = (e.0, Appends-trans old mid new first text a e.1)
-ends_behind r s old mid new first text due ReadFault f a e = (e.0, Appends-trans old mid new first text a e.1)
-ends_behind r s old mid new first text due WriteFault f a e = (f e.0, front_behind old mid new first text a e.1)
-ends_behind r s old mid new first text due NoMemory f a e = front_behind old mid new first text a e
-ends_behind r s old mid new first text due TooLong f a e = (e.0, Appends-trans old mid new first text a e.1)
+pub ends_behind : (old mid new : SinkView) (first text : List ℕ) (due result : Status) → (WriteFailed mid new → WriteFailed old new) → Wrote old mid first → Ends mid new due text result → Ends old new due (first ++ text) result
+ends_behind old mid new first text due Done f a e = (e.0, Appends-trans old.taken mid.taken new.taken first text a e.1)
+ends_behind old mid new first text due Usage f a e = (e.0, Appends-trans old.taken mid.taken new.taken first text a e.1)
+ends_behind old mid new first text due Policy f a e = (e.0, Appends-trans old.taken mid.taken new.taken first text a e.1)
+ends_behind old mid new first text due Script f a e = (e.0, Appends-trans old.taken mid.taken new.taken first text a e.1)
+ends_behind old mid new first text due ReadFault f a e = (e.0, Appends-trans old.taken mid.taken new.taken first text a e.1)
+ends_behind old mid new first text due WriteFault f a e = (f e.0, front_behind old mid new first text a e.1)
+ends_behind old mid new first text due NoMemory f a e = front_behind old mid new first text a e
+ends_behind old mid new first text due TooLong f a e = (e.0, Appends-trans old.taken mid.taken new.taken first text a e.1)

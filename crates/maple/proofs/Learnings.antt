@@ -46,9 +46,10 @@ use Rattle.report_text.specs.declared.line.Learnt.TheVariants.{Learned, Rows}
 use Rattle.report_text.specs.Report.{spelled}
 use Rattle.maple.specs.Choosing.{NoneFits, table_of}
 use Rattle.maple.specs.Knowing.{IsOwn, AreOwn, Knows}
-use Rattle.maple.specs.Report.{decided, outcome_actions, fault_number, plain, run_of, with_run, need, reason, answered, said, learned, after, arrival_said, arrival_after, text_of}
+use Rattle.packet_key.specs.Frames.{fault_number}
+use Rattle.maple.specs.Report.{switch_rows, decided, outcome_actions, plain, own_trace, with_trace, need, reason, answered, said, learned, after, arrival_said, arrival_after, text_of}
 
--- no more runs than rules
+-- no more traces than rules
 mutual
   few_leaves : (t : Shape) → leaves_of t ≤ count_of t
   few_leaves Empty = omega arith
@@ -93,13 +94,13 @@ none_any : (k : Key) (rs : List Rule) → NoneFits rs k → list_any (λ x. fits
 none_any k [] h = refl
 none_any k (x ∷ xs) h = or_false (fits x k) (list_any (λ x. fits x k) xs) (h x (0, omega arith, refl)) (none_any k xs (λ r c. h r (Contains-append_right (x ∷ []) xs r c)))
 
-pub not_more : (n : ℕ) → nat_lt 1024 n ≡ false → n ≤ 1024
+pub not_more : (n : ℕ) → nat_lt switch_rows n ≡ false → n ≤ switch_rows
 not_more n h = grind (arith, nat_tests)
 
-pub is_more : (n m : ℕ) → n ≡ m → 1024 < n → nat_lt 1024 m ≡ true
+pub is_more : (n m : ℕ) → n ≡ m → switch_rows < n → nat_lt switch_rows m ≡ true
 is_more n m e h = grind (arith, nat_tests)
 
-pub is_no_more : (n m : ℕ) → n ≡ m → n ≤ 1024 → nat_lt 1024 m ≡ false
+pub is_no_more : (n m : ℕ) → n ≡ m → n ≤ switch_rows → nat_lt switch_rows m ≡ false
 is_no_more n m e h = grind (arith, nat_tests)
 
 pub on_three : {T E : Type 0} (A B C Q : Type 0) (r : Result T E) → OnOk r A → OnOk r B → OnOk r C → (A → B → C → Q) → OnOk r Q
@@ -121,16 +122,16 @@ fact_here Flood h = refl
 fact_here (Path []) h = absurd (cc)
 fact_here (Path (p ∷ ps)) h = ap (actions_at (Path (p ∷ ps))) (eqb-true p.switch 1 h)
 
-own_once : (policy : Policy) (budget : ℕ) (runs : List Trace) → AreOwn policy budget runs → AllAskOnce runs
+own_once : (policy : Policy) (budget : ℕ) (traces : List Trace) → AreOwn policy budget traces → AllAskOnce traces
 own_once policy budget [] h = tt
 own_once policy budget (x ∷ xs) h = (subst (λ is. asks_once [] is ≡ true) (sym h.0.items) (asks_once_only policy budget h.0.key h.0.valid), own_once policy budget xs h.1)
 
-own_push : (policy : Policy) (budget : ℕ) (runs : List Trace) (x : Trace) → AreOwn policy budget runs → IsOwn policy budget x → AreOwn policy budget (runs ++ x ∷ [])
+own_push : (policy : Policy) (budget : ℕ) (traces : List Trace) (x : Trace) → AreOwn policy budget traces → IsOwn policy budget x → AreOwn policy budget (traces ++ x ∷ [])
 own_push policy budget [] x h i = (i, tt)
 own_push policy budget (y ∷ ys) x h i = (h.0, own_push policy budget ys x h.1 i)
 
 -- a found run decided what the key's own run decides
-decides_alike : (policy : Policy) (budget : ℕ) (runs : List Trace) (k : Key) (x : Trace) → AreOwn policy budget runs → found runs k ≡ Some x → outcome_at (course_of policy budget) k ≡ Decided x.decision
+decides_alike : (policy : Policy) (budget : ℕ) (traces : List Trace) (k : Key) (x : Trace) → AreOwn policy budget traces → found traces k ≡ Some x → outcome_at (course_of policy budget) k ≡ Decided x.decision
 decides_alike policy budget [] k x h e = absurd (cc)
 decides_alike policy budget (y ∷ ys) k x h e =
     ⊎_elim
@@ -142,7 +143,7 @@ decides_alike policy budget (y ∷ ys) k x h e =
     (cases_Bool (meets k y.items))
 
 -- the key's own run clashes with none, where none is found
-clashes_none : (policy : Policy) (budget : ℕ) (runs : List Trace) (k : Key) → AreOwn policy budget runs → found runs k ≡ None → AllByRecursion (λ x. clash (items_of (course_of policy budget) k) x.items ≡ false) runs
+clashes_none : (policy : Policy) (budget : ℕ) (traces : List Trace) (k : Key) → AreOwn policy budget traces → found traces k ≡ None → AllByRecursion (λ x. clash (items_of (course_of policy budget) k) x.items ≡ false) traces
 clashes_none policy budget [] k h e = tt
 clashes_none policy budget (y ∷ ys) k h e =
     ⊎_elim
@@ -160,74 +161,74 @@ clashes_none policy budget (y ∷ ys) k h e =
     (cases_Bool (meets k y.items))
 
 -- a frame whose headers can't be read is a miss and its fault
-pub malformed_step : (policy : Policy) (budget : ℕ) (runs : List Trace) (world : World) → Knows policy budget runs world → (port n : ℕ) (fault : Fault) (read : Result Key Fault) → Err fault ≡ read → n ≡ fault_number fault
+pub malformed_step : (policy : Policy) (budget : ℕ) (traces : List Trace) (world : World) → Knows policy budget traces world → (port n : ℕ) (fault : Fault) (read : Result Key Fault) → Err fault ≡ read → n ≡ fault_number fault
     → (old mid new : List ℕ) → mid ≡ old ++ spelled (Miss 1 port 0) → new ≡ mid ++ spelled (Malformed 1 n)
-    → (new ≡ old ++ text_of (arrival_said policy budget runs port read)) × Knows policy budget (arrival_after policy budget runs read) world
-malformed_step policy budget runs world knows port n fault read is e old mid new first then' =
+    → (new ≡ old ++ text_of (arrival_said policy budget traces port read)) × Knows policy budget (arrival_after policy budget traces read) world
+malformed_step policy budget traces world knows port n fault read is e old mid new first then' =
     let tail : spelled (Malformed 1 n) ≡ spelled (Malformed 1 (fault_number fault)) ++ [] = ap (λ m. spelled (Malformed 1 m)) e ∙ sym (append-nil (spelled (Malformed 1 (fault_number fault)))) in
     let both : new ≡ old ++ (spelled (Miss 1 port 0) ++ spelled (Malformed 1 n)) = then' ∙ ap (λ t. t ++ spelled (Malformed 1 n)) first ∙ append_assoc old (spelled (Miss 1 port 0)) (spelled (Malformed 1 n)) in
-    subst (λ r. (new ≡ old ++ text_of (arrival_said policy budget runs port r)) × Knows policy budget (arrival_after policy budget runs r) world) is
+    subst (λ r. (new ≡ old ++ text_of (arrival_said policy budget traces port r)) × Knows policy budget (arrival_after policy budget traces r) world) is
     (both ∙ ap (λ t. old ++ (spelled (Miss 1 port 0) ++ t)) tail, knows)
 
-module _ (policy : Policy) (budget : ℕ) (runs : List Trace) (world : World) (knows : Knows policy budget runs world) (k : Key) (valid : valid_key k ≡ true) where
-  admitted : AreAdmitted Empty runs
-  admitted = scratch_apart runs knows.apart
+module _ (policy : Policy) (budget : ℕ) (traces : List Trace) (world : World) (knows : Knows policy budget traces world) (k : Key) (valid : valid_key k ≡ true) where
+  admitted : AreAdmitted Empty traces
+  admitted = scratch_apart traces knows.apart
 
-  chooses : ChoosesRight runs k
-  chooses = choice_law runs k admitted (own_once policy budget runs knows.own)
+  chooses : ChoosesRight traces k
+  chooses = choice_law traces k admitted (own_once policy budget traces knows.own)
 
-  holds : HoldsRules (scratch runs) (table_of world.rules)
-  holds = table_law (scratch runs) world.rules.facts world.rules.barriers knows.facts knows.barriers
+  holds : HoldsRules (scratch traces) (table_of world.rules)
+  holds = table_law (scratch traces) world.rules.facts world.rules.barriers knows.facts knows.barriers
 
   evaluated : outcome_at (course_of policy budget) k ≡ plain policy budget k
   evaluated = ends_as_evaluated policy budget blank_value 1 k knows.plainly valid
 
   -- a fact that is chosen does what plain evaluation decides
   pub hit_step : (r : Rule) (actions : List ℕ) (old new : List ℕ) → Contains world.rules.facts r → MayChoose (table_of world.rules) k r → r.actions ≡ actions → new ≡ old ++ spelled (Hit 1 k.in_port actions)
-      → (new ≡ old ++ text_of (said policy budget runs k (found runs k))) × Knows policy budget (after policy budget runs k (found runs k)) world
+      → (new ≡ old ++ text_of (said policy budget traces k (found traces k))) × Knows policy budget (after policy budget traces k (found traces k)) world
   hit_step r actions old new c may does e =
-      let inside = Contains-permutation world.rules.facts (facts_of (scratch runs) anything 0) r (IsPermutation-sym (facts_of (scratch runs) anything 0) world.rules.facts knows.facts) c in
+      let inside = Contains-permutation world.rules.facts (facts_of (scratch traces) anything 0) r (IsPermutation-sym (facts_of (scratch traces) anything 0) world.rules.facts knows.facts) c in
       let f = chooses.fact (table_of world.rules) r holds may inside in
-      let d : plain policy budget k ≡ Decided f.0.decision = sym evaluated ∙ decides_alike policy budget runs k f.0 knows.own f.1 in
+      let d : plain policy budget k ≡ Decided f.0.decision = sym evaluated ∙ decides_alike policy budget traces k f.0 knows.own f.1 in
       let begins : begins_at 1 (Decided f.0.decision) ≡ true = ap (begins_at 1) (sym d) ∙ begins_here policy budget blank_value 1 k valid in
       let acts : actions ≡ outcome_actions (plain policy budget k) = sym does ∙ f.2.does ∙ fact_here f.0.decision begins ∙ sym (ap outcome_actions d) in
-      let line : new ≡ old ++ text_of (said policy budget runs k (Some f.0)) = e ∙ ap (λ x. old ++ spelled (Hit 1 k.in_port x)) acts ∙ ap (λ t. old ++ t) (sym (append-nil (spelled (Hit 1 k.in_port (outcome_actions (plain policy budget k)))))) in
-      subst (λ o. (new ≡ old ++ text_of (said policy budget runs k o)) × Knows policy budget (after policy budget runs k o) world) (sym f.1) (line, knows)
+      let line : new ≡ old ++ text_of (said policy budget traces k (Some f.0)) = e ∙ ap (λ x. old ++ spelled (Hit 1 k.in_port x)) acts ∙ ap (λ t. old ++ t) (sym (append-nil (spelled (Hit 1 k.in_port (outcome_actions (plain policy budget k)))))) in
+      subst (λ o. (new ≡ old ++ text_of (said policy budget traces k o)) × Knows policy budget (after policy budget traces k o) world) (sym f.1) (line, knows)
 
   -- a chosen barrier is a miss with reason 1
-  pub barrier_miss : (r : Rule) → Contains world.rules.barriers r → MayChoose (table_of world.rules) k r → (found runs k ≡ None) × (1 ≡ reason policy budget runs k)
+  pub barrier_miss : (r : Rule) → Contains world.rules.barriers r → MayChoose (table_of world.rules) k r → (found traces k ≡ None) × (1 ≡ reason policy budget traces k)
   barrier_miss r c may =
-      let inside = Contains-permutation world.rules.barriers (barriers_of (scratch runs) anything 0) r (IsPermutation-sym (barriers_of (scratch runs) anything 0) world.rules.barriers knows.barriers) c in
-      (chooses.barrier (table_of world.rules) r holds may inside, sym (ap (λ b. cond b 1 0) (any_fits k (rules_of (scratch runs)) r (holds.only r may.there) may.fitting)))
+      let inside = Contains-permutation world.rules.barriers (barriers_of (scratch traces) anything 0) r (IsPermutation-sym (barriers_of (scratch traces) anything 0) world.rules.barriers knows.barriers) c in
+      (chooses.barrier (table_of world.rules) r holds may inside, sym (ap (λ b. cond b 1 0) (any_fits k (rules_of (scratch traces)) r (holds.only r may.there) may.fitting)))
 
   -- no rule is a miss with reason 0
-  pub unfit_miss : NoneFits (table_of world.rules) k → (found runs k ≡ None) × (0 ≡ reason policy budget runs k)
-  unfit_miss h = (chooses.unfit (table_of world.rules) holds h, sym (ap (λ b. cond b 1 0) (none_any k (rules_of (scratch runs)) (λ r c. h r (holds.all r c)))))
+  pub unfit_miss : NoneFits (table_of world.rules) k → (found traces k ≡ None) × (0 ≡ reason policy budget traces k)
+  unfit_miss h = (chooses.unfit (table_of world.rules) holds h, sym (ap (λ b. cond b 1 0) (none_any k (rules_of (scratch traces)) (λ r c. h r (holds.all r c)))))
 
   -- a miss and its answer
-  pub miss_step : (world' : World) (seen : ℕ) (old mid new : List ℕ) → (found runs k ≡ None) × (seen ≡ reason policy budget runs k) → mid ≡ old ++ spelled (Miss 1 k.in_port seen)
-      → (new ≡ mid ++ text_of (answered policy budget runs k (plain policy budget k))) × Knows policy budget (learned policy budget runs k (plain policy budget k)) world'
-      → (new ≡ old ++ text_of (said policy budget runs k (found runs k))) × Knows policy budget (after policy budget runs k (found runs k)) world'
+  pub miss_step : (world' : World) (seen : ℕ) (old mid new : List ℕ) → (found traces k ≡ None) × (seen ≡ reason policy budget traces k) → mid ≡ old ++ spelled (Miss 1 k.in_port seen)
+      → (new ≡ mid ++ text_of (answered policy budget traces k (plain policy budget k))) × Knows policy budget (learned policy budget traces k (plain policy budget k)) world'
+      → (new ≡ old ++ text_of (said policy budget traces k (found traces k))) × Knows policy budget (after policy budget traces k (found traces k)) world'
   miss_step world' seen old mid new miss e h =
-      let front : mid ≡ old ++ spelled (Miss 1 k.in_port (reason policy budget runs k)) = e ∙ ap (λ n. old ++ spelled (Miss 1 k.in_port n)) miss.1 in
-      let line : new ≡ old ++ text_of (said policy budget runs k None) = h.0 ∙ ap (λ t. t ++ text_of (answered policy budget runs k (plain policy budget k))) front ∙ append_assoc old (spelled (Miss 1 k.in_port (reason policy budget runs k))) (text_of (answered policy budget runs k (plain policy budget k))) in
-      subst (λ o. (new ≡ old ++ text_of (said policy budget runs k o)) × Knows policy budget (after policy budget runs k o) world') (sym miss.0) (line, h.1)
+      let front : mid ≡ old ++ spelled (Miss 1 k.in_port (reason policy budget traces k)) = e ∙ ap (λ n. old ++ spelled (Miss 1 k.in_port n)) miss.1 in
+      let line : new ≡ old ++ text_of (said policy budget traces k None) = h.0 ∙ ap (λ t. t ++ text_of (answered policy budget traces k (plain policy budget k))) front ∙ append_assoc old (spelled (Miss 1 k.in_port (reason policy budget traces k))) (text_of (answered policy budget traces k (plain policy budget k))) in
+      subst (λ o. (new ≡ old ++ text_of (said policy budget traces k o)) × Knows policy budget (after policy budget traces k o) world') (sym miss.0) (line, h.1)
 
   pub ordered : IsOrdered world.tree
-  ordered = subst IsOrdered (sym knows.tree) (grown_ordered runs Empty tt)
+  ordered = subst IsOrdered (sym knows.tree) (grown_ordered traces Empty tt)
 
   -- the key's own run, as the next
   abbrev pub next : Trace
-  next = run_of policy budget (length runs + 1) k
+  next = own_trace policy budget (length traces + 1) k
 
-  pub few : rules_needed world.tree ≤ 1024
-  few = subst (λ t. rules_needed t ≤ 1024) (sym knows.tree) knows.room
+  pub few : rules_needed world.tree ≤ switch_rows
+  few = subst (λ t. rules_needed t ≤ switch_rows) (sym knows.tree) knows.room
 
-  pub leaves_few : leaves_of world.tree ≤ 1024
+  pub leaves_few : leaves_of world.tree ≤ switch_rows
   leaves_few = let a = few in let b = few_leaves world.tree in let c = needed_count world.tree in omega (arith, a, b, c)
 
-  pub leaves_are : leaves_of world.tree ≡ length runs
-  leaves_are = let e = ap leaves_of knows.tree in let h = leaves_grown runs Empty admitted in omega (arith, e, h)
+  pub leaves_are : leaves_of world.tree ≡ length traces
+  leaves_are = let e = ap leaves_of knows.tree in let h = leaves_grown traces Empty admitted in omega (arith, e, h)
 
   pub next_within : items_within next.items ≡ true
   next_within = within_items next.items (asks_within policy budget k valid)
@@ -235,41 +236,41 @@ module _ (policy : Policy) (budget : ℕ) (runs : List Trace) (world : World) (k
   pub next_once : asks_once [] next.items ≡ true
   next_once = asks_once_only policy budget k valid
 
-  module _ (unfound : found runs k ≡ None) where
+  module _ (unfound : found traces k ≡ None) where
     pub next_admitted : admits next.items world.tree ≡ true
-    next_admitted = ap (admits next.items) knows.tree ∙ admitted_scratch runs next knows.apart (clashes_none policy budget runs k knows.own unfound)
+    next_admitted = ap (admits next.items) knows.tree ∙ admitted_scratch traces next knows.apart (clashes_none policy budget traces k knows.own unfound)
 
-    pub grows : insert next.items (leaf_of next) world.tree ≡ scratch (with_run policy budget runs k)
-    grows = ap (insert next.items (leaf_of next)) knows.tree ∙ sym (grown_push runs Empty next)
+    pub grows : insert next.items (leaf_of next) world.tree ≡ scratch (with_trace policy budget traces k)
+    grows = ap (insert next.items (leaf_of next)) knows.tree ∙ sym (grown_push traces Empty next)
 
     pub spent_step : (old new : List ℕ) → plain policy budget k ≡ Spent → new ≡ old ++ spelled (SpentRun 1 k.in_port)
-        → (new ≡ old ++ text_of (answered policy budget runs k (plain policy budget k))) × Knows policy budget (learned policy budget runs k (plain policy budget k)) world
+        → (new ≡ old ++ text_of (answered policy budget traces k (plain policy budget k))) × Knows policy budget (learned policy budget traces k (plain policy budget k)) world
     spent_step old new o e =
-        subst (λ x. (new ≡ old ++ text_of (answered policy budget runs k x)) × Knows policy budget (learned policy budget runs k x) world) (sym o)
+        subst (λ x. (new ≡ old ++ text_of (answered policy budget traces k x)) × Knows policy budget (learned policy budget traces k x) world) (sym o)
         (e ∙ ap (λ t. old ++ t) (sym (append-nil (spelled (SpentRun 1 k.in_port)))), knows)
 
     module _ (d : Decision) (o : plain policy budget k ≡ Decided d) where
       abbrev Answered : List ℕ → List ℕ → World → Type 0
-      Answered old new world' = (new ≡ old ++ text_of (answered policy budget runs k (plain policy budget k))) × Knows policy budget (learned policy budget runs k (plain policy budget k)) world'
+      Answered old new world' = (new ≡ old ++ text_of (answered policy budget traces k (plain policy budget k))) × Knows policy budget (learned policy budget traces k (plain policy budget k)) world'
 
-      pub full_step : (old new : List ℕ) → nat_lt 1024 (need policy budget runs k) ≡ true → new ≡ old ++ spelled (Answer 1 k.in_port d (Rows (need policy budget runs k) 1024)) → Answered old new world
+      pub full_step : (old new : List ℕ) → nat_lt switch_rows (need policy budget traces k) ≡ true → new ≡ old ++ spelled (Answer 1 k.in_port d (Rows (need policy budget traces k) switch_rows)) → Answered old new world
       full_step old new lacks e =
-          subst (λ x. (new ≡ old ++ text_of (answered policy budget runs k x)) × Knows policy budget (learned policy budget runs k x) world) (sym o)
-          (subst (λ b. (new ≡ old ++ text_of (Answer 1 k.in_port d (cond b (Rows (need policy budget runs k) 1024) Learned) ∷ [])) × Knows policy budget (cond b runs (with_run policy budget runs k)) world) (sym lacks)
-          (e ∙ ap (λ t. old ++ t) (sym (append-nil (spelled (Answer 1 k.in_port d (Rows (need policy budget runs k) 1024))))), knows))
+          subst (λ x. (new ≡ old ++ text_of (answered policy budget traces k x)) × Knows policy budget (learned policy budget traces k x) world) (sym o)
+          (subst (λ b. (new ≡ old ++ text_of (Answer 1 k.in_port d (cond b (Rows (need policy budget traces k) switch_rows) Learned) ∷ [])) × Knows policy budget (cond b traces (with_trace policy budget traces k)) world) (sym lacks)
+          (e ∙ ap (λ t. old ++ t) (sym (append-nil (spelled (Answer 1 k.in_port d (Rows (need policy budget traces k) switch_rows))))), knows))
 
-      pub learned_step : (world' : World) (old new : List ℕ) → nat_lt 1024 (need policy budget runs k) ≡ false → new ≡ old ++ spelled (Answer 1 k.in_port d Learned)
+      pub learned_step : (world' : World) (old new : List ℕ) → nat_lt switch_rows (need policy budget traces k) ≡ false → new ≡ old ++ spelled (Answer 1 k.in_port d Learned)
           → world'.tree ≡ insert next.items (leaf_of next) world.tree → IsPermutation (facts_of world'.tree anything 0) world'.rules.facts → IsPermutation (barriers_of world'.tree anything 0) world'.rules.barriers
           → Answered old new world'
       learned_step world' old new fits_in e is facts barriers =
-          subst (λ x. (new ≡ old ++ text_of (answered policy budget runs k x)) × Knows policy budget (learned policy budget runs k x) world') (sym o)
-          (subst (λ b. (new ≡ old ++ text_of (Answer 1 k.in_port d (cond b (Rows (need policy budget runs k) 1024) Learned) ∷ [])) × Knows policy budget (cond b runs (with_run policy budget runs k)) world') (sym fits_in) (
+          subst (λ x. (new ≡ old ++ text_of (answered policy budget traces k x)) × Knows policy budget (learned policy budget traces k x) world') (sym o)
+          (subst (λ b. (new ≡ old ++ text_of (Answer 1 k.in_port d (cond b (Rows (need policy budget traces k) switch_rows) Learned) ∷ [])) × Knows policy budget (cond b traces (with_trace policy budget traces k)) world') (sym fits_in) (
             e ∙ ap (λ t. old ++ t) (sym (append-nil (spelled (Answer 1 k.in_port d Learned)))),
             record {
               plainly = knows.plainly;
               steps = knows.steps;
-              own = own_push policy budget runs next knows.own (record { key = k; valid = valid; items = refl; decided = evaluated ∙ o ∙ ap Decided (sym same) });
-              apart = apart_push runs next knows.apart (clashes_none policy budget runs k knows.own unfound);
+              own = own_push policy budget traces next knows.own (record { key = k; valid = valid; items = refl; decided = evaluated ∙ o ∙ ap Decided (sym same) });
+              apart = apart_push traces next knows.apart (clashes_none policy budget traces k knows.own unfound);
               tree = is ∙ grows;
               facts = subst (λ t. IsPermutation (facts_of t anything 0) world'.rules.facts) (is ∙ grows) facts;
               barriers = subst (λ t. IsPermutation (barriers_of t anything 0) world'.rules.barriers) (is ∙ grows) barriers;
@@ -280,5 +281,5 @@ module _ (policy : Policy) (budget : ℕ) (runs : List Trace) (world : World) (k
           same : next.decision ≡ d
           same = ap decided (evaluated ∙ o)
 
-          at_most : need policy budget runs k ≤ 1024
-          at_most = not_more (need policy budget runs k) fits_in
+          at_most : need policy budget traces k ≤ switch_rows
+          at_most = not_more (need policy budget traces k) fits_in

@@ -1,7 +1,7 @@
 -- What follows for each status from the way in which a run goes.
 use Rattle.std.proofs.Common.{◌≡◌, ℕ, ◌<◌, List, [], length, Option, Some, None, refl, sym, ◌∙◌, subst, inl, inr, arith}
 use Rattle.std.specs.Prelude.{IfSome}
-use Rattle.std.specs.Io.KnownBytes.{Appends}
+use Rattle.maple_io.specs.Views.{SourceView, SinkView, ReadFailed, Wrote}
 use Rattle.policy_lang.specs.declared.Policy.{Policy}
 use Rattle.report_text.specs.declared.line.ScriptRefusal.{ScriptRefusal}
 use Rattle.maple.specs.declared.status.Status.{Status}
@@ -12,42 +12,42 @@ use Rattle.maple.specs.declared.words.Command.{Command}
 use Rattle.maple.specs.Lines.{policy_part}
 use Rattle.maple.specs.Refusals.{IsRefusal}
 use Rattle.maple.specs.Words.{command_of}
-use Rattle.maple.specs.Due.{HasCommand, AreWords, IsFit, HasPolicy, HasNone, IsScript, IsNoScript, IsDue, IsOrFails, IsText, Reports, Refuses, WritesSome, refused, report_text}
-use Rattle.maple.specs.Ends.{Ends, IsGiven, WritesFront}
+use Rattle.maple.specs.Due.{HasCommand, AreWords, most_bytes, IsFit, HasPolicy, HasNone, IsScript, IsNoScript, IsDue, IsOrFails, IsText, Reports, Refuses, WritesSome, BeginsReport, refused, report_text}
+use Rattle.maple.specs.Ends.{Ends, IsGiven, WroteFront}
 use Rattle.maple.specs.Running.{due_of}
 use Rattle.maple.specs.Statuses.{last_line}
 use Rattle.maple.specs.Runs.{IsRunOf, RunsText, refused_words, failed_read, read_too_long, lacked_memory, ran}
 
-given_is : (risen : Type 0) (old new : Option (List ℕ)) (due : Status) (text : List ℕ) (s : Status) → IsGiven s → Ends risen old new due text s → (s ≡ due) × Appends old new text
-given_is risen old new due text Done h e = e
-given_is risen old new due text Usage h e = e
-given_is risen old new due text PolicyRefused h e = e
-given_is risen old new due text Script h e = e
-given_is risen old new due text ReadFault h e = e
-given_is risen old new due text WriteFault h e = absurd h
-given_is risen old new due text NoMemory h e = absurd h
-given_is risen old new due text TooLong h e = e
+given_is : (old new : SinkView) (due : Status) (text : List ℕ) (s : Status) → IsGiven s → Ends old new due text s → (s ≡ due) × Wrote old new text
+given_is old new due text Done h e = e
+given_is old new due text Usage h e = e
+given_is old new due text PolicyRefused h e = e
+given_is old new due text Script h e = e
+given_is old new due text ReadFault h e = e
+given_is old new due text WriteFault h e = absurd h
+given_is old new due text NoMemory h e = absurd h
+given_is old new due text TooLong h e = e
 
 -- what a run of a text that ended with its own status is due and wrote
-abbrev RanAs : List (List ℕ) → Command → Option (List ℕ) → Option (List ℕ) → List ℕ → Status → Type 0
+abbrev RanAs : List (List ℕ) → Command → SinkView → SinkView → List ℕ → Status → Type 0
 RanAs words command old new input PolicyRefused = HasNone command input × Refuses words old new input
 RanAs words command old new input Script = ((policy : Policy) × HasPolicy command policy input) × Reports words old new input × IsNoScript command input
 RanAs words command old new input Done = ((policy : Policy) × HasPolicy command policy input) × Reports words old new input × IsScript command input
 RanAs words command old new input s = ⊥
 
-ran_as : (risen : Type 0) (words : List (List ℕ)) (command : Command) → HasCommand command words → (old new : Option (List ℕ)) (input : List ℕ) (s : Status) → IsGiven s → RunsText risen old new command input s → RanAs words command old new input s
-ran_as risen words command w old new input s h (inl (policy, has, e)) =
-    let g = given_is risen old new (due_of (refused command input)) (report_text policy command input) s h e in ran_by (refused command input) refl g.0 g.1
+ran_as : (words : List (List ℕ)) (command : Command) → HasCommand command words → (old new : SinkView) (input : List ℕ) (s : Status) → IsGiven s → RunsText old new command input s → RanAs words command old new input s
+ran_as words command w old new input s h (inl (policy, has, e)) =
+    let g = given_is old new (due_of (refused command input)) (report_text policy command input) s h e in ran_by (refused command input) refl g.0 g.1
   where
-    reports : Appends old new (report_text policy command input) → Reports words old new input
+    reports : Wrote old new (report_text policy command input) → Reports words old new input
     reports a = (report_text policy command input, (command, w, policy, has, refl), a)
 
-    ran_by : (o : Option (ℕ × ScriptRefusal)) → refused command input ≡ o → s ≡ due_of o → Appends old new (report_text policy command input) → RanAs words command old new input s
+    ran_by : (o : Option (ℕ × ScriptRefusal)) → refused command input ≡ o → s ≡ due_of o → Wrote old new (report_text policy command input) → RanAs words command old new input s
     ran_by None is d a = subst (RanAs words command old new input) (sym d) ((policy, has), reports a, is)
     ran_by (Some r) is d a = subst (RanAs words command old new input) (sym d) ((policy, has), reports a, (r, is))
-ran_as risen words command w old new input s h (inr (inl (n, l, is, e))) =
-    let g = given_is risen old new PolicyRefused (spelled l) s h e in subst (RanAs words command old new input) (sym g.0) (n, (spelled l, (command, w, l, is, refl), g.1))
-ran_as risen words command w old new input s h (inr (inr (e, a))) = absurd (subst IsGiven e h)
+ran_as words command w old new input s h (inr (inl (n, l, is, e))) =
+    let g = given_is old new PolicyRefused (spelled l) s h e in subst (RanAs words command old new input) (sym g.0) (n, (spelled l, (command, w, l, is, refl), g.1))
+ran_as words command w old new input s h (inr (inr (e, a))) = absurd (subst IsGiven e h)
 
 if_told : (left : Option (List ℕ)) (P : List ℕ → Type 0) → ((bytes : List ℕ) → left ≡ Some bytes → P bytes) → IfSome left P
 if_told None P h = tt
@@ -57,41 +57,41 @@ told : (left : Option (List ℕ)) (P : List ℕ → Type 0) (bytes : List ℕ) �
 told None P bytes e h = absurd (cc)
 told (Some xs) P bytes e h = let same : xs ≡ bytes = cc in subst P same h
 
-module _ (left rest : Option (List ℕ)) (unread risen : Type 0) (old new : Option (List ℕ)) (words : List (List ℕ)) where
+module _ (before after : SourceView) (old new : SinkView) (words : List (List ℕ)) where
   abbrev Run : Status → Type 0
-  Run s = IsRunOf left rest unread risen old new words s
+  Run s = IsRunOf before after old new words s
 
   -- the whole input was run by the words' command
   abbrev RanWhole : List ℕ → Status → Type 0
   RanWhole bytes s = IsFit bytes × (command : Command) × HasCommand command words × RanAs words command old new bytes s
 
   -- a run that ended with its own status behind the reading ran the whole input
-  ran_whole : (s : Status) → IsGiven s → (s ≡ Usage → ⊥) → (s ≡ ReadFault → ⊥) → (s ≡ TooLong → ⊥) → Run s → (bytes : List ℕ) → left ≡ Some bytes → RanWhole bytes s
-  ran_whole s g u r l (refused_words n e) bytes is = absurd (u (given_is risen old new Usage (last_line Usage) s g e).0)
-  ran_whole s g u r l (failed_read w h e) bytes is = absurd (r (given_is risen old new ReadFault (last_line ReadFault) s g e).0)
-  ran_whole s g u r l (read_too_long w h e) bytes is = absurd (l (given_is risen old new TooLong (last_line TooLong) s g e).0)
+  ran_whole : (s : Status) → IsGiven s → (s ≡ Usage → ⊥) → (s ≡ ReadFault → ⊥) → (s ≡ TooLong → ⊥) → Run s → (bytes : List ℕ) → before.left ≡ Some bytes → RanWhole bytes s
+  ran_whole s g u r l (refused_words n e) bytes is = absurd (u (given_is old new Usage (last_line Usage) s g e).0)
+  ran_whole s g u r l (failed_read w h e) bytes is = absurd (r (given_is old new ReadFault (last_line ReadFault) s g e).0)
+  ran_whole s g u r l (read_too_long w h e) bytes is = absurd (l (given_is old new TooLong (last_line TooLong) s g e).0)
   ran_whole s g u r l (lacked_memory w e a) bytes is = absurd (subst IsGiven e g)
   ran_whole s g u r l (ran command w input fit same end text) bytes is =
-      let e : input ≡ bytes = told left (λ b. input ≡ b) bytes is same in
-      (subst IsFit e fit, command, w, subst (λ x. RanAs words command old new x s) e (ran_as risen words command w old new input s g text))
+      let e : input ≡ bytes = told before.left (λ b. input ≡ b) bytes is same in
+      (subst IsFit e fit, command, w, subst (λ x. RanAs words command old new x s) e (ran_as words command w old new input s g text))
 
-  pub policy_due : Run PolicyRefused → IfSome left (λ bytes. IsDue PolicyRefused words bytes)
-  policy_due h = if_told left _ (λ bytes is. let (f, command, w, r) = ran_whole PolicyRefused tt (λ e. cc) (λ e. cc) (λ e. cc) h bytes is in (f, command, w, r.0))
+  pub policy_due : Run PolicyRefused → IfSome before.left (λ bytes. IsDue PolicyRefused words bytes)
+  policy_due h = if_told before.left _ (λ bytes is. let (f, command, w, r) = ran_whole PolicyRefused tt (λ e. cc) (λ e. cc) (λ e. cc) h bytes is in (f, command, w, r.0))
 
-  pub policy_told : Run PolicyRefused → IfSome left (λ bytes. Refuses words old new bytes)
-  policy_told h = if_told left _ (λ bytes is. let (f, command, w, r) = ran_whole PolicyRefused tt (λ e. cc) (λ e. cc) (λ e. cc) h bytes is in r.1)
+  pub policy_told : Run PolicyRefused → IfSome before.left (λ bytes. Refuses words old new bytes)
+  policy_told h = if_told before.left _ (λ bytes is. let (f, command, w, r) = ran_whole PolicyRefused tt (λ e. cc) (λ e. cc) (λ e. cc) h bytes is in r.1)
 
-  pub script_due : Run Script → IfSome left (λ bytes. IsDue Script words bytes)
-  script_due h = if_told left _ (λ bytes is. let (f, command, w, r) = ran_whole Script tt (λ e. cc) (λ e. cc) (λ e. cc) h bytes is in (f, command, w, r.0, r.2))
+  pub script_due : Run Script → IfSome before.left (λ bytes. IsDue Script words bytes)
+  script_due h = if_told before.left _ (λ bytes is. let (f, command, w, r) = ran_whole Script tt (λ e. cc) (λ e. cc) (λ e. cc) h bytes is in (f, command, w, r.0, r.2))
 
-  pub script_told : Run Script → IfSome left (λ bytes. Reports words old new bytes)
-  script_told h = if_told left _ (λ bytes is. let (f, command, w, r) = ran_whole Script tt (λ e. cc) (λ e. cc) (λ e. cc) h bytes is in r.1)
+  pub script_told : Run Script → IfSome before.left (λ bytes. Reports words old new bytes)
+  script_told h = if_told before.left _ (λ bytes is. let (f, command, w, r) = ran_whole Script tt (λ e. cc) (λ e. cc) (λ e. cc) h bytes is in r.1)
 
-  pub done_due : Run Done → IfSome left (λ bytes. IsDue Done words bytes)
-  done_due h = if_told left _ (λ bytes is. let (f, command, w, r) = ran_whole Done tt (λ e. cc) (λ e. cc) (λ e. cc) h bytes is in (f, command, w, r.0, r.2))
+  pub done_due : Run Done → IfSome before.left (λ bytes. IsDue Done words bytes)
+  done_due h = if_told before.left _ (λ bytes is. let (f, command, w, r) = ran_whole Done tt (λ e. cc) (λ e. cc) (λ e. cc) h bytes is in (f, command, w, r.0, r.2))
 
-  pub done_told : Run Done → IfSome left (λ bytes. Reports words old new bytes)
-  done_told h = if_told left _ (λ bytes is. let (f, command, w, r) = ran_whole Done tt (λ e. cc) (λ e. cc) (λ e. cc) h bytes is in r.1)
+  pub done_told : Run Done → IfSome before.left (λ bytes. Reports words old new bytes)
+  done_told h = if_told before.left _ (λ bytes is. let (f, command, w, r) = ran_whole Done tt (λ e. cc) (λ e. cc) (λ e. cc) h bytes is in r.1)
 
   ran_due : (command : Command) (s : Status) (bytes : List ℕ) → HasCommand command words → IsFit bytes → RanAs words command old new bytes s → IsDue s words bytes
   ran_due command Done bytes w f r = (f, command, w, r.0, r.2)
@@ -103,15 +103,15 @@ module _ (left rest : Option (List ℕ)) (unread risen : Type 0) (old new : Opti
   ran_due command NoMemory bytes w f r = absurd r
   ran_due command TooLong bytes w f r = absurd r
 
-  result_due : (s : Status) → IsGiven s → (s ≡ ReadFault → ⊥) → Run s → (bytes : List ℕ) → left ≡ Some bytes → IsDue s words bytes
-  result_due s g r (refused_words n e) bytes is = subst (λ x. IsDue x words bytes) (sym (given_is risen old new Usage (last_line Usage) s g e).0) n
-  result_due s g r (failed_read w h e) bytes is = absurd (r (given_is risen old new ReadFault (last_line ReadFault) s g e).0)
+  result_due : (s : Status) → IsGiven s → (s ≡ ReadFault → ⊥) → Run s → (bytes : List ℕ) → before.left ≡ Some bytes → IsDue s words bytes
+  result_due s g r (refused_words n e) bytes is = subst (λ x. IsDue x words bytes) (sym (given_is old new Usage (last_line Usage) s g e).0) n
+  result_due s g r (failed_read w h e) bytes is = absurd (r (given_is old new ReadFault (last_line ReadFault) s g e).0)
   result_due s g r (read_too_long w h e) bytes is =
-      subst (λ x. IsDue x words bytes) (sym (given_is risen old new TooLong (last_line TooLong) s g e).0) (w, told left (λ b. 67108864 < length b) bytes is h)
+      subst (λ x. IsDue x words bytes) (sym (given_is old new TooLong (last_line TooLong) s g e).0) (w, told before.left (λ b. most_bytes < length b) bytes is h)
   result_due s g r (lacked_memory w e a) bytes is = absurd (subst IsGiven e g)
   result_due s g r (ran command w input fit same end text) bytes is =
-      let e : input ≡ bytes = told left (λ b. input ≡ b) bytes is same in
-      ran_due command s bytes w (subst IsFit e fit) (subst (λ x. RanAs words command old new x s) e (ran_as risen words command w old new input s g text))
+      let e : input ≡ bytes = told before.left (λ b. input ≡ b) bytes is same in
+      ran_due command s bytes w (subst IsFit e fit) (subst (λ x. RanAs words command old new x s) e (ran_as words command w old new input s g text))
 
   -- words give one command
   one_command : (c d : Command) → HasCommand c words → HasCommand d words → c ≡ d
@@ -157,7 +157,7 @@ module _ (left rest : Option (List ℕ)) (unread risen : Type 0) (old new : Opti
   due_once bytes s WriteFault d e = absurd e
   due_once bytes s NoMemory d e = absurd e
 
-  exact_for : (result : Status) → Run result → (bytes : List ℕ) → left ≡ Some bytes → (status : Status) → IsDue status words bytes → IsOrFails status result
+  exact_for : (result : Status) → Run result → (bytes : List ℕ) → before.left ≡ Some bytes → (status : Status) → IsDue status words bytes → IsOrFails status result
   exact_for Done h bytes is status d = inl (due_once bytes Done status (result_due Done tt (λ e. cc) h bytes is) d)
   exact_for Usage h bytes is status d = inl (due_once bytes Usage status (result_due Usage tt (λ e. cc) h bytes is) d)
   exact_for PolicyRefused h bytes is status d = inl (due_once bytes PolicyRefused status (result_due PolicyRefused tt (λ e. cc) h bytes is) d)
@@ -167,36 +167,36 @@ module _ (left rest : Option (List ℕ)) (unread risen : Type 0) (old new : Opti
   exact_for NoMemory h bytes is status d = inr (inr (inr refl))
   exact_for TooLong h bytes is status d = inl (due_once bytes TooLong status (result_due TooLong tt (λ e. cc) h bytes is) d)
 
-  pub exact : (result : Status) → Run result → IfSome left (λ bytes. (status : Status) → IsDue status words bytes → IsOrFails status result)
-  exact result h = if_told left _ (exact_for result h)
+  pub exact : (result : Status) → Run result → IfSome before.left (λ bytes. (status : Status) → IsDue status words bytes → IsOrFails status result)
+  exact result h = if_told before.left _ (exact_for result h)
 
-  in_front : (bytes : List ℕ) (status : Status) (text : List ℕ) → IsText unread status words bytes text → WritesFront old new text → WritesSome unread words bytes old new
+  in_front : (bytes : List ℕ) (status : Status) (text : List ℕ) → IsText (ReadFailed before after) status words bytes text → WroteFront old new text → WritesSome (ReadFailed before after) words bytes old new
   in_front bytes status text t (front, is, a) = (front, (status, text, t, is), a)
 
   report_written : (bytes : List ℕ) (policy : Policy) (command : Command) → HasCommand command words → IsFit bytes → HasPolicy command policy bytes
-      → (o : Option (ℕ × ScriptRefusal)) → refused command bytes ≡ o → IsText unread (due_of o) words bytes (report_text policy command bytes)
+      → (o : Option (ℕ × ScriptRefusal)) → refused command bytes ≡ o → IsText (ReadFailed before after) (due_of o) words bytes (report_text policy command bytes)
   report_written bytes policy command w f h None e = ((f, command, w, (policy, h), e), (command, w, policy, h, refl))
   report_written bytes policy command w f h (Some r) e = ((f, command, w, (policy, h), (r, e)), (command, w, policy, h, refl))
 
-  front_of : (s : Status) → ((due : Status) (text : List ℕ) → Ends risen old new due text s → WritesFront old new text) → Run s → (bytes : List ℕ) → left ≡ Some bytes → WritesSome unread words bytes old new
+  front_of : (s : Status) → ((due : Status) (text : List ℕ) → Ends old new due text s → WroteFront old new text) → Run s → (bytes : List ℕ) → before.left ≡ Some bytes → WritesSome (ReadFailed before after) words bytes old new
   front_of s f (refused_words n e) bytes is = in_front bytes Usage (last_line Usage) (n, refl) (f Usage (last_line Usage) e)
   front_of s f (failed_read w u e) bytes is = in_front bytes ReadFault (last_line ReadFault) (w, u, refl) (f ReadFault (last_line ReadFault) e)
   front_of s f (read_too_long w h e) bytes is =
-      in_front bytes TooLong (last_line TooLong) ((w, told left (λ b. 67108864 < length b) bytes is h), refl) (f TooLong (last_line TooLong) e)
+      in_front bytes TooLong (last_line TooLong) ((w, told before.left (λ b. most_bytes < length b) bytes is h), refl) (f TooLong (last_line TooLong) e)
   front_of s f (lacked_memory w e a) bytes is = in_front bytes NoMemory [] refl ([], ([], refl), a)
   front_of s f (ran command w input fit same end text) bytes is =
-      let e : input ≡ bytes = told left (λ b. input ≡ b) bytes is same in
-      run_front bytes (subst IsFit e fit) (subst (λ x. RunsText risen old new command x s) e text)
+      let e : input ≡ bytes = told before.left (λ b. input ≡ b) bytes is same in
+      run_front bytes (subst IsFit e fit) (subst (λ x. RunsText old new command x s) e text)
     where
-      run_front : (bytes : List ℕ) → IsFit bytes → RunsText risen old new command bytes s → WritesSome unread words bytes old new
+      run_front : (bytes : List ℕ) → IsFit bytes → RunsText old new command bytes s → WritesSome (ReadFailed before after) words bytes old new
       run_front bytes fit (inl (policy, has, e)) =
           in_front bytes (due_of (refused command bytes)) (report_text policy command bytes) (report_written bytes policy command w fit has (refused command bytes) refl)
           (f (due_of (refused command bytes)) (report_text policy command bytes) e)
       run_front bytes fit (inr (inl (n, l, is, e))) = in_front bytes PolicyRefused (spelled l) ((fit, command, w, n), (command, w, l, is, refl)) (f PolicyRefused (spelled l) e)
       run_front bytes fit (inr (inr (e, a))) = in_front bytes NoMemory [] refl ([], ([], refl), a)
 
-  pub fault_front : Run WriteFault → IfSome left (λ bytes. WritesSome unread words bytes old new)
-  fault_front h = if_told left _ (front_of WriteFault (λ due text e. e.1) h)
+  pub fault_front : Run WriteFault → BeginsReport words before after old new
+  fault_front h = if_told before.left _ (front_of WriteFault (λ due text e. e.1) h)
 
-  pub memory_front : Run NoMemory → IfSome left (λ bytes. WritesSome unread words bytes old new)
-  memory_front h = if_told left _ (front_of NoMemory (λ due text e. e) h)
+  pub memory_front : Run NoMemory → BeginsReport words before after old new
+  memory_front h = if_told before.left _ (front_of NoMemory (λ due text e. e) h)

@@ -1,6 +1,6 @@
 -- Which status a run of the program is due, and what it writes.
-use Rattle.std.specs.Prelude.{◌≡◌, ◌⊎◌, ℕ, ◌<◌, ◌≤◌, true, List, [], length, Option, Some, None}
-use Rattle.std.specs.Io.KnownBytes.{Appends}
+use Rattle.std.specs.Prelude.{◌≡◌, ◌⊎◌, ℕ, ◌<◌, ◌≤◌, true, List, [], length, Option, Some, None, IfSome}
+use Rattle.maple_io.specs.Views.{SourceView, SinkView, ReadFailed, Wrote}
 use Rattle.policy_lang.specs.declared.Policy.{Policy}
 use Rattle.policy_text.specs.Basic.{is_basic}
 use Rattle.maple.specs.declared.status.Status.{Status}
@@ -28,9 +28,13 @@ HasCommand command words = command_of words ≡ Some command
 abbrev pub AreWords : List (List ℕ) → Type 0
 AreWords words = (command : Command) × HasCommand command words
 
--- the input has at most 67,108,864 bytes
+-- the most bytes that an input may have
+abbrev pub most_bytes : ℕ
+most_bytes = 67108864
+
+-- the input has no more
 abbrev pub IsFit : List ℕ → Type 0
-IsFit input = length input ≤ 67108864
+IsFit input = length input ≤ most_bytes
 
 -- the command takes this policy: `check` each, and `sim` each that is basic
 abbrev pub Takes : Command → Policy → Type 0
@@ -66,7 +70,7 @@ report_text policy Check input = policy_text policy
 -- the status that these words and this input are due where no device fails and memory is left: words first, then length, policy and script
 abbrev pub IsDue : Status → List (List ℕ) → List ℕ → Type 0
 IsDue Usage words input = ¬ (AreWords words)
-IsDue TooLong words input = AreWords words × (67108864 < length input)
+IsDue TooLong words input = AreWords words × (most_bytes < length input)
 IsDue PolicyRefused words input = IsFit input × (command : Command) × HasCommand command words × HasNone command input
 IsDue Script words input = IsFit input × (command : Command) × HasCommand command words × ((policy : Policy) × HasPolicy command policy input) × IsNoScript command input
 IsDue Done words input = IsFit input × (command : Command) × HasCommand command words × ((policy : Policy) × HasPolicy command policy input) × IsScript command input
@@ -90,29 +94,41 @@ IsReport words input text = (command : Command) × HasCommand command words × (
 abbrev pub IsRefusalText : List (List ℕ) → List ℕ → List ℕ → Type 0
 IsRefusalText words input text = (command : Command) × HasCommand command words × (l : Line) × IsRefusal command (policy_part input) l × (text ≡ spelled l)
 
--- what is written by a run that ends with this status, where `risen` says that a read failed
+-- what is written by a run that ends with this status, where `unread` says that a read failed
 abbrev pub IsText : Type 0 → Status → List (List ℕ) → List ℕ → List ℕ → Type 0
-IsText risen Usage words input text = IsDue Usage words input × (text ≡ last_line Usage)
-IsText risen TooLong words input text = IsDue TooLong words input × (text ≡ last_line TooLong)
-IsText risen PolicyRefused words input text = IsDue PolicyRefused words input × IsRefusalText words input text
-IsText risen Script words input text = IsDue Script words input × IsReport words input text
-IsText risen Done words input text = IsDue Done words input × IsReport words input text
-IsText risen ReadFault words input text = AreWords words × risen × (text ≡ last_line ReadFault)
-IsText risen WriteFault words input text = text ≡ []
-IsText risen NoMemory words input text = text ≡ []
+IsText unread Usage words input text = IsDue Usage words input × (text ≡ last_line Usage)
+IsText unread TooLong words input text = IsDue TooLong words input × (text ≡ last_line TooLong)
+IsText unread PolicyRefused words input text = IsDue PolicyRefused words input × IsRefusalText words input text
+IsText unread Script words input text = IsDue Script words input × IsReport words input text
+IsText unread Done words input text = IsDue Done words input × IsReport words input text
+IsText unread ReadFault words input text = AreWords words × unread × (text ≡ last_line ReadFault)
+IsText unread WriteFault words input text = text ≡ []
+IsText unread NoMemory words input text = text ≡ []
 
 -- a front of what some run on this input writes
 abbrev pub IsFrontOfText : Type 0 → List (List ℕ) → List ℕ → List ℕ → Type 0
-IsFrontOfText risen words input front = (status : Status) × (text : List ℕ) × IsText risen status words input text × IsFront front text
+IsFrontOfText unread words input front = (status : Status) × (text : List ℕ) × IsText unread status words input text × IsFront front text
 
 -- what the command writes of the input's policy was written
-abbrev pub Reports : List (List ℕ) → Option (List ℕ) → Option (List ℕ) → List ℕ → Type 0
-Reports words old new input = (text : List ℕ) × IsReport words input text × Appends old new text
+abbrev pub Reports : List (List ℕ) → SinkView → SinkView → List ℕ → Type 0
+Reports words old new input = (text : List ℕ) × IsReport words input text × Wrote old new text
 
 -- the line was written by which the command refuses the input's policy
-abbrev pub Refuses : List (List ℕ) → Option (List ℕ) → Option (List ℕ) → List ℕ → Type 0
-Refuses words old new input = (text : List ℕ) × IsRefusalText words input text × Appends old new text
+abbrev pub Refuses : List (List ℕ) → SinkView → SinkView → List ℕ → Type 0
+Refuses words old new input = (text : List ℕ) × IsRefusalText words input text × Wrote old new text
 
 -- a front of what some run on this input writes was written
-abbrev pub WritesSome : Type 0 → List (List ℕ) → List ℕ → Option (List ℕ) → Option (List ℕ) → Type 0
-WritesSome risen words input old new = (front : List ℕ) × IsFrontOfText risen words input front × Appends old new front
+abbrev pub WritesSome : Type 0 → List (List ℕ) → List ℕ → SinkView → SinkView → Type 0
+WritesSome unread words input old new = (front : List ℕ) × IsFrontOfText unread words input front × Wrote old new front
+
+-- of the input that the source told ahead of the run: the report of its policy was written
+abbrev pub WritesReport : List (List ℕ) → SourceView → SinkView → SinkView → Type 0
+WritesReport words before old new = IfSome before.left (λ bytes. Reports words old new bytes)
+
+-- the line that refuses its policy was written
+abbrev pub WritesRefusal : List (List ℕ) → SourceView → SinkView → SinkView → Type 0
+WritesRefusal words before old new = IfSome before.left (λ bytes. Refuses words old new bytes)
+
+-- a front of what some run on it writes was written
+abbrev pub BeginsReport : List (List ℕ) → SourceView → SourceView → SinkView → SinkView → Type 0
+BeginsReport words before after old new = IfSome before.left (λ bytes. WritesSome (ReadFailed before after) words bytes old new)

@@ -1,4 +1,4 @@
--- The report of a script: what one switch and its controller do with each frame, as runs are learned.
+-- The report of a script: what one switch and its controller do with each frame, as traces are learned.
 use Rattle.std.specs.Prelude.{ℕ, ◌+◌, Bool, nat_lt, if◌then◌else◌, List, [], ◌∷◌, ◌++◌, length, Option, Some, None, Result, Ok, Err}
 use Rattle.std.specs.List.{list_any}
 use Rattle.maple_base.specs.declared.key.Key.{Key}
@@ -10,8 +10,7 @@ use Rattle.maple_base.specs.Choice.{fits}
 use Rattle.maple_base.specs.Decisions.{actions_at}
 use Rattle.maple_base.specs.Kinds.{blank_value}
 use Rattle.packet_key.specs.declared.malformed.Malformed.{Malformed as Fault}
-use Rattle.packet_key.specs.declared.malformed.Malformed.TheVariants.{Ethernet, Tag, Ip, Transport}
-use Rattle.packet_key.specs.Frames.{key_of}
+use Rattle.packet_key.specs.Frames.{key_of, fault_number}
 use Rattle.policy_lang.specs.declared.Policy.{Policy}
 use Rattle.policy_lang.specs.Evaluation.{eval_of}
 use Rattle.policy_lang.specs.Courses.{course_of, items_of, outcome_at}
@@ -35,12 +34,9 @@ abbrev pub decided : Outcome → Decision
 decided (Decided d) = d
 decided Spent = Drop
 
--- the number of a frame's fault
-abbrev pub fault_number : Fault → ℕ
-fault_number Ethernet = 1
-fault_number Tag = 2
-fault_number Ip = 3
-fault_number Transport = 4
+-- how many rules the switch has room for
+abbrev pub switch_rows : ℕ
+switch_rows = 1024
 
 -- what the switch does by an outcome
 abbrev pub outcome_actions : Outcome → List ℕ
@@ -51,68 +47,68 @@ module _ (policy : Policy) (budget : ℕ) where
   abbrev pub plain : Key → Outcome
   plain k = eval_of policy budget blank_value 1 k
 
-  -- the run of the policy on a key, as the nth
-  abbrev pub run_of : ℕ → Key → Trace
-  run_of n k = record { number = n; items = items_of (course_of policy budget) k; cells = []; decision = decided (outcome_at (course_of policy budget) k) }
+  -- the trace of the policy's run on a key, as the nth
+  abbrev pub own_trace : ℕ → Key → Trace
+  own_trace n k = record { number = n; items = items_of (course_of policy budget) k; cells = []; decision = decided (outcome_at (course_of policy budget) k) }
 
-  -- the runs with the key's own behind them
-  abbrev pub with_run : List Trace → Key → List Trace
-  with_run runs k = runs ++ run_of (length runs + 1) k ∷ []
+  -- the traces with the key's own behind them
+  abbrev pub with_trace : List Trace → Key → List Trace
+  with_trace traces k = traces ++ own_trace (length traces + 1) k ∷ []
 
-  -- how many rules the tree with the key's run needs
+  -- how many rules the tree with the key's trace needs
   abbrev pub need : List Trace → Key → ℕ
-  need runs k = rules_needed (scratch (with_run runs k))
+  need traces k = rules_needed (scratch (with_trace traces k))
 
   -- whether there is no room for them
   abbrev pub lacks_room : List Trace → Key → Bool
-  lacks_room runs k = nat_lt 1024 (need runs k)
+  lacks_room traces k = nat_lt switch_rows (need traces k)
 
   -- 1 where a rule of the tree fits the key, which then sends to the controller, and else 0
   abbrev pub reason : List Trace → Key → ℕ
-  reason runs k = if list_any (λ r. fits r k) (rules_of (scratch runs)) then 1 else 0
+  reason traces k = if list_any (λ r. fits r k) (rules_of (scratch traces)) then 1 else 0
 
   abbrev pub learnt : List Trace → Key → Learnt
-  learnt runs k = if lacks_room runs k then Rows (need runs k) 1024 else Learned
+  learnt traces k = if lacks_room traces k then Rows (need traces k) switch_rows else Learned
 
   abbrev pub answered : List Trace → Key → Outcome → List Line
-  answered runs k (Decided d) = Answer 1 k.in_port d (learnt runs k) ∷ []
-  answered runs k Spent = SpentRun 1 k.in_port ∷ []
+  answered traces k (Decided d) = Answer 1 k.in_port d (learnt traces k) ∷ []
+  answered traces k Spent = SpentRun 1 k.in_port ∷ []
 
-  -- the lines of a packet, where these runs were learned before
+  -- the lines of a packet, where these traces were learned before
   abbrev pub said : List Trace → Key → Option Trace → List Line
-  said runs k (Some run) = Hit 1 k.in_port (outcome_actions (plain k)) ∷ []
-  said runs k None = Miss 1 k.in_port (reason runs k) ∷ answered runs k (plain k)
+  said traces k (Some trace) = Hit 1 k.in_port (outcome_actions (plain k)) ∷ []
+  said traces k None = Miss 1 k.in_port (reason traces k) ∷ answered traces k (plain k)
 
   abbrev pub learned : List Trace → Key → Outcome → List Trace
-  learned runs k (Decided d) = if lacks_room runs k then runs else with_run runs k
-  learned runs k Spent = runs
+  learned traces k (Decided d) = if lacks_room traces k then traces else with_trace traces k
+  learned traces k Spent = traces
 
-  -- the runs behind a packet
+  -- the traces behind a packet
   abbrev pub after : List Trace → Key → Option Trace → List Trace
-  after runs k (Some run) = runs
-  after runs k None = learned runs k (plain k)
+  after traces k (Some trace) = traces
+  after traces k None = learned traces k (plain k)
 
   -- the lines of a frame at this port, by its key or its fault
   abbrev pub arrival_said : List Trace → ℕ → Result Key Fault → List Line
-  arrival_said runs port (Ok k) = said runs k (found runs k)
-  arrival_said runs port (Err fault) = Miss 1 port 0 ∷ Malformed 1 (fault_number fault) ∷ []
+  arrival_said traces port (Ok k) = said traces k (found traces k)
+  arrival_said traces port (Err fault) = Miss 1 port 0 ∷ Malformed 1 (fault_number fault) ∷ []
 
-  -- the runs behind it
+  -- the traces behind it
   abbrev pub arrival_after : List Trace → Result Key Fault → List Trace
-  arrival_after runs (Ok k) = after runs k (found runs k)
-  arrival_after runs (Err fault) = runs
+  arrival_after traces (Ok k) = after traces k (found traces k)
+  arrival_after traces (Err fault) = traces
 
-  -- the lines of a step of the script, where these runs were learned before
+  -- the lines of a step of the script, where these traces were learned before
   abbrev pub step_said : List Trace → Step → List Line
-  step_said runs Silent = []
-  step_said runs (Arrival port bytes) = arrival_said runs port (key_of port bytes)
+  step_said traces Silent = []
+  step_said traces (Arrival port bytes) = arrival_said traces port (key_of port bytes)
 
-  -- the runs behind a step
+  -- the traces behind a step
   abbrev pub step_after : List Trace → Step → List Trace
-  step_after runs Silent = runs
-  step_after runs (Arrival port bytes) = arrival_after runs (key_of port bytes)
+  step_after traces Silent = traces
+  step_after traces (Arrival port bytes) = arrival_after traces (key_of port bytes)
 
-  -- the lines of steps, where these runs were learned before
+  -- the lines of steps, where these traces were learned before
   abbrev pub report : List Trace → List Step → List Line
-  report runs [] = []
-  report runs (s ∷ ss) = step_said runs s ++ report (step_after runs s) ss
+  report traces [] = []
+  report traces (s ∷ ss) = step_said traces s ++ report (step_after traces s) ss

@@ -1,6 +1,7 @@
 -- The ways in which a run of the program goes.
 use Rattle.std.specs.Prelude.{◌≡◌, ◌⊎◌, ℕ, ◌<◌, true, false, List, [], length, Option, IfSome}
-use Rattle.std.specs.Io.KnownBytes.{Appends, IsAtEnd}
+use Rattle.std.specs.Io.KnownBytes.{IsAtEnd}
+use Rattle.maple_io.specs.Views.{SourceView, SinkView, ReadFailed, Wrote}
 use Rattle.policy_lang.specs.declared.Policy.{Policy}
 use Rattle.policy_text.specs.Basic.{is_basic}
 use Rattle.maple.specs.declared.status.Status.{Status}
@@ -10,7 +11,7 @@ use Rattle.report_text.specs.declared.line.Line.{Line}
 use Rattle.report_text.specs.declared.line.Line.TheVariants.{RefusedPolicy}
 use Rattle.report_text.specs.declared.line.PolicyRefusal.TheVariants.{Later}
 use Rattle.report_text.specs.Report.{spelled}
-use Rattle.maple.specs.Due.{HasCommand, AreWords, IsFit, HasPolicy, HasNone, refused, report_text}
+use Rattle.maple.specs.Due.{HasCommand, AreWords, most_bytes, IsFit, HasPolicy, HasNone, refused, report_text}
 use Rattle.maple.specs.Ends.{Ends}
 use Rattle.maple.specs.Lines.{policy_part}
 use Rattle.maple.specs.Refusals.{IsRefusal}
@@ -19,21 +20,21 @@ use Rattle.maple.specs.Steps.{refused_from}
 use Rattle.maple.specs.Statuses.{last_line}
 
 -- a script, whose first line has this number, runs under a basic policy, and another policy is refused
-abbrev pub Sims : Type 0 → Option (List ℕ) → Option (List ℕ) → Policy → ℕ → ℕ → List (List ℕ) → Status → Type 0
-Sims risen old new policy budget first lines result =
-    ((is_basic policy ≡ true) × Ends risen old new (due_of (refused_from first lines)) (told_of policy budget [] first lines) result)
-    ⊎ ((is_basic policy ≡ false) × Ends risen old new PolicyRefused (spelled (RefusedPolicy 1 1 Later)) result)
+abbrev pub Sims : SinkView → SinkView → Policy → ℕ → ℕ → List (List ℕ) → Status → Type 0
+Sims old new policy budget first lines result =
+    ((is_basic policy ≡ true) × Ends old new (due_of (refused_from first lines)) (told_of policy budget [] first lines) result)
+    ⊎ ((is_basic policy ≡ false) × Ends old new PolicyRefused (spelled (RefusedPolicy 1 1 Later)) result)
 
 -- an input that was read runs by its policy, has none that the command takes, or finds no memory for it
-abbrev pub RunsText : Type 0 → Option (List ℕ) → Option (List ℕ) → Command → List ℕ → Status → Type 0
-RunsText risen old new command input result =
-    ((policy : Policy) × HasPolicy command policy input × Ends risen old new (due_of (refused command input)) (report_text policy command input) result)
-    ⊎ ((HasNone command input × (l : Line) × IsRefusal command (policy_part input) l × Ends risen old new PolicyRefused (spelled l) result) ⊎ ((result ≡ NoMemory) × Appends old new []))
+abbrev pub RunsText : SinkView → SinkView → Command → List ℕ → Status → Type 0
+RunsText old new command input result =
+    ((policy : Policy) × HasPolicy command policy input × Ends old new (due_of (refused command input)) (report_text policy command input) result)
+    ⊎ ((HasNone command input × (l : Line) × IsRefusal command (policy_part input) l × Ends old new PolicyRefused (spelled l) result) ⊎ ((result ≡ NoMemory) × Wrote old new []))
 
 -- a run whose words are refused, whose input can't be read, is too long or finds no memory, or which runs the input that was read
-pub data IsRunOf (left rest : Option (List ℕ)) (unread risen : Type 0) (old new : Option (List ℕ)) (words : List (List ℕ)) (result : Status) : Type 0 where
-  refused_words : ¬ (AreWords words) → Ends risen old new Usage (last_line Usage) result → IsRunOf left rest unread risen old new words result
-  failed_read : AreWords words → unread → Ends risen old new ReadFault (last_line ReadFault) result → IsRunOf left rest unread risen old new words result
-  read_too_long : AreWords words → IfSome left (λ bytes. 67108864 < length bytes) → Ends risen old new TooLong (last_line TooLong) result → IsRunOf left rest unread risen old new words result
-  lacked_memory : AreWords words → result ≡ NoMemory → Appends old new [] → IsRunOf left rest unread risen old new words result
-  ran : (command : Command) → HasCommand command words → (input : List ℕ) → IsFit input → IfSome left (λ bytes. input ≡ bytes) → IfSome left (λ bytes. IsAtEnd rest) → RunsText risen old new command input result → IsRunOf left rest unread risen old new words result
+pub data IsRunOf (before after : SourceView) (old new : SinkView) (words : List (List ℕ)) (result : Status) : Type 0 where
+  refused_words : ¬ (AreWords words) → Ends old new Usage (last_line Usage) result → IsRunOf before after old new words result
+  failed_read : AreWords words → ReadFailed before after → Ends old new ReadFault (last_line ReadFault) result → IsRunOf before after old new words result
+  read_too_long : AreWords words → IfSome before.left (λ bytes. most_bytes < length bytes) → Ends old new TooLong (last_line TooLong) result → IsRunOf before after old new words result
+  lacked_memory : AreWords words → result ≡ NoMemory → Wrote old new [] → IsRunOf before after old new words result
+  ran : (command : Command) → HasCommand command words → (input : List ℕ) → IsFit input → IfSome before.left (λ bytes. input ≡ bytes) → IfSome before.left (λ bytes. IsAtEnd after.left) → RunsText old new command input result → IsRunOf before after old new words result

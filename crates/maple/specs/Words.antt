@@ -2,14 +2,15 @@
 use Rattle.std.specs.Prelude.{ℕ, ◌&&◌, ◌==◌, nat_le, if◌then◌else◌, List, [], ◌∷◌, length, Option, Some, None, codes}
 use Rattle.std.specs.Option.{option_and_then, option_map}
 use Rattle.std.specs.Str.{bytes_eq}
-use Rattle.maple_base.specs.Numbers.{number_of}
+use Rattle.maple_base.specs.Limits.{most_budget}
+use Rattle.maple_text.specs.Numbers.{number_of}
 use Rattle.policy_eval.specs.Answers.{IsBudget}
 use Rattle.maple.specs.declared.words.Command.{Command}
 use Rattle.maple.specs.declared.words.Command.TheVariants.{Sim, Check}
 
 -- the number, where it is within the limits of a budget
 abbrev pub within_budget : ℕ → Option ℕ
-within_budget n = if nat_le 1 n && nat_le n 65536 then Some n else None
+within_budget n = if nat_le 1 n && nat_le n most_budget then Some n else None
 
 -- the budget that a value spells: 1 to 20 decimal digits, of which the number is 1 to 65,536
 abbrev pub budget_value : List ℕ → Option ℕ

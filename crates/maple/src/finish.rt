@@ -1,6 +1,5 @@
 // The last line of a run.
 ghost use Rattle.std.specs.Prelude.{◌≡◌, ◌≤◌};
-ghost use Rattle.maple_io.specs.Counts.{HasRisen};
 ghost use Rattle.maple.specs.Ends.{Ends, IsGiven};
 ghost use Rattle.maple.specs.Statuses.{last_line};
 
@@ -12,7 +11,7 @@ use maple_io::Sink;
 /// `NoMemory` where the line can't be written.
 pub fn finish<O: Sink>(output: &mut O, status: Status) -> Status
     requires { IsGiven status }
-    ensures { Ends (HasRisen (O.failed output.old) (O.failed output.new)) (O.taken output.old) (O.taken output.new) status (last_line status) result }
+    ensures { Ends (O.tells output.old) (O.tells output.new) status (last_line status) result }
 {
     put_text(output, last_line(status), status)
 }
@@ -20,8 +19,8 @@ pub fn finish<O: Sink>(output: &mut O, status: Status) -> Status
 /// Writes a text, and gives this status, or `WriteFault` or `NoMemory` where it can't be written.
 pub fn put_text<O: Sink>(output: &mut O, text: &[u8], status: Status) -> Status
     requires { IsGiven status }
-    ensures ends { Ends (HasRisen (O.failed output.old) (O.failed output.new)) (O.taken output.old) (O.taken output.new) status text.now result }
-    ensures count { O.failed output.old ≤ O.failed output.new }
+    ensures ends { Ends (O.tells output.old) (O.tells output.new) status text.now result }
+    ensures count { (O.tells output.old).failed ≤ (O.tells output.new).failed }
 {
     match put_all(output, text) {
         Ok(()) => status,

@@ -1,7 +1,8 @@
 // How an input is read to its end.
 ghost use Rattle.std.specs.Prelude.{◌≡◌, ◌<◌, ◌≤◌, length, IfOk, OnOk, IfSome};
 ghost use Rattle.std.specs.Io.KnownBytes.{IsAtEnd};
-ghost use Rattle.maple_io.specs.Counts.{HasRisen};
+ghost use Rattle.maple_io.specs.Views.{ReadFailed};
+ghost use Rattle.maple.specs.Due.{IsFit, most_bytes};
 
 use maple_io::{Got, Source};
 use std::alloc::Global;
@@ -22,11 +23,11 @@ pub enum ReadStop {
 
 /// All bytes that are left of a source.
 pub fn read_all<I: Source>(alloc: Global, input: &mut I) -> Result<Vec<u8>, ReadStop>
-    ensures whole { IfOk result (λ all. IfSome (I.left input.old) (λ bytes. all.items ≡ bytes)) }
-    ensures end { OnOk result (IfSome (I.left input.old) (λ _. IsAtEnd (I.left input.new))) }
-    ensures fit { IfOk result (λ all. length all.items ≤ 67108864) }
-    ensures long { result ≡ Err ReadStop.TooLong → IfSome (I.left input.old) (λ bytes. 67108864 < length bytes) }
-    ensures cause { result ≡ Err ReadStop.Failed → HasRisen (I.failed input.old) (I.failed input.new) }
+    ensures whole { IfOk result (λ all. IfSome (I.tells input.old).left (λ bytes. all.items ≡ bytes)) }
+    ensures end { OnOk result (IfSome (I.tells input.old).left (λ _. IsAtEnd (I.tells input.new).left)) }
+    ensures fit { IfOk result (λ all. IsFit all.items) }
+    ensures long { result ≡ Err ReadStop.TooLong → IfSome (I.tells input.old).left (λ bytes. most_bytes < length bytes) }
+    ensures cause { result ≡ Err ReadStop.Failed → ReadFailed (I.tells input.old) (I.tells input.new) }
 {
     let mut all = Vec::new(alloc);
     let mut piece = [0u8; 4096];

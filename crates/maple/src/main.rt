@@ -2,13 +2,15 @@
 #![tactic(auto)]
 
 pub mod choosing;
+#[cfg(test)]
+mod example_rows;
 pub mod finish;
 pub mod input;
 pub mod lines;
 pub mod output;
 pub mod policies;
 #[cfg(test)]
-mod policy_tests;
+mod rows;
 pub mod sim;
 pub mod status;
 pub mod step;

@@ -1,7 +1,6 @@
 // How bytes are written.
 ghost use Rattle.std.specs.Prelude.{◌≡◌, ℕ, ◌≤◌, List, OnOk, OnErr};
-ghost use Rattle.std.specs.Io.KnownBytes.{Appends};
-ghost use Rattle.maple_io.specs.Counts.{HasRisen};
+ghost use Rattle.maple_io.specs.Views.{WriteFailed, Wrote};
 ghost use Rattle.maple.specs.Fronts.{IsFront};
 
 use maple_io::{Put, Sink};
@@ -17,10 +16,10 @@ pub enum PutStop {
 
 /// Writes all of these bytes. After an error a front of them was written.
 pub fn put_all<O: Sink>(output: &mut O, bytes: &[u8]) -> Result<(), PutStop>
-    ensures ok { OnOk result (Appends (O.taken output.old) (O.taken output.new) bytes.now) }
-    ensures front { OnErr result ((front : List ℕ) × IsFront front bytes.now × Appends (O.taken output.old) (O.taken output.new) front) }
-    ensures cause { result ≡ Err PutStop.Failed → HasRisen (O.failed output.old) (O.failed output.new) }
-    ensures count { O.failed output.old ≤ O.failed output.new }
+    ensures ok { OnOk result (Wrote (O.tells output.old) (O.tells output.new) bytes.now) }
+    ensures front { OnErr result ((front : List ℕ) × IsFront front bytes.now × Wrote (O.tells output.old) (O.tells output.new) front) }
+    ensures cause { result ≡ Err PutStop.Failed → WriteFailed (O.tells output.old) (O.tells output.new) }
+    ensures count { (O.tells output.old).failed ≤ (O.tells output.new).failed }
 {
     let mut at = 0;
     while at < bytes.len() {

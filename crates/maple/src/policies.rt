@@ -1,11 +1,9 @@
 // What is written of a policy alone.
 ghost use Rattle.std.specs.Prelude.{◌≡◌};
-ghost use Rattle.maple_io.specs.Counts.{HasRisen};
 ghost use Rattle.policy_print.specs.Printed.{policy_text};
 ghost use Rattle.report_text.specs.Report.{spelled};
 ghost use Rattle.report_text.specs.declared.line.Line.{Line as LineOf};
 ghost use Rattle.maple.specs.Ends.{Ends};
-ghost use Rattle.maple.specs.Refusals.{refusal_of};
 
 use crate::finish::put_text;
 use crate::status::Status;
@@ -17,7 +15,7 @@ use std::alloc::Global;
 
 /// Writes the printed form of a policy.
 pub fn put_policy<O: Sink>(alloc: Global, policy: &Policy, output: &mut O) -> Status
-    ensures { Ends (HasRisen (O.failed output.old) (O.failed output.new)) (O.taken output.old) (O.taken output.new) Status.Done (policy_text policy.now) result }
+    ensures { Ends (O.tells output.old) (O.tells output.new) Status.Done (policy_text policy.now) result }
 {
     let mut text = Vec::new(alloc);
     let Ok(()) = print_policy(policy, &mut text) else {
@@ -34,7 +32,7 @@ pub fn refuse_policy<O: Sink>(
     column: u32,
     kind: PolicyRefusal,
 ) -> Status
-    ensures { Ends (HasRisen (O.failed output.old) (O.failed output.new)) (O.taken output.old) (O.taken output.new) Status.Policy (spelled (LineOf.RefusedPolicy line column kind)) result }
+    ensures { Ends (O.tells output.old) (O.tells output.new) Status.Policy (spelled (LineOf.RefusedPolicy line column kind)) result }
 {
     let mut text = Vec::new(alloc);
     let refusal = Line::RefusedPolicy { line, column, kind };
@@ -42,22 +40,4 @@ pub fn refuse_policy<O: Sink>(
         return Status::NoMemory;
     };
     put_text(output, &text, Status::Policy)
-}
-
-/// The kind of a refusal, by the number that the reader of policies tells.
-pub fn refusal_of(kind: u8) -> PolicyRefusal
-    ensures { result ≡ refusal_of kind }
-{
-    match kind {
-        1 => PolicyRefusal::NotAscii,
-        2 => PolicyRefusal::Token,
-        3 => PolicyRefusal::Syntax,
-        4 => PolicyRefusal::UnknownName,
-        5 => PolicyRefusal::Twice,
-        6 => PolicyRefusal::TypeMismatch,
-        7 => PolicyRefusal::NumberRange,
-        8 => PolicyRefusal::Nesting,
-        9 => PolicyRefusal::Nodes,
-        _ => PolicyRefusal::TooLong,
-    }
 }

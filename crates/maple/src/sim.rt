@@ -1,12 +1,10 @@
 // A run of a policy and a script.
 ghost use Rattle.std.specs.Prelude.{◌≡◌, true, ◌+◌, ◌<◌, ◌^◌, [], map, length};
-ghost use Rattle.maple_io.specs.Counts.{HasRisen};
 ghost use Rattle.policy_lang.specs.Plain.{is_plain};
 ghost use Rattle.policy_eval.specs.Answers.{IsBudget};
 ghost use Rattle.maple.specs.Ends.{Ends};
-ghost use Rattle.maple.specs.Lines.{ended_lines, without_end};
-ghost use Rattle.maple.specs.Running.{due_of, told_of};
-ghost use Rattle.maple.specs.Steps.{refused_from};
+ghost use Rattle.maple.specs.Lines.{lines_of};
+ghost use Rattle.maple.specs.Running.{RunsScript};
 ghost use Rattle.report_text.specs.Report.{spelled};
 ghost use Rattle.report_text.specs.declared.line.Line.{Line as LineOf};
 
@@ -34,7 +32,7 @@ pub fn run_script<O: Sink>(
     requires plain { is_plain policy.now ≡ true }
     requires budget { IsBudget budget }
     requires numbers { first + length script.now < 2 ^ 32 }
-    ensures { Ends (HasRisen (O.failed output.old) (O.failed output.new)) (O.taken output.old) (O.taken output.new) (due_of (refused_from first (map without_end (ended_lines script.now)))) (told_of policy.now budget [] first (map without_end (ended_lines script.now))) result }
+    ensures { RunsScript policy.now budget first (lines_of script.now) (O.tells output.old) (O.tells output.new) result }
 {
     let mut rest = script;
     let mut number = first;
@@ -62,7 +60,7 @@ pub fn run_script<O: Sink>(
 
 // Writes the last line of a script whose line of this number is refused.
 fn refuse<O: Sink>(alloc: Global, output: &mut O, line: u32, kind: ScriptRefusal) -> Status
-    ensures { Ends (HasRisen (O.failed output.old) (O.failed output.new)) (O.taken output.old) (O.taken output.new) Status.Script (spelled (LineOf.RefusedScript line kind)) result }
+    ensures { Ends (O.tells output.old) (O.tells output.new) Status.Script (spelled (LineOf.RefusedScript line kind)) result }
 {
     let mut text = Vec::new(alloc);
     let Ok(()) = write_line(&Line::RefusedScript { line, kind }, &mut text) else {

@@ -1,7 +1,8 @@
-// Runs through the top call, over memory.
+// Runs of the top call over memory, as the rows of `rows` tell them.
 ghost use Rattle.std.specs.Prelude.{None};
 
-use crate::status::Status;
+use crate::example_rows;
+use crate::rows::{self, DONE, FAULTS, Fault, POLICY, Row, SCRIPT, TOO_LONG, USAGE};
 use crate::top::maple;
 use maple_base::{Bytes, Words};
 use maple_io::{Got, MemSink, MemSource, Source};
@@ -9,439 +10,255 @@ use std::alloc::{AllocError, Global};
 use std::process::Abort;
 use std::test::Fail;
 
-fn bytes_of(alloc: Global, text: &str) -> Result<Vec<u8>, AllocError> {
-    Vec::from_slice(alloc, text.as_bytes())
-}
-
-fn words_of(alloc: Global, texts: &[&str]) -> Result<Words, AllocError> {
-    let mut words = Vec::new(alloc);
-    for text in texts {
-        words.push(Bytes::new(bytes_of(alloc, text)?))?;
+#[test]
+fn runs(rt: HostRuntime) -> Result<(), Fail> {
+    let groups = [
+        rows::command_lines(),
+        rows::script_lines(),
+        rows::policies(),
+        rows::operators(),
+        rows::expressions(),
+        rows::limits(),
+        rows::whole_runs(),
+        example_rows::examples(),
+    ];
+    for group in groups {
+        for row in group {
+            check(&rt, rt.alloc(), row)?;
+        }
     }
-    Ok(Words::new(words))
-}
-
-// Runs `sim` on an input, where the reads and the writes of these numbers fail, and wants this
-// status and these bytes.
-fn wants(
-    rt: &impl Abort,
-    alloc: Global,
-    input: &str,
-    read_fails: &[u64],
-    write_fails: &[u64],
-    status: Status,
-    output: &str,
-) -> Result<(), AllocError> {
-    let words = words_of(alloc, &["sim"])?;
-    let mut source = MemSource::new(bytes_of(alloc, input)?, Vec::from_slice(alloc, read_fails)?);
-    let mut sink = MemSink::new(Vec::from_slice(alloc, write_fails)?);
-    let got = maple(&(), alloc, &words, &mut source, &mut sink);
-    assert_eq!(rt; got, status, "{input}");
-    assert_eq!(rt; sink.bytes(), output.as_bytes(), "{input}");
     Ok(())
-}
-
-// The same where nothing fails.
-pub fn gives(
-    rt: &impl Abort,
-    alloc: Global,
-    input: &str,
-    status: Status,
-    output: &str,
-) -> Result<(), AllocError> {
-    wants(rt, alloc, input, &[], &[], status, output)
 }
 
 #[test]
-fn a_miss_an_answer_and_hits(rt: HostRuntime) -> Result<(), Fail> {
+fn runs_with_failing_devices(rt: HostRuntime) -> Result<(), Fail> {
     let alloc = rt.alloc();
-    gives(&rt, alloc, "policy { drop; }", Status::Done, "end\n")?;
-    gives(
-        &rt,
-        alloc,
-        "policy { out 2; }\n%%\npacket 1 1\npacket 1 1\n",
-        Status::Done,
-        "miss c1 1 0\nanswer s1 1 out 2 learned\nhit c1 1 out 2\nend\n",
-    )?;
-    gives(
-        &rt,
-        alloc,
-        "policy { drop; }\n%%\npacket 1 007 tp_dst=80\npacket 1 65535 dl_type=2054",
-        Status::Done,
-        "miss c1 7 0\nanswer s1 7 drop learned\nhit c1 65535 drop\nend\n",
-    )?;
-    gives(
-        &rt,
-        alloc,
-        "",
-        Status::Policy,
-        "refused policy 1:1 Syntax\n",
-    )?;
+    for fault in FAULTS {
+        let content = Vec::from_slice(alloc, fault.input.as_bytes())?;
+        let mut source = MemSource::new(content, Vec::from_slice(alloc, fault.reads)?);
+        let (got, sink) = run_on(alloc, fault.words, &mut source, fault.writes)?;
+        let Fault { reads, writes, .. } = fault;
+        assert_eq!(rt; got, fault.status, "{reads:?} {writes:?}: {}", fault.input);
+        assert_eq!(rt;
+            sink.bytes(),
+            fault.output.as_bytes(),
+            "{reads:?} {writes:?}: {}",
+            fault.input
+        );
+    }
     Ok(())
 }
 
-// Runs these words on an input, and wants this status and these bytes.
-pub fn answers(
-    rt: &impl Abort,
+// Runs these words on a source, where the writes of these numbers fail.
+fn run_on<I: Source>(
     alloc: Global,
     texts: &[&str],
+    source: &mut I,
+    writes: &[u64],
+) -> Result<(u8, MemSink), AllocError> {
+    let mut words = Vec::new(alloc);
+    for text in texts {
+        words.push(Bytes::new(Vec::from_slice(alloc, text.as_bytes())?))?;
+    }
+    let mut sink = MemSink::new(Vec::from_slice(alloc, writes)?);
+    let status = maple(&(), alloc, &Words::new(words), source, &mut sink);
+    Ok((status.number(), sink))
+}
+
+fn check(rt: &impl Abort, alloc: Global, row: &Row) -> Result<(), AllocError> {
+    match *row {
+        Row::Run(words, input, output, status) => run(rt, alloc, words, input, output, status),
+        Row::Usage(words) => {
+            run(
+                rt,
+                alloc,
+                words,
+                "policy { drop; }",
+                "refused usage\n",
+                USAGE,
+            )
+        }
+        Row::Decision(policy, decision) => check_decision(rt, alloc, policy, decision),
+        Row::Refused(policy, why) => check_refused(rt, alloc, policy, why),
+        Row::Later(policy, form) => {
+            run(
+                rt,
+                alloc,
+                &["sim"],
+                policy,
+                "refused policy 1:1 Later\n",
+                POLICY,
+            )?;
+            check_form(rt, alloc, policy, form)
+        }
+        Row::Form(policy, form) => check_form(rt, alloc, policy, form),
+        Row::Condition(expr, form) => check_condition(rt, alloc, expr, form),
+        Row::Value(expr, form) => check_value(rt, alloc, expr, form),
+        Row::Deep => check_deep(rt, alloc),
+        Row::Packet(line) => check_packet(rt, alloc, line),
+        Row::Line(line, kind) => check_line(rt, alloc, line, kind),
+        Row::Malformed(frame, kind) => check_malformed(rt, alloc, frame, kind),
+        Row::FalseTests(count, output) => check_false_tests(rt, alloc, count, output),
+        Row::Repeated(ahead, part, count, behind, output, status) => {
+            let input = repeated(alloc, ahead, part, count, behind)?;
+            run(rt, alloc, &["sim"], &input, output, status)
+        }
+        Row::Endless => check_endless(rt, alloc),
+    }
+}
+
+// Runs these words on an input, and wants this output and this exit status.
+fn run(
+    rt: &impl Abort,
+    alloc: Global,
+    words: &[&str],
     input: &str,
-    status: Status,
     output: &str,
+    status: u8,
 ) -> Result<(), AllocError> {
-    let words = words_of(alloc, texts)?;
-    let mut source = MemSource::new(bytes_of(alloc, input)?, Vec::new(alloc));
-    let mut sink = MemSink::new(Vec::new(alloc));
-    let got = maple(&(), alloc, &words, &mut source, &mut sink);
-    assert_eq!(rt; got, status, "{input}");
-    assert_eq!(rt; sink.bytes(), output.as_bytes(), "{input}");
+    let mut source = MemSource::new(Vec::from_slice(alloc, input.as_bytes())?, Vec::new(alloc));
+    let (got, sink) = run_on(alloc, words, &mut source, &[])?;
+    assert_eq!(rt; got, status, "{words:?}: {input}");
+    assert_eq!(rt; sink.bytes(), output.as_bytes(), "{words:?}: {input}");
     Ok(())
 }
 
-fn refuses_words(rt: &impl Abort, alloc: Global, texts: &[&str]) -> Result<(), AllocError> {
-    answers(
+fn check_decision(
+    rt: &impl Abort,
+    alloc: Global,
+    policy: &str,
+    decision: &str,
+) -> Result<(), AllocError> {
+    let input = format!(in alloc; "{policy}\n%%\npacket 1 1\n")?;
+    let output = format!(in alloc; "miss c1 1 0\nanswer s1 1 {decision} learned\nend\n")?;
+    run(rt, alloc, &["sim"], &input, &output, DONE)
+}
+
+fn check_refused(
+    rt: &impl Abort,
+    alloc: Global,
+    policy: &str,
+    why: &str,
+) -> Result<(), AllocError> {
+    let output = format!(in alloc; "refused policy {why}\n")?;
+    run(rt, alloc, &["sim"], policy, &output, POLICY)?;
+    run(rt, alloc, &["check"], policy, &output, POLICY)
+}
+
+// The printed form of a policy is its own.
+fn check_form(rt: &impl Abort, alloc: Global, policy: &str, form: &str) -> Result<(), AllocError> {
+    run(rt, alloc, &["check"], policy, form, DONE)?;
+    run(rt, alloc, &["check"], form, form, DONE)
+}
+
+fn check_condition(
+    rt: &impl Abort,
+    alloc: Global,
+    expr: &str,
+    form: &str,
+) -> Result<(), AllocError> {
+    let policy = format!(in alloc; "policy {{ if {expr} {{ }} }}")?;
+    let form = format!(in alloc; "policy {{\n  if {form} {{\n  }}\n}}\n")?;
+    check_form(rt, alloc, &policy, &form)
+}
+
+fn check_value(rt: &impl Abort, alloc: Global, expr: &str, form: &str) -> Result<(), AllocError> {
+    let policy = format!(in alloc; "policy{{let x={expr};}}")?;
+    let form = format!(in alloc; "policy {{\n  let x = {form};\n}}\n")?;
+    check_form(rt, alloc, &policy, &form)
+}
+
+// Statements so deep that their form has 70,381 bytes: it is printed, and too long to be read.
+fn check_deep(rt: &impl Abort, alloc: Global) -> Result<(), AllocError> {
+    let mut policy = String::from_str(alloc, "policy{")?;
+    let mut form = String::from_str(alloc, "policy {\n")?;
+    for level in 1..=30 {
+        policy.push_str("while 1==1{")?;
+        push_line(&mut form, level, "while 1 == 1 {\n")?;
+    }
+    for _ in 0..1000 {
+        policy.push_str("drop;")?;
+        push_line(&mut form, 31, "drop;\n")?;
+    }
+    for level in 0..=30 {
+        policy.push_str("}")?;
+        push_line(&mut form, 30 - level, "}\n")?;
+    }
+    run(rt, alloc, &["check"], &policy, &form, DONE)?;
+    run(
         rt,
         alloc,
-        texts,
-        "policy { drop; }",
-        Status::Usage,
-        "refused usage\n",
+        &["check"],
+        &form,
+        "refused policy 975:24 TooLong\n",
+        POLICY,
     )
 }
 
-#[test]
-fn words(rt: HostRuntime) -> Result<(), Fail> {
-    let alloc = rt.alloc();
-    let lines: [&[&str]; 10] = [
-        &[],
-        &["simm"],
-        &["sim", "sim"],
-        &["--"],
-        &[""],
-        &["SIM"],
-        &["check", "check"],
-        &["check", "--budget=4"],
-        &["checks"],
-        &["sim", "check"],
-    ];
-    for texts in lines {
-        refuses_words(&rt, alloc, texts)?;
+// A line with two blanks for each block around.
+fn push_line(form: &mut String, blocks: u32, line: &str) -> Result<(), AllocError> {
+    for _ in 0..blocks {
+        form.push_str("  ")?;
     }
-    assert_eq!(rt; Status::Usage.number(), 1);
-    Ok(())
+    form.push_str(line)
 }
 
-#[test]
-fn options(rt: HostRuntime) -> Result<(), Fail> {
-    let alloc = rt.alloc();
-    let lines: [&[&str]; 20] = [
-        &["sim", "--budget", "0"],
-        &["sim", "--budget", "65537"],
-        &["sim", "--budget", "18446744073709551616"],
-        &["sim", "--budget", "000000000000000000004"],
-        &["sim", "--budget", "0x4"],
-        &["sim", "--budget", "4 "],
-        &["sim", "--budget", "+4"],
-        &["sim", "--budget", ""],
-        &["sim", "--budget", "4", "4"],
-        &["sim", "--budget"],
-        &["sim", "--budget="],
-        &["sim", "--budget=0"],
-        &["sim", "--budget=65537"],
-        &["sim", "--budget=4 x"],
-        &["sim", "--budget=4", "x"],
-        &["sim", "--budget=", "4"],
-        &["sim", "--Budget", "4"],
-        &["sim", "-budget", "4"],
-        &["sim", "4"],
-        &["--budget", "4", "sim"],
-    ];
-    for texts in lines {
-        refuses_words(&rt, alloc, texts)?;
-    }
-    Ok(())
-}
-
-// A packet to port 80 takes 5 steps, and one to port 22 takes 4.
-const TWO_WAYS: &str = "policy { if pkt.tp_dst is 22 { drop; } out 2; }\n%%\n";
-
-#[test]
-fn budgets(rt: HostRuntime) -> Result<(), Fail> {
-    let alloc = rt.alloc();
-    let input = format!(in alloc; "{TWO_WAYS}packet 1 1 tp_dst=80\n")?;
-    let spent: [&[&str]; 5] = [
-        &["sim", "--budget", "4"],
-        &["sim", "--budget=4"],
-        &["sim", "--budget", "00004"],
-        &["sim", "--budget=00000000000000000004"],
-        &["sim", "--budget=1"],
-    ];
-    let output = "miss c1 1 0\nspent s1 1\nend\n";
-    for texts in spent {
-        answers(&rt, alloc, texts, input.as_str(), Status::Done, output)?;
-    }
-    let enough: [&[&str]; 4] = [
-        &["sim", "--budget", "5"],
-        &["sim", "--budget=5"],
-        &["sim", "--budget", "65536"],
-        &["sim"],
-    ];
+fn check_packet(rt: &impl Abort, alloc: Global, line: &str) -> Result<(), AllocError> {
+    let input = format!(in alloc; "policy {{ out 2; }}\n%%\n{line}\n")?;
     let output = "miss c1 1 0\nanswer s1 1 out 2 learned\nend\n";
-    for texts in enough {
-        answers(&rt, alloc, texts, input.as_str(), Status::Done, output)?;
-    }
-    Ok(())
+    run(rt, alloc, &["sim"], &input, output, DONE)
 }
 
-// Of a run that was spent nothing is learned; what was learned stays.
-#[test]
-fn spent_runs(rt: HostRuntime) -> Result<(), Fail> {
-    let alloc = rt.alloc();
-    let input = format!(in alloc;
-        "{TWO_WAYS}packet 1 1 tp_dst=80\npacket 1 1 tp_dst=80\npacket 1 1 tp_dst=22\npacket 1 9 tp_dst=80\npacket 1 1 tp_dst=22\n"
-    )?;
-    answers(
-        &rt,
-        alloc,
-        &["sim", "--budget", "4"],
-        input.as_str(),
-        Status::Done,
-        "miss c1 1 0
-spent s1 1
-miss c1 1 0
-spent s1 1
-miss c1 1 0
-answer s1 1 drop learned
-miss c1 9 0
-spent s1 9
-hit c1 1 drop
-end
-",
-    )?;
-    Ok(())
-}
-
-// What each policy decides of a packet at port 1.
-#[test]
-fn packet_lines(rt: HostRuntime) -> Result<(), Fail> {
-    let alloc = rt.alloc();
-    let accepted = [
-        "packet 1 1 dl_src=281474976710655 dl_dst=1 dl_vlan=4095 nw_tos=252 nw_src=4294967295",
-        "packet 1 1 dl_vlan=65535",
-        "packet 1 1 dl_type=1536",
-        "packet 01 0x1 nw_proto=17 tp_src=65535 tp_dst=053",
-        "packet 1 1 nw_proto=1 tp_src=255 tp_dst=0",
-        "packet 1 1 nw_proto=2 nw_dst=10.0.0.1 dl_dst=02:00:00:00:00:09",
-    ];
-    for line in accepted {
-        let input = format!(in alloc; "policy {{ out 2; }}\n%%\n{line}\n")?;
-        gives(
-            &rt,
-            alloc,
-            input.as_str(),
-            Status::Done,
-            "miss c1 1 0\nanswer s1 1 out 2 learned\nend\n",
-        )?;
-    }
-    Ok(())
-}
-
-// Runs a script whose second line, the fourth of the input, is refused as this kind.
-fn refuses(rt: &impl Abort, alloc: Global, line: &str, kind: &str) -> Result<(), AllocError> {
+fn check_line(rt: &impl Abort, alloc: Global, line: &str, kind: &str) -> Result<(), AllocError> {
     let input = format!(in alloc; "policy {{ out 2; }}\n%%\npacket 1 1\n{line}\npacket 1 1\n")?;
     let output = format!(in alloc;
         "miss c1 1 0\nanswer s1 1 out 2 learned\nrefused script 4 {kind}\n"
     )?;
-    gives(rt, alloc, input.as_str(), Status::Script, output.as_str())
+    run(rt, alloc, &["sim"], &input, &output, SCRIPT)
 }
 
-#[test]
-fn lines_out_of_the_grammar(rt: HostRuntime) -> Result<(), Fail> {
-    let alloc = rt.alloc();
-    let lines = [
-        "fly 1",
-        "packet 1",
-        "packet 1 65536",
-        "packet 1 1 ",
-        "packet 1  1",
-        "packet 1 1\r",
-        "packet 1 1 tp_dst=65536",
-        "packet 1 1 tp_dst=80 tp_dst=80",
-        "packet 1 1 in_port=1",
-        "packet 1 1 dl_type=1535",
-        "packet 1 1 nw_proto=2 tp_dst=1",
-        "packet 2 1 tp_dst",
-        "frame 1 1 000",
-        "turn 1 0",
-        " # a comment",
-        "%%",
-    ];
-    for line in lines {
-        refuses(&rt, alloc, line, "Grammar")?;
-    }
-    Ok(())
-}
-
-#[test]
-fn lines_of_another_place_and_of_later_commands(rt: HostRuntime) -> Result<(), Fail> {
-    let alloc = rt.alloc();
-    for line in ["packet 2 1", "packet 0 1", "frame 65 1 00"] {
-        refuses(&rt, alloc, line, "Switch")?;
-    }
-    let later = [
-        "plug 1",
-        "unplug 2",
-        "turn 1 1",
-        "settle",
-        "host 1 1 1",
-        "nohost 1",
-        "link 1 1 2 1",
-        "nolink 1 1",
-        "set t 1 2",
-        "unset t 1",
-        "newpolicy",
-        "rules 1",
-        "quit",
-    ];
-    for line in later {
-        refuses(&rt, alloc, line, "Later")?;
-    }
-    Ok(())
-}
-
-#[test]
-fn long_lines(rt: HostRuntime) -> Result<(), Fail> {
-    let alloc = rt.alloc();
-    let mut long = String::from_str(alloc, "#")?;
-    for _ in 0..8_191 {
-        long.push_str("x")?;
-    }
-    let input = format!(in alloc; "policy {{ drop; }}\n%%\n{long}\n")?;
-    gives(&rt, alloc, input.as_str(), Status::Done, "end\n")?;
-    long.push_str("x")?;
-    refuses(&rt, alloc, long.as_str(), "TooLong")?;
-    Ok(())
-}
-
-// The lines of the policy, its end, empty lines and comments have numbers too.
-#[test]
-fn numbers_of_lines(rt: HostRuntime) -> Result<(), Fail> {
-    let alloc = rt.alloc();
-    gives(
-        &rt,
-        alloc,
-        "policy {\n out 2;\n}\n%%\n\n# a comment\npacket 1 1\nfly 1\nfly 2",
-        Status::Script,
-        "miss c1 1 0\nanswer s1 1 out 2 learned\nrefused script 8 Grammar\n",
+fn check_malformed(
+    rt: &impl Abort,
+    alloc: Global,
+    frame: &str,
+    kind: u8,
+) -> Result<(), AllocError> {
+    let input = format!(in alloc; "policy {{ drop; }}\n%%\nframe 1 9 {frame}\nframe 1 9 {frame}")?;
+    let output = format!(in alloc;
+        "miss c1 9 0\nmalformed c1 {kind}\nmiss c1 9 0\nmalformed c1 {kind}\nend\n"
     )?;
-    gives(
-        &rt,
-        alloc,
-        "policy { drop; }\n%%\nfly 1",
-        Status::Script,
-        "refused script 3 Grammar\n",
-    )?;
-    Ok(())
+    run(rt, alloc, &["sim"], &input, &output, DONE)
 }
 
-// A first fragment of a TCP packet to port 22, which has no ports, and the same packet whole.
-#[test]
-fn frames(rt: HostRuntime) -> Result<(), Fail> {
-    let alloc = rt.alloc();
-    gives(
-        &rt,
-        alloc,
-        "policy { if pkt.tp_dst is 22 { drop; } out 2; }
-%%
-frame 1 1 02000000000202000000000108004500002800002000400600000a0000010a00000204d20016
-",
-        Status::Done,
-        "miss c1 1 0\nanswer s1 1 out 2 learned\nend\n",
-    )?;
-    gives(
-        &rt,
-        alloc,
-        "policy { if pkt.tp_dst is 22 { drop; } out 2; }
-%%
-frame 1 1 02000000000202000000000108004500002800000000400600000a0000010a00000204d20016
-packet 1 1 dl_dst=02:00:00:00:00:02 tp_dst=22
-",
-        Status::Done,
-        "miss c1 1 0\nanswer s1 1 drop learned\nhit c1 1 drop\nend\n",
-    )?;
-    Ok(())
+// A run of so many false tests needs a barrier for each, and its own rule.
+fn check_false_tests(
+    rt: &impl Abort,
+    alloc: Global,
+    count: u32,
+    output: &str,
+) -> Result<(), AllocError> {
+    let mut input = String::from_str(alloc, "policy {")?;
+    for number in 0..count {
+        write!(input, " if pkt.dl_src is {number} {{ }}")?;
+    }
+    input.push_str(" out 2; }\n%%\npacket 1 1 dl_src=9999\npacket 1 1 dl_src=9999\n")?;
+    run(rt, alloc, &["sim"], &input, output, DONE)
 }
 
-// A frame cut short in each header, twice.
-#[test]
-fn malformed_frames(rt: HostRuntime) -> Result<(), Fail> {
-    let alloc = rt.alloc();
-    let frames = [
-        ("00", 1),
-        ("0200000000020200000000018100", 2),
-        (
-            "02000000000202000000000108004500002800002000400600000a0000010a0000",
-            3,
-        ),
-        (
-            "02000000000202000000000108004500002800000000400600000a0000010a00000204d2",
-            4,
-        ),
-    ];
-    for (frame, kind) in frames {
-        let input = format!(in alloc;
-            "policy {{ drop; }}\n%%\nframe 1 9 {frame}\nframe 1 9 {frame}"
-        )?;
-        let output = format!(in alloc;
-            "miss c1 9 0\nmalformed c1 {kind}\nmiss c1 9 0\nmalformed c1 {kind}\nend\n"
-        )?;
-        gives(&rt, alloc, input.as_str(), Status::Done, output.as_str())?;
+// A text whose second part comes so many times.
+fn repeated(
+    alloc: Global,
+    ahead: &str,
+    part: &str,
+    count: u32,
+    behind: &str,
+) -> Result<String, AllocError> {
+    let mut text = String::from_str(alloc, ahead)?;
+    for _ in 0..count {
+        text.push_str(part)?;
     }
-    Ok(())
-}
-
-#[test]
-fn failing_reads_and_writes(rt: HostRuntime) -> Result<(), Fail> {
-    let alloc = rt.alloc();
-    let input = "policy { out 2; }\n%%\npacket 1 1\npacket 1 1\n";
-    for number in [1, 2] {
-        wants(
-            &rt,
-            alloc,
-            input,
-            &[number],
-            &[],
-            Status::ReadFault,
-            "refused read\n",
-        )?;
-        wants(&rt, alloc, input, &[number], &[1], Status::WriteFault, "")?;
-    }
-    wants(
-        &rt,
-        alloc,
-        "policy { drop; }",
-        &[],
-        &[1],
-        Status::WriteFault,
-        "",
-    )?;
-    let written = [
-        "",
-        "miss c1 1 0\nanswer s1 1 out 2 learned\n",
-        "miss c1 1 0\nanswer s1 1 out 2 learned\nhit c1 1 out 2\n",
-    ];
-    for (at, output) in written.iter().enumerate() {
-        wants(
-            &rt,
-            alloc,
-            input,
-            &[],
-            &[at as u64 + 1],
-            Status::WriteFault,
-            output,
-        )?;
-    }
-    Ok(())
+    text.push_str(behind)?;
+    Ok(text)
 }
 
 // Gives blanks for ever.
@@ -449,9 +266,7 @@ fn failing_reads_and_writes(rt: HostRuntime) -> Result<(), Fail> {
 struct Endless;
 
 impl Source for Endless {
-    ghost left = { λ s. None };
-
-    ghost failed = { λ s. 0 };
+    ghost tells = { λ s. record { left = None; failed = 0 } };
 
     fn read(&mut self, into: &mut [u8]) -> Got {
         into.fill(b' ');
@@ -463,96 +278,9 @@ impl Source for Endless {
     }
 }
 
-#[test]
-fn an_input_without_an_end(rt: HostRuntime) -> Result<(), Fail> {
-    let alloc = rt.alloc();
-    let words = words_of(alloc, &["sim"])?;
-    let mut sink = MemSink::new(Vec::new(alloc));
-    let got = maple(&(), alloc, &words, &mut Endless, &mut sink);
-    assert_eq!(rt; got, Status::TooLong);
+fn check_endless(rt: &impl Abort, alloc: Global) -> Result<(), AllocError> {
+    let (got, sink) = run_on(alloc, &["sim"], &mut Endless, &[])?;
+    assert_eq!(rt; got, TOO_LONG);
     assert_eq!(rt; sink.bytes(), b"refused input\n".as_slice());
-    Ok(())
-}
-
-const FIELDS: &str = "policy {
-  if pkt.in_port is 9 { out 109; }
-  if pkt.dl_src is 5 { out 101; }
-  if pkt.dl_dst is 6 { out 102; }
-  if pkt.dl_vlan is 7 { out 103; }
-  if pkt.dl_type is 2054 { out 104; }
-  if pkt.nw_tos is 4 { out 105; }
-  if pkt.nw_proto is 6 { if pkt.tp_dst is 22 { drop; } if pkt.tp_src is 1000 { out 106; } }
-  if pkt.nw_src is 1 { if pkt.nw_dst is 2 { out 107; } }
-  out 2;
-}
-%%
-";
-
-// Tests of all fields, chained and nested. The first packet fails them all; a later one misses for
-// reason 1 where it leaves the path of that packet at a test, and for 0 where it does at a read.
-#[test]
-fn fields(rt: HostRuntime) -> Result<(), Fail> {
-    let alloc = rt.alloc();
-    let packets = [
-        ("1 nw_proto=17 tp_dst=80 nw_src=3", "1", "0", "out 2"),
-        ("9 nw_proto=17 tp_dst=80 nw_src=3", "9", "1", "out 109"),
-        ("1 dl_src=5", "1", "1", "out 101"),
-        ("1 dl_dst=6", "1", "1", "out 102"),
-        ("1 dl_vlan=7", "1", "1", "out 103"),
-        ("1 dl_type=2054", "1", "1", "out 104"),
-        ("1 nw_tos=4 nw_proto=17", "1", "1", "out 105"),
-        ("1 nw_proto=6 tp_dst=22 nw_src=3", "1", "1", "drop"),
-        ("1 nw_proto=6 tp_dst=80 tp_src=1000", "1", "1", "out 106"),
-        (
-            "1 nw_proto=6 tp_dst=80 tp_src=2000 nw_src=3",
-            "1",
-            "1",
-            "out 2",
-        ),
-        ("1 nw_proto=17 nw_src=1 nw_dst=2", "1", "1", "out 107"),
-        ("1 nw_proto=17 nw_src=1 nw_dst=3", "1", "1", "out 2"),
-        ("1 dl_type=34525", "1", "0", "out 2"),
-    ];
-    let mut input = String::from_str(alloc, FIELDS)?;
-    let mut output = String::new(alloc);
-    for (packet, port, reason, decision) in packets {
-        write!(input, "packet 1 {packet}\npacket 1 {packet}\n")?;
-        write!(
-            output,
-            "miss c1 {port} {reason}\nanswer s1 {port} {decision} learned\n"
-        )?;
-        write!(output, "hit c1 {port} {decision}\n")?;
-    }
-    for (packet, port, _, decision) in packets {
-        write!(input, "packet 1 {packet}\n")?;
-        write!(output, "hit c1 {port} {decision}\n")?;
-    }
-    output.push_str("end\n")?;
-    gives(&rt, alloc, input.as_str(), Status::Done, output.as_str())?;
-    Ok(())
-}
-
-// A run of so many false tests needs a barrier for each, and its own rule.
-#[test]
-fn rows(rt: HostRuntime) -> Result<(), Fail> {
-    let alloc = rt.alloc();
-    let answers = [
-        (
-            1023,
-            "miss c1 1 0\nanswer s1 1 out 2 learned\nhit c1 1 out 2\nend\n",
-        ),
-        (
-            1024,
-            "miss c1 1 0\nanswer s1 1 out 2 unlearned rows 1025 1024\nmiss c1 1 0\nanswer s1 1 out 2 unlearned rows 1025 1024\nend\n",
-        ),
-    ];
-    for (tests, output) in answers {
-        let mut input = String::from_str(alloc, "policy {")?;
-        for i in 0..tests {
-            write!(input, " if pkt.dl_src is {i} {{ }}")?;
-        }
-        input.push_str(" out 2; }\n%%\npacket 1 1 dl_src=9999\npacket 1 1 dl_src=9999\n")?;
-        gives(&rt, alloc, input.as_str(), Status::Done, output)?;
-    }
     Ok(())
 }

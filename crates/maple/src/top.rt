@@ -1,24 +1,24 @@
 // The top call.
 ghost use Rattle.std.specs.Prelude.{◌≡◌, ◌+◌, ◌^◌, ◌<◌, ◌≤◌, IfSome, length, map};
-ghost use Rattle.std.specs.Io.KnownBytes.{Appends, IsAtEnd};
-ghost use Rattle.maple_io.specs.Counts.{HasRisen};
+ghost use Rattle.std.specs.Io.KnownBytes.{IsAtEnd};
+ghost use Rattle.maple_io.specs.Views.{ReadFailed, WriteFailed, Wrote};
 ghost use Rattle.policy_eval.specs.Answers.{IsBudget};
 ghost use Rattle.maple.specs.declared.status.Status.{Status as StatusOf};
-ghost use Rattle.maple.specs.Ends.{WritesFront};
-ghost use Rattle.maple.specs.Lines.{ended_lines, without_end};
+ghost use Rattle.maple.specs.Ends.{WroteFront};
+ghost use Rattle.maple.specs.Lines.{lines_of};
 ghost use Rattle.maple.specs.Runs.{IsRunOf, RunsText, Sims};
-ghost use Rattle.maple.specs.Due.{AreWords, IsDue, IsOrFails, IsOrUnwritten, Refuses, Reports, WritesSome};
+ghost use Rattle.maple.specs.Due.{AreWords, BeginsReport, IsDue, IsFit, IsOrFails, IsOrUnwritten, WritesRefusal, WritesReport};
 ghost use Rattle.maple.specs.Statuses.{last_line};
 ghost use Rattle.maple.specs.Words.{IsCommand};
 
 use crate::finish::finish;
 use crate::input::{ReadStop, read_all};
 use crate::lines::{line_count, split_input};
-use crate::policies::{put_policy, refusal_of, refuse_policy};
+use crate::policies::{put_policy, refuse_policy};
 use crate::sim::run_script;
 use crate::status::Status;
 use crate::words::{Command, command_of};
-use maple_base::Words;
+use maple_base::{PolicyFault, Words};
 use maple_io::{Sink, Source};
 use policy_lang::Policy;
 use policy_text::{ReadError, is_basic, read_policy};
@@ -42,31 +42,31 @@ pub fn maple<R, I: Source, O: Sink>(
     // The words decide first.
     ensures usage { result ≡ Status.Usage → ¬ (AreWords words.now) }
     ensures usage_exact { ¬ (AreWords words.now) → IsOrUnwritten Status.Usage result }
-    ensures usage_front { ¬ (AreWords words.now) → WritesFront (O.taken output.old) (O.taken output.new) (last_line Status.Usage) }
-    ensures usage_text { result ≡ Status.Usage → Appends (O.taken output.old) (O.taken output.new) (last_line Status.Usage) }
+    ensures usage_front { ¬ (AreWords words.now) → WroteFront (O.tells output.old) (O.tells output.new) (last_line Status.Usage) }
+    ensures usage_text { result ≡ Status.Usage → Wrote (O.tells output.old) (O.tells output.new) (last_line Status.Usage) }
 
     // A read that fails, and an input that is too long.
-    ensures read_fault { result ≡ Status.ReadFault → HasRisen (I.failed input.old) (I.failed input.new) }
-    ensures read_text { result ≡ Status.ReadFault → Appends (O.taken output.old) (O.taken output.new) (last_line Status.ReadFault) }
-    ensures too_long { result ≡ Status.TooLong → IfSome (I.left input.old) (λ bytes. IsDue Status.TooLong words.now bytes) }
-    ensures too_long_text { result ≡ Status.TooLong → Appends (O.taken output.old) (O.taken output.new) (last_line Status.TooLong) }
+    ensures read_fault { result ≡ Status.ReadFault → ReadFailed (I.tells input.old) (I.tells input.new) }
+    ensures read_text { result ≡ Status.ReadFault → Wrote (O.tells output.old) (O.tells output.new) (last_line Status.ReadFault) }
+    ensures too_long { result ≡ Status.TooLong → IfSome (I.tells input.old).left (λ bytes. IsDue Status.TooLong words.now bytes) }
+    ensures too_long_text { result ≡ Status.TooLong → Wrote (O.tells output.old) (O.tells output.new) (last_line Status.TooLong) }
 
     // The policy, and then the script.
-    ensures policy { result ≡ Status.Policy → IfSome (I.left input.old) (λ bytes. IsDue Status.Policy words.now bytes) }
-    ensures policy_text { result ≡ Status.Policy → IfSome (I.left input.old) (λ bytes. Refuses words.now (O.taken output.old) (O.taken output.new) bytes) }
-    ensures script { result ≡ Status.Script → IfSome (I.left input.old) (λ bytes. IsDue Status.Script words.now bytes) }
-    ensures script_text { result ≡ Status.Script → IfSome (I.left input.old) (λ bytes. Reports words.now (O.taken output.old) (O.taken output.new) bytes) }
-    ensures done { result ≡ Status.Done → IfSome (I.left input.old) (λ bytes. IsDue Status.Done words.now bytes) }
-    ensures done_text { result ≡ Status.Done → IfSome (I.left input.old) (λ bytes. Reports words.now (O.taken output.old) (O.taken output.new) bytes) }
-    ensures read_whole { result ≡ Status.Done → IfSome (I.left input.old) (λ bytes. IsAtEnd (I.left input.new)) }
+    ensures policy { result ≡ Status.Policy → IfSome (I.tells input.old).left (λ bytes. IsDue Status.Policy words.now bytes) }
+    ensures policy_text { result ≡ Status.Policy → WritesRefusal words.now (I.tells input.old) (O.tells output.old) (O.tells output.new) }
+    ensures script { result ≡ Status.Script → IfSome (I.tells input.old).left (λ bytes. IsDue Status.Script words.now bytes) }
+    ensures script_text { result ≡ Status.Script → WritesReport words.now (I.tells input.old) (O.tells output.old) (O.tells output.new) }
+    ensures done { result ≡ Status.Done → IfSome (I.tells input.old).left (λ bytes. IsDue Status.Done words.now bytes) }
+    ensures done_text { result ≡ Status.Done → WritesReport words.now (I.tells input.old) (O.tells output.old) (O.tells output.new) }
+    ensures read_whole { result ≡ Status.Done → IfSome (I.tells input.old).left (λ bytes. IsAtEnd (I.tells input.new).left) }
 
     // Each of these comes exactly where it is due, but for a fault or want of memory.
-    ensures exact { IfSome (I.left input.old) (λ bytes. (status : StatusOf) → IsDue status words.now bytes → IsOrFails status result) }
+    ensures exact { IfSome (I.tells input.old).left (λ bytes. (status : StatusOf) → IsDue status words.now bytes → IsOrFails status result) }
 
     // A write that fails, and want of memory.
-    ensures write_fault { result ≡ Status.WriteFault → HasRisen (O.failed output.old) (O.failed output.new) }
-    ensures write_text { result ≡ Status.WriteFault → IfSome (I.left input.old) (λ bytes. WritesSome (HasRisen (I.failed input.old) (I.failed input.new)) words.now bytes (O.taken output.old) (O.taken output.new)) }
-    ensures memory_text { result ≡ Status.NoMemory → IfSome (I.left input.old) (λ bytes. WritesSome (HasRisen (I.failed input.old) (I.failed input.new)) words.now bytes (O.taken output.old) (O.taken output.new)) }
+    ensures write_fault { result ≡ Status.WriteFault → WriteFailed (O.tells output.old) (O.tells output.new) }
+    ensures write_text { result ≡ Status.WriteFault → BeginsReport words.now (I.tells input.old) (I.tells input.new) (O.tells output.old) (O.tells output.new) }
+    ensures memory_text { result ≡ Status.NoMemory → BeginsReport words.now (I.tells input.old) (I.tells input.new) (O.tells output.old) (O.tells output.new) }
 {
     run_words(alloc, words, input, output)
 }
@@ -77,7 +77,7 @@ fn run_words<I: Source, O: Sink>(
     input: &mut I,
     output: &mut O,
 ) -> Status
-    ensures { IsRunOf (I.left input.old) (I.left input.new) (HasRisen (I.failed input.old) (I.failed input.new)) (HasRisen (O.failed output.old) (O.failed output.new)) (O.taken output.old) (O.taken output.new) words.now result }
+    ensures { IsRunOf (I.tells input.old) (I.tells input.new) (O.tells output.old) (O.tells output.new) words.now result }
 {
     let Some(command) = command_of(words) else {
         return finish(output, Status::Usage);
@@ -93,8 +93,8 @@ fn run_words<I: Source, O: Sink>(
 // Runs an input that was read to its end.
 fn run_text<O: Sink>(alloc: Global, command: Command, text: &[u8], output: &mut O) -> Status
     requires budget { IsCommand command }
-    requires fit { length text.now ≤ 67108864 }
-    ensures { RunsText (HasRisen (O.failed output.old) (O.failed output.new)) (O.taken output.old) (O.taken output.new) command text.now result }
+    requires fit { IsFit text.now }
+    ensures { RunsText (O.tells output.old) (O.tells output.new) command text.now result }
 {
     let (text, script) = split_input(text);
     match read_policy(alloc, text) {
@@ -105,9 +105,11 @@ fn run_text<O: Sink>(alloc: Global, command: Command, text: &[u8], output: &mut 
                 sim(alloc, &policy, budget, first, script, output)
             }
         },
-        Err(ReadError::Refused { line, column, kind }) => {
-            refuse_policy(alloc, output, line, column, refusal_of(kind))
-        }
+        Err(ReadError::Refused { line, column, kind }) => match PolicyFault::numbered(kind) {
+            Some(fault) => refuse_policy(alloc, output, line, column, PolicyRefusal::Fault(fault)),
+            // The reader tells no other number.
+            None => unreachable!(),
+        },
         Err(ReadError::NoMemory) => Status::NoMemory,
     }
 }
@@ -123,7 +125,7 @@ fn sim<O: Sink>(
 ) -> Status
     requires budget { IsBudget budget }
     requires numbers { first + length script.now < 2 ^ 32 }
-    ensures { Sims (HasRisen (O.failed output.old) (O.failed output.new)) (O.taken output.old) (O.taken output.new) policy.now budget first (map without_end (ended_lines script.now)) result }
+    ensures { Sims (O.tells output.old) (O.tells output.new) policy.now budget first (lines_of script.now) result }
 {
     if is_basic(policy) {
         run_script(alloc, policy, budget, first, script, output)

@@ -3,13 +3,11 @@ ghost use Rattle.std.specs.Prelude.{◌≡◌};
 ghost use Rattle.std.specs.Option.{option_copied};
 ghost use Rattle.maple.specs.Words.{behind_text, budget_value, check_alone, command_of, options_budget, within_budget};
 
-use maple_base::{Bytes, Words, number_of};
+use maple_base::{Bytes, MOST_BUDGET, Words};
+use maple_text::number_of;
 
 // The steps that the policy may take for a packet where the words give no budget.
 const DEFAULT: u32 = 4_096;
-
-// The greatest budget.
-const MOST: u32 = 65_536;
 
 // The digits of a budget's longest spelling.
 const DIGITS: usize = 20;
@@ -78,7 +76,7 @@ fn budget_value(word: &[u8]) -> Option<u32>
 fn within_budget(number: u64) -> Option<u32>
     ensures { result ≡ within_budget number }
 {
-    if 1 <= number && number <= MOST as u64 {
+    if 1 <= number && number <= MOST_BUDGET as u64 {
         Some(number as u32)
     } else {
         None

@@ -2,6 +2,7 @@
 ghost use Rattle.std.specs.Prelude.{◌≡◌, ℕ, true, ◌++◌, ◌+◌, ◌<◌, ◌≤◌, ◌^◌, ◌∷◌, [], List, None, length, IfOk, OnOk, IsTrue};
 ghost use Rattle.std.specs.List.Sorted.{IsPermutation};
 ghost use Rattle.maple_base.specs.Keys.{anything, valid_key};
+ghost use Rattle.maple_base.specs.Limits.{most_items};
 ghost use Rattle.maple_base.specs.Questions.{asks_once};
 ghost use Rattle.policy_lang.specs.Plain.{is_plain};
 ghost use Rattle.policy_lang.specs.declared.Policy.{Policy as PolicyData};
@@ -9,17 +10,15 @@ ghost use Rattle.policy_eval.specs.Answers.{IsBudget};
 ghost use Rattle.trace_tree.specs.declared.node.Trace.{Trace as TraceData};
 ghost use Rattle.trace_tree.specs.Bounds.{items_within};
 ghost use Rattle.trace_tree.specs.Growth.{admits, found, insert, leaf_of, leaves_of};
-ghost use Rattle.rule_builder.specs.Rules.{barriers_of, facts_of, levels_of};
-ghost use Rattle.maple.specs.Knowing.{Knows};
+ghost use Rattle.rule_builder.specs.Rules.{barriers_of, facts_of, level_limit, levels_of};
+ghost use Rattle.maple.specs.Knowing.{Knows, SaysAnswer, SaysFrame, SaysPacket, SaysStep};
 ghost use Rattle.report_text.specs.declared.line.Line.{Line as LineOf};
 ghost use Rattle.report_text.specs.Report.{spelled};
-ghost use Rattle.maple.specs.Report.{said, after, arrival_said, arrival_after, step_said, step_after, answered, learned, plain, fault_number, text_of};
-ghost use Rattle.packet_key.specs.Frames.{key_of};
 
 use crate::choosing::{Choice, choose};
 use crate::step::Step;
 use maple_base::{Blank, Cells, Decision, Items, Key, NoMemory, Outcome, RuleList};
-use packet_key::{Malformed, key_of};
+use packet_key::key_of;
 use policy_lang::Policy;
 use report_text::{Learnt, Line, write_line};
 use rule_builder::{rules, rules_needed_with};
@@ -35,7 +34,7 @@ const DEVICE: u32 = 1;
 
 const SWITCH: u64 = 1;
 
-/// The tree of the runs that were learned, and the rules of the switch, which are the tree's.
+/// The tree of the traces that were learned, and the rules of the switch, which are the tree's.
 #[derive(Drop)]
 pub struct World {
     tree: Tree,
@@ -43,7 +42,7 @@ pub struct World {
 }
 
 impl World {
-    /// A switch and a controller that know no run, for any plain policy and any budget.
+    /// A switch and a controller that know no trace, for any plain policy and any budget.
     pub fn new(alloc: Global) -> World
         ensures { (policy : PolicyData) (budget : ℕ) → is_plain policy ≡ true → IsBudget budget → Knows policy budget [] result }
     {
@@ -62,8 +61,8 @@ impl World {
         step: Step,
         text: &mut Vec<u8>,
     ) -> Result<(), NoMemory>
-        requires known { (runs : List TraceData) × Knows policy.now budget runs self.old }
-        ensures { (runs : List TraceData) → Knows policy.now budget runs self.old → OnOk result ((text.new.items ≡ text.old.items ++ text_of (step_said policy.now budget runs step)) × Knows policy.now budget (step_after policy.now budget runs step) self.new) }
+        requires known { (traces : List TraceData) × Knows policy.now budget traces self.old }
+        ensures { SaysStep policy.now budget step self.old self.new text.old.items text.new.items result }
     {
         match step {
             Step::Silent => Ok(()),
@@ -89,8 +88,8 @@ impl World {
         frame: &[u8],
         text: &mut Vec<u8>,
     ) -> Result<(), NoMemory>
-        requires known { (runs : List TraceData) × Knows policy.now budget runs self.old }
-        ensures { (runs : List TraceData) → Knows policy.now budget runs self.old → OnOk result ((text.new.items ≡ text.old.items ++ text_of (arrival_said policy.now budget runs port (key_of port frame.now))) × Knows policy.now budget (arrival_after policy.now budget runs (key_of port frame.now)) self.new) }
+        requires known { (traces : List TraceData) × Knows policy.now budget traces self.old }
+        ensures { SaysFrame policy.now budget port frame.now self.old self.new text.old.items text.new.items result }
     {
         match key_of(port, frame) {
             Ok(key) => self.packet(alloc, policy, budget, &key, text),
@@ -103,13 +102,14 @@ impl World {
                     reason,
                 };
                 write_line(&miss, text)?;
-                let kind = fault_number(fault);
+                let kind = fault.number();
                 write_line(&Line::Malformed { device, kind }, text)
             }
         }
     }
 
-    /// Writes the lines of a packet at the end of a text, and learns its run where no rule decides it.
+    /// Writes the lines of a packet at the end of a text, and learns its trace where no rule
+    /// decides it.
     pub fn packet(
         &mut self,
         alloc: Global,
@@ -119,8 +119,8 @@ impl World {
         text: &mut Vec<u8>,
     ) -> Result<(), NoMemory>
         requires key { IsTrue (valid_key key.now) }
-        requires known { (runs : List TraceData) × Knows policy.now budget runs self.old }
-        ensures { (runs : List TraceData) → Knows policy.now budget runs self.old → OnOk result ((text.new.items ≡ text.old.items ++ text_of (said policy.now budget runs key.now (found runs key.now))) × Knows policy.now budget (after policy.now budget runs key.now (found runs key.now)) self.new) }
+        requires known { (traces : List TraceData) × Knows policy.now budget traces self.old }
+        ensures { SaysPacket policy.now budget key.now self.old self.new text.old.items text.new.items result }
     {
         let port = key.in_port;
         let reason = match choose(&self.rules, key) {
@@ -145,7 +145,7 @@ impl World {
         self.answer(alloc, policy, budget, key, text)
     }
 
-    // Writes the answer to a packet whose run isn't known, and learns the run.
+    // Writes the answer to a packet whose trace isn't known, and learns the trace.
     fn answer(
         &mut self,
         alloc: Global,
@@ -155,8 +155,8 @@ impl World {
         text: &mut Vec<u8>,
     ) -> Result<(), NoMemory>
         requires key { IsTrue (valid_key key.now) }
-        requires known { (runs : List TraceData) × Knows policy.now budget runs self.old × (found runs key.now ≡ None) }
-        ensures { (runs : List TraceData) → Knows policy.now budget runs self.old → found runs key.now ≡ None → OnOk result ((text.new.items ≡ text.old.items ++ text_of (answered policy.now budget runs key.now (plain policy.now budget key.now))) × Knows policy.now budget (learned policy.now budget runs key.now (plain policy.now budget key.now)) self.new) }
+        requires known { (traces : List TraceData) × Knows policy.now budget traces self.old × (found traces key.now ≡ None) }
+        ensures { SaysAnswer policy.now budget key.now self.old self.new text.old.items text.new.items result }
     {
         let port = key.in_port;
         let number = self.tree.leaves() as u64 + 1;
@@ -190,14 +190,14 @@ impl World {
         self.learn(alloc, trace)
     }
 
-    // Adds a run to the tree, and replaces the rules by those of the new tree.
+    // Adds a trace to the tree, and replaces the rules by those of the new tree.
     fn learn(&mut self, alloc: Global, trace: Trace) -> Result<(), NoMemory>
         requires admitted { IsTrue (admits trace.items self.old.tree) }
         requires within { IsTrue (items_within trace.items) }
         requires once { IsTrue (asks_once [] trace.items) }
-        requires short { length trace.items ≤ 262144 }
+        requires short { length trace.items ≤ most_items }
         requires room { leaves_of self.old.tree + 1 < 2 ^ 32 }
-        requires levels { levels_of (insert trace.items (leaf_of trace) self.old.tree) ≤ 65000 }
+        requires levels { levels_of (insert trace.items (leaf_of trace) self.old.tree) ≤ level_limit }
         ensures tree { OnOk result (self.new.tree ≡ insert trace.items (leaf_of trace) self.old.tree) }
         ensures facts { OnOk result (IsPermutation (facts_of self.new.tree anything 0) self.new.rules.facts) }
         ensures barriers { OnOk result (IsPermutation (barriers_of self.new.tree anything 0) self.new.rules.barriers) }
@@ -231,16 +231,5 @@ fn write_answer(
     match line {
         Line::Answer { decision, .. } => Ok(decision),
         _ => unreachable!(),
-    }
-}
-
-fn fault_number(fault: Malformed) -> u8
-    ensures { result ≡ fault_number fault }
-{
-    match fault {
-        Malformed::Ethernet => 1,
-        Malformed::Tag => 2,
-        Malformed::Ip => 3,
-        Malformed::Transport => 4,
     }
 }

@@ -95,7 +95,7 @@ impl Ports {
     }
 }
 
-/// What a run asked of its packet, with the answers, in order.
+/// What an evaluation asked of its packet, with the answers, in order.
 #[derive(Drop)]
 pub struct Items {
     list: Vec<Item>,

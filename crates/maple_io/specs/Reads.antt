@@ -1,7 +1,7 @@
 -- What a read says of a source.
 use Rattle.std.specs.Prelude.{ℕ, ◌≤◌, List, take, length, min, ⊤, ◌≡◌, Option}
 use Rattle.std.specs.Io.KnownBytes.{Consumes, Keeps, IsAtEnd}
-use Rattle.maple_io.specs.Counts.{next_count}
+use Rattle.maple_base.specs.Counts.{next_count}
 use Rattle.maple_io.specs.declared.source.Got.{Got}
 use Rattle.maple_io.specs.declared.source.Got.TheVariants.{Bytes, End, Failed}
 

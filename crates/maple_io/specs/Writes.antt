@@ -1,7 +1,7 @@
 -- What a write says of a sink.
 use Rattle.std.specs.Prelude.{ℕ, ◌≤◌, List, take, ⊤, ◌≡◌, Option}
 use Rattle.std.specs.Io.KnownBytes.{Appends, Keeps}
-use Rattle.maple_io.specs.Counts.{next_count}
+use Rattle.maple_base.specs.Counts.{next_count}
 use Rattle.maple_io.specs.declared.sink.Put.{Put}
 use Rattle.maple_io.specs.declared.sink.Put.TheVariants.{Took, Failed, NoMemory}
 

@@ -1,7 +1,7 @@
 // A source over a reader of std, and a sink over a writer.
 ghost use Rattle.std.specs.Prelude.{◌≡◌, ◌≢◌, ◌<◌, ◌≤◌, length};
 ghost use Rattle.maple_io.specs.Adapters.{read_faults, reader_of, write_faults, writer_of};
-ghost use Rattle.maple_io.specs.Counts.{HasRisen};
+ghost use Rattle.maple_base.specs.Counts.{HasRisen};
 ghost use Rattle.maple_io.specs.Reads.{GivesWithin, ReadsBytes, failed_reads};
 ghost use Rattle.maple_io.specs.Writes.{TakesWithin, WritesBytes, failed_writes};
 
@@ -27,9 +27,7 @@ impl<R> ReadSource<R> {
 }
 
 impl<R: Read> Source for ReadSource<R> {
-    ghost left = { λ s. R.remaining (reader_of s) };
-
-    ghost failed = { λ s. read_faults s };
+    ghost tells = { λ s. record { left = R.remaining (reader_of s); failed = read_faults s } };
 
     fn read(&mut self, into: &mut [u8]) -> Got
         requires { 0 < length into.old }
@@ -76,9 +74,7 @@ impl<W> WriteSink<W> {
 }
 
 impl<W: Write> Sink for WriteSink<W> {
-    ghost taken = { λ s. W.contents (writer_of s) };
-
-    ghost failed = { λ s. write_faults s };
+    ghost tells = { λ s. record { taken = W.contents (writer_of s); failed = write_faults s } };
 
     fn write(&mut self, piece: &[u8]) -> Put
         requires { 0 < length piece.now }

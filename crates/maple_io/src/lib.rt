@@ -11,6 +11,3 @@ pub use adapt::{ReadSource, WriteSink};
 pub use mem::{MemSink, MemSource};
 pub use sink::{Put, Sink};
 pub use source::{Got, Source};
-
-#[cfg(test)]
-mod tests;

@@ -1,7 +1,7 @@
 // A source and a sink over memory, whose failures are chosen ahead.
 ghost use Rattle.std.specs.Prelude.{◌≡◌, ◌<◌, ◌≤◌, ◌↔◌, [], IsTrue, Some, length, min, take, drop, ◌++◌, ◌+◌, ◌-◌};
 ghost use Rattle.std.specs.List.{Contains};
-ghost use Rattle.maple_io.specs.Counts.{HasRisen, next_count};
+ghost use Rattle.maple_base.specs.Counts.{HasRisen, next_count};
 ghost use Rattle.maple_io.specs.Reads.{FillsUp, GivesWithin, ReadsBytes, failed_reads};
 ghost use Rattle.maple_io.specs.Writes.{TakesAll, TakesWithin, WritesBytes, failed_writes};
 
@@ -50,9 +50,7 @@ impl MemSource {
 }
 
 impl Source for MemSource {
-    ghost left = { λ s. Some s.left };
-
-    ghost failed = { λ s. s.failed };
+    ghost tells = { λ s. record { left = Some s.left; failed = s.failed } };
 
     fn read(&mut self, into: &mut [u8]) -> Got
         requires { 0 < length into.old }
@@ -132,9 +130,7 @@ impl MemSink {
 }
 
 impl Sink for MemSink {
-    ghost taken = { λ s. Some s.taken };
-
-    ghost failed = { λ s. s.failed };
+    ghost tells = { λ s. record { taken = Some s.taken; failed = s.failed } };
 
     fn write(&mut self, piece: &[u8]) -> Put
         requires { 0 < length piece.now }

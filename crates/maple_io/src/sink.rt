@@ -1,7 +1,6 @@
 // What takes bytes.
-ghost use Rattle.std.specs.Prelude.{◌≡◌, ℕ, ◌<◌, ◌≤◌, List, length};
-ghost use Rattle.std.specs.declared.option.Option.{Option};
-ghost use Rattle.maple_io.specs.Counts.{HasRisen};
+ghost use Rattle.std.specs.Prelude.{◌≡◌, ◌<◌, ◌≤◌, length};
+ghost use Rattle.maple_io.specs.Views.{SinkView, WriteFailed};
 ghost use Rattle.maple_io.specs.Writes.{TakesWithin, WritesBytes};
 
 /// What became of a piece.
@@ -17,11 +16,9 @@ pub enum Put {
 
 /// What takes bytes.
 pub trait Sink {
-    /// The bytes that were taken, in order, where the sink tells them. `None` claims nothing.
-    ghost taken: { Self → Option (List ℕ) };
-
-    /// How many writes failed. At 2^64 - 1 it stands still, and a failure then counts as a rise.
-    ghost failed: { Self → ℕ };
+    /// The bytes that were taken, in order, where the sink tells them (`None` claims nothing), and
+    /// how many writes failed. That count stands still at 2^64 - 1, where a failure counts as a rise.
+    ghost tells: { Self → SinkView };
 
     /// Writes a piece that is not empty, once. `Put::Took(n)` says that its first n bytes were taken,
     /// with n from 1 to the piece's length; `Put::Failed` that none was and that `faults` rose;
@@ -29,12 +26,12 @@ pub trait Sink {
     fn write(&mut self, piece: &[u8]) -> Put
         requires { 0 < length piece.now }
         ensures room { TakesWithin result (length piece.now) }
-        ensures bytes { WritesBytes (taken self.old) (taken self.new) result piece.now }
-        ensures cause { result ≡ Put.Failed → HasRisen (failed self.old) (failed self.new) }
-        ensures count { failed self.old ≤ failed self.new }
-        ensures spared { result ≡ Put.NoMemory → failed self.new ≡ failed self.old };
+        ensures bytes { WritesBytes (tells self.old).taken (tells self.new).taken result piece.now }
+        ensures cause { result ≡ Put.Failed → WriteFailed (tells self.old) (tells self.new) }
+        ensures count { (tells self.old).failed ≤ (tells self.new).failed }
+        ensures spared { result ≡ Put.NoMemory → (tells self.new).failed ≡ (tells self.old).failed };
 
     /// How many writes failed, up to 2^64 - 1.
     fn faults(&self) -> u64
-        ensures { result ≡ failed self.now };
+        ensures { result ≡ (tells self.now).failed };
 }

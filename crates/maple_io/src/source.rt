@@ -1,8 +1,7 @@
 // What gives bytes.
-ghost use Rattle.std.specs.Prelude.{◌≡◌, ℕ, ◌<◌, ◌≤◌, List, length};
-ghost use Rattle.std.specs.declared.option.Option.{Option};
-ghost use Rattle.maple_io.specs.Counts.{HasRisen};
+ghost use Rattle.std.specs.Prelude.{◌≡◌, ◌<◌, ◌≤◌, length};
 ghost use Rattle.maple_io.specs.Reads.{GivesWithin, ReadsBytes};
+ghost use Rattle.maple_io.specs.Views.{ReadFailed, SourceView};
 
 /// What a read found.
 #[derive(Clone, Copy, Debug, PartialEq, Eq)]
@@ -17,11 +16,9 @@ pub enum Got {
 
 /// What gives bytes.
 pub trait Source {
-    /// The bytes that are left, in order, where the source tells them. `None` claims nothing.
-    ghost left: { Self → Option (List ℕ) };
-
-    /// How many reads failed. At 2^64 - 1 it stands still, and a failure then counts as a rise.
-    ghost failed: { Self → ℕ };
+    /// The bytes that are left, in order, where the source tells them (`None` claims nothing), and
+    /// how many reads failed. That count stands still at 2^64 - 1, where a failure counts as a rise.
+    ghost tells: { Self → SourceView };
 
     /// Reads once into a slice that is not empty. `Got::Bytes(n)` says that its first n bytes are the
     /// next n of the source, with n from 1 to the slice's length; `Got::End` that none is left;
@@ -29,11 +26,11 @@ pub trait Source {
     fn read(&mut self, into: &mut [u8]) -> Got
         requires { 0 < length into.old }
         ensures room { GivesWithin result (length into.old) }
-        ensures bytes { ReadsBytes (left self.old) (left self.new) result into.new }
-        ensures cause { result ≡ Got.Failed → HasRisen (failed self.old) (failed self.new) }
-        ensures count { failed self.old ≤ failed self.new };
+        ensures bytes { ReadsBytes (tells self.old).left (tells self.new).left result into.new }
+        ensures cause { result ≡ Got.Failed → ReadFailed (tells self.old) (tells self.new) }
+        ensures count { (tells self.old).failed ≤ (tells self.new).failed };
 
     /// How many reads failed, up to 2^64 - 1.
     fn faults(&self) -> u64
-        ensures { result ≡ failed self.now };
+        ensures { result ≡ (tells self.now).failed };
 }

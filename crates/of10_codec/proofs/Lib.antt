@@ -3,7 +3,6 @@ pub mod Given
 pub mod Lengths
 pub mod ListBack
 pub mod MatchBack
-pub mod NumberBack
 pub mod Outputs
 pub mod PortLists
 pub mod Shown

@@ -7,7 +7,7 @@ use Rattle.maple_base.specs.declared.cells.Port.{Port}
 use Rattle.of10_codec.specs.Written.{written_outputs, written_port}
 use Rattle.of10_codec.specs.Laws.{has_bits, port_has_bits}
 use Rattle.of10_codec.specs.Messages.{SpellsPort, SpellsPorts, SpellsOutputs, is_up}
-use Rattle.of10_codec.proofs.NumberBack.{number_back}
+use Rattle.maple_base.proofs.NumberBack.{number_back}
 
 pub outputs_back : (ports rest : List ℕ) → list_all (has_bits 16) ports ≡ true → SpellsOutputs ports (written_outputs ports ++ rest)
 outputs_back [] rest bits = tt

@@ -11,7 +11,7 @@ use Rattle.maple_base.specs.NetworkOrder.{number_at}
 use Rattle.of10_codec.specs.Written.{wild, wildcards, value_or_zero, written_match, match_fits_fields, is_address}
 use Rattle.of10_codec.specs.Laws.{fixed_has_bits, match_has_bits}
 use Rattle.of10_codec.specs.Matches.{SpellsMatch, unless, is_whole, is_all}
-use Rattle.of10_codec.proofs.NumberBack.{number_back}
+use Rattle.maple_base.proofs.NumberBack.{number_back}
 
 -- 1 where a number is not fixed
 abbrev pub flag : Option ℕ → ℕ

@@ -9,9 +9,10 @@ use Rattle.of10_codec.specs.declared.message.Body.{Body}
 use Rattle.of10_codec.specs.declared.message.Body.TheVariants.{Hello, Error, EchoRequest, EchoReply, FeaturesRequest, FeaturesReply, SetConfig, PacketIn, FlowRemoved, PortStatus, PacketOut, FlowMod, BarrierRequest, BarrierReply, Other}
 use Rattle.of10_codec.specs.Types.{type_of, is_named}
 use Rattle.of10_codec.specs.Messages.{SpellsHeader, SpellsBody, SpellsOutputs, version_of}
-use Rattle.of10_codec.specs.Written.{number, zeros, with_header, written_body, written_outputs, sent_body, fits_fields}
+use Rattle.maple_base.specs.NetworkOrder.{number, zeros}
+use Rattle.of10_codec.specs.Written.{with_header, written_body, written_outputs, sent_body, fits_fields}
 use Rattle.of10_codec.specs.Laws.{has_bits, match_has_bits, port_has_bits, actions_have_bits, body_has_bits, Spells}
-use Rattle.of10_codec.proofs.NumberBack.{number_back}
+use Rattle.maple_base.proofs.NumberBack.{number_back}
 use Rattle.of10_codec.proofs.MatchBack.{match_back}
 use Rattle.of10_codec.proofs.ListBack.{outputs_back, outputs_length, behind_outputs, port_back, ports_back, ports_length}
 

@@ -5,6 +5,7 @@ use Rattle.of10_codec.specs.declared.fault.DecodeError.{DecodeError}
 use Rattle.of10_codec.specs.declared.fault.DecodeError.TheVariants as reading
 use Rattle.of10_codec.specs.declared.fault.EncodeError.{EncodeError}
 use Rattle.of10_codec.specs.declared.fault.EncodeError.TheVariants as writing
+use Rattle.of10_codec.specs.Types.{most_bytes}
 use Rattle.of10_codec.specs.Faults.{bad_of}
 use Rattle.of10_codec.specs.Written.{written}
 
@@ -15,5 +16,5 @@ IsFaultOf reading.NoMemory b = bad_of b ≡ None
 
 -- a message was too long, and so long; or memory ran out for one that was not
 abbrev pub IsTooLong : EncodeError → Message → Type 0
-IsTooLong (writing.TooLong n) m = (n ≡ length (written m)) × (65535 < n)
-IsTooLong writing.NoMemory m = length (written m) ≤ 65535
+IsTooLong (writing.TooLong n) m = (n ≡ length (written m)) × (most_bytes < n)
+IsTooLong writing.NoMemory m = length (written m) ≤ most_bytes

@@ -1,11 +1,12 @@
 -- What holds of the bytes that spell a message.
-use Rattle.std.specs.Prelude.{◌≡◌, ℕ, ◌<◌, ◌≤◌, ◌^◌, Bool, true, ◌&&◌, nat_lt, List, [], ◌++◌, length, Option, Some, None}
+use Rattle.std.specs.Prelude.{◌≡◌, ℕ, ◌≤◌, ◌^◌, Bool, true, ◌&&◌, nat_lt, List, [], ◌++◌, length, Option, Some, None}
 use Rattle.std.specs.List.{list_all}
 use Rattle.maple_base.specs.declared.key.Match.{Match}
 use Rattle.maple_base.specs.declared.cells.Port.{Port}
 use Rattle.of10_codec.specs.declared.message.Message.{Message}
 use Rattle.of10_codec.specs.declared.message.Body.{Body}
 use Rattle.of10_codec.specs.declared.message.Body.TheVariants.{Hello, Error, EchoRequest, EchoReply, FeaturesRequest, FeaturesReply, SetConfig, PacketIn, FlowRemoved, PortStatus, PacketOut, FlowMod, BarrierRequest, BarrierReply, Other}
+use Rattle.of10_codec.specs.Types.{most_bytes}
 use Rattle.of10_codec.specs.Messages.{Spelled}
 use Rattle.of10_codec.specs.Faults.{bad_of}
 use Rattle.of10_codec.specs.Written.{written, sent, fits_fields}
@@ -42,6 +43,14 @@ port_has_bits p = has_bits 16 p.number
 abbrev pub actions_have_bits : List ℕ → Bool
 actions_have_bits ports = nat_lt (length ports) 17 && list_all (has_bits 16) ports
 
+-- the numbers of the two parts of a change of a flow table have their widths
+abbrev pub front_has_bits : Match → ℕ → ℕ → ℕ → ℕ → Bool
+front_has_bits of cookie command idle hard = match_has_bits of && has_bits 64 cookie && has_bits 16 command && has_bits 16 idle && has_bits 16 hard
+
+abbrev pub rest_has_bits : ℕ → ℕ → ℕ → ℕ → List ℕ → Bool
+rest_has_bits priority buffer out_port flags actions =
+    has_bits 16 priority && has_bits 32 buffer && has_bits 16 out_port && has_bits 16 flags && actions_have_bits actions
+
 -- each number of a body has the width of its type
 abbrev pub body_has_bits : Body → Bool
 body_has_bits (Hello version) = has_bits 8 version
@@ -67,4 +76,4 @@ message_has_bits m = has_bits 32 m.xid && body_has_bits m.body
 
 -- what is written of a message spells it; of a HELLO of any version, the one of version 1
 abbrev pub Spells : Type 0
-Spells = (m : Message) → message_has_bits m ≡ true → fits_fields m.body ≡ true → length (written m) ≤ 65535 → Spelled (sent m) (written m)
+Spells = (m : Message) → message_has_bits m ≡ true → fits_fields m.body ≡ true → length (written m) ≤ most_bytes → Spelled (sent m) (written m)

@@ -1,3 +1,5 @@
+-- A reader must believe: Types, Matches and Messages (which bytes spell a message), Faults (the first fault of bytes), Lent (messages with lent bytes), Written (the one
+-- spelling that is sent), Answers (what errors tell), Laws. Reading serves private contracts and proofs alone.
 pub mod Answers
 pub mod Faults
 pub mod Laws

@@ -1,22 +1,22 @@
 -- Which bytes spell a message: its fields at their places (OpenFlow Switch Specification 1.0.0, 5). Pads, and fields that no clause speaks of, are free.
-use Rattle.std.specs.Prelude.{◌≡◌, ℕ, ◌+◌, ◌*◌, ◌≤◌, ◌%◌, Bool, false, ◌&&◌, ◌==◌, List, [], ◌∷◌, length, take, drop}
+use Rattle.std.specs.Prelude.{◌≡◌, ℕ, ◌+◌, ◌*◌, ◌≤◌, ◌%◌, Bool, false, ◌&&◌, ◌==◌, List, [], ◌∷◌, length, drop}
 use Rattle.maple_base.specs.declared.key.Match.{Match}
 use Rattle.maple_base.specs.declared.cells.Port.{Port}
 use Rattle.maple_base.specs.NetworkOrder.{number_at}
 use Rattle.of10_codec.specs.declared.message.Message.{Message}
 use Rattle.of10_codec.specs.declared.message.Body.{Body}
 use Rattle.of10_codec.specs.declared.message.Body.TheVariants.{Hello, Error, EchoRequest, EchoReply, FeaturesRequest, FeaturesReply, SetConfig, PacketIn, FlowRemoved, PortStatus, PacketOut, FlowMod, BarrierRequest, BarrierReply, Other}
-use Rattle.of10_codec.specs.Types.{type_of, is_named}
+use Rattle.of10_codec.specs.Types.{protocol_version, header_length, type_of, is_named}
 use Rattle.of10_codec.specs.Matches.{SpellsMatch}
 
 -- the version of a message: 1, but for a HELLO, which may have any
 abbrev pub version_of : Body → ℕ
 version_of (Hello version) = version
-version_of body = 1
+version_of body = protocol_version
 
 -- the header (5.1, ofp_header); the length is that of all bytes
 pub record SpellsHeader (m : Message) (b : List ℕ) : Type 0 where
-  pub long : 8 ≤ length b
+  pub long : header_length ≤ length b
   pub version : number_at 0 1 b ≡ version_of m.body
   pub kind : number_at 1 1 b ≡ type_of m.body
   pub whole : number_at 2 2 b ≡ length b
@@ -117,9 +117,9 @@ pub record SpellsFlowMod (of : Match) (cookie command idle hard priority buffer 
 abbrev pub SpellsBody : Body → List ℕ → Type 0
 SpellsBody (Hello version) b = Unit {0}
 SpellsBody (Error kind code bytes) b = SpellsError kind code bytes b
-SpellsBody (EchoRequest bytes) b = drop 8 b ≡ bytes
-SpellsBody (EchoReply bytes) b = drop 8 b ≡ bytes
-SpellsBody FeaturesRequest b = length b ≡ 8
+SpellsBody (EchoRequest bytes) b = drop header_length b ≡ bytes
+SpellsBody (EchoReply bytes) b = drop header_length b ≡ bytes
+SpellsBody FeaturesRequest b = length b ≡ header_length
 SpellsBody (FeaturesReply dpid ports) b = SpellsFeatures dpid ports b
 SpellsBody (SetConfig miss_send_len) b = SpellsConfig miss_send_len b
 SpellsBody (PacketIn buffer total in_port reason bytes) b = SpellsPacketIn buffer total in_port reason bytes b
@@ -127,8 +127,8 @@ SpellsBody (FlowRemoved of cookie priority reason idle) b = SpellsFlowRemoved of
 SpellsBody (PortStatus reason port) b = SpellsPortStatus reason port b
 SpellsBody (PacketOut buffer in_port actions bytes) b = SpellsPacketOut buffer in_port actions bytes b
 SpellsBody (FlowMod of cookie command idle hard priority buffer out_port flags actions) b = SpellsFlowMod of cookie command idle hard priority buffer out_port flags actions b
-SpellsBody BarrierRequest b = length b ≡ 8
-SpellsBody BarrierReply b = length b ≡ 8
+SpellsBody BarrierRequest b = length b ≡ header_length
+SpellsBody BarrierReply b = length b ≡ header_length
 SpellsBody (Other kind) b = is_named kind ≡ false
 
 -- the bytes spell the message

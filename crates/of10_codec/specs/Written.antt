@@ -1,20 +1,15 @@
 -- The one spelling of each message that is sent. Pads, and fields that a message does not have, are 0.
-use Rattle.std.specs.Prelude.{ℕ, ◌+◌, ◌*◌, ◌^◌, Bool, true, false, not, ◌&&◌, ◌==◌, nat_lt, nat_le, if◌then◌else◌, is_none, List, [], ◌∷◌, ◌++◌, length, replicate, Option, Some, None}
+use Rattle.std.specs.Prelude.{ℕ, ◌+◌, ◌*◌, ◌^◌, Bool, true, not, ◌&&◌, ◌==◌, nat_lt, nat_le, if◌then◌else◌, List, [], ◌++◌, length, Option, Some, None}
 use Rattle.std.specs.List.{flat_map}
-use Rattle.std.specs.Int.{bytes_high_first}
 use Rattle.maple_base.specs.declared.key.Match.{Match}
 use Rattle.maple_base.specs.declared.cells.Port.{Port}
+use Rattle.maple_base.specs.NetworkOrder.{number, zeros}
+use Rattle.maple_base.specs.Ports.{controller_port}
 use Rattle.of10_codec.specs.declared.message.Message.{Message}
 use Rattle.of10_codec.specs.declared.message.Body.{Body}
 use Rattle.of10_codec.specs.declared.message.Body.TheVariants.{Hello, Error, EchoRequest, EchoReply, FeaturesRequest, FeaturesReply, SetConfig, PacketIn, FlowRemoved, PortStatus, PacketOut, FlowMod, BarrierRequest, BarrierReply, Other}
-use Rattle.of10_codec.specs.Types.{type_of, is_named}
-
--- so many bytes of a number, and so many bytes of 0
-abbrev pub number : ℕ → ℕ → List ℕ
-number width n = bytes_high_first width n
-
-abbrev pub zeros : ℕ → List ℕ
-zeros width = replicate width 0
+use Rattle.of10_codec.specs.Types.{protocol_version, header_length, type_of, is_named}
+use Rattle.of10_codec.specs.Matches.{in_port_bit, dl_vlan_bit, dl_src_bit, dl_dst_bit, dl_type_bit, nw_proto_bit, tp_src_bit, tp_dst_bit, nw_src_bit, nw_dst_bit, dl_pcp_bit, nw_tos_bit}
 
 -- what stands for a number that is not fixed
 abbrev pub value_or_zero : Option ℕ → ℕ
@@ -32,8 +27,9 @@ wild worth (Some v) = 0
 -- the bits of what is not fixed (5.2.3, ofp_flow_wildcards); of an address 32 bits
 abbrev pub wildcards : Match → ℕ
 wildcards m =
-    wild (2 ^ 0) m.in_port + wild (2 ^ 1) m.dl_vlan + wild (2 ^ 2) m.dl_src + wild (2 ^ 3) m.dl_dst + wild (2 ^ 4) m.dl_type + wild (2 ^ 5) m.nw_proto
-    + wild (2 ^ 6) m.tp_src + wild (2 ^ 7) m.tp_dst + wild (32 * 2 ^ 8) m.nw_src + wild (32 * 2 ^ 14) m.nw_dst + wild (2 ^ 20) m.dl_pcp + wild (2 ^ 21) m.nw_tos
+    wild (2 ^ in_port_bit) m.in_port + wild (2 ^ dl_vlan_bit) m.dl_vlan + wild (2 ^ dl_src_bit) m.dl_src + wild (2 ^ dl_dst_bit) m.dl_dst + wild (2 ^ dl_type_bit) m.dl_type
+    + wild (2 ^ nw_proto_bit) m.nw_proto + wild (2 ^ tp_src_bit) m.tp_src + wild (2 ^ tp_dst_bit) m.tp_dst + wild (32 * 2 ^ nw_src_bit) m.nw_src
+    + wild (32 * 2 ^ nw_dst_bit) m.nw_dst + wild (2 ^ dl_pcp_bit) m.dl_pcp + wild (2 ^ nw_tos_bit) m.nw_tos
 
 abbrev pub written_match : Match → List ℕ
 written_match m =
@@ -41,9 +37,9 @@ written_match m =
     ++ zeros 1 ++ fixed_number 2 m.dl_type ++ fixed_number 1 m.nw_tos ++ fixed_number 1 m.nw_proto ++ zeros 2 ++ fixed_number 4 m.nw_src ++ fixed_number 4 m.nw_dst
     ++ fixed_number 2 m.tp_src ++ fixed_number 2 m.tp_dst
 
--- to the controller (OFPP_CONTROLLER, 0xfffd) a packet is sent whole
+-- to the controller a packet is sent whole
 abbrev pub written_output : ℕ → List ℕ
-written_output port = number 2 0 ++ number 2 8 ++ number 2 port ++ number 2 (if port == 0xfffd then 0xffff else 0)
+written_output port = number 2 0 ++ number 2 8 ++ number 2 port ++ number 2 (if port == controller_port then 0xffff else 0)
 
 abbrev pub written_outputs : List ℕ → List ℕ
 written_outputs ports = flat_map written_output ports
@@ -51,6 +47,13 @@ written_outputs ports = flat_map written_output ports
 -- a port's number, its address and name, its config, its state, and its features
 abbrev pub written_port : Port → List ℕ
 written_port p = number 2 p.number ++ zeros 22 ++ number 4 0 ++ number 4 (if p.up then 0 else 1) ++ zeros 16
+
+-- the two parts in which a change of a flow table is written: up to the seconds after which the rule goes, and what is behind that
+abbrev pub flow_mod_front : Match → ℕ → ℕ → ℕ → ℕ → List ℕ
+flow_mod_front of cookie command idle hard = written_match of ++ number 8 cookie ++ number 2 command ++ number 2 idle ++ number 2 hard
+
+abbrev pub flow_mod_rest : ℕ → ℕ → ℕ → ℕ → List ℕ → List ℕ
+flow_mod_rest priority buffer out_port flags actions = number 2 priority ++ number 4 buffer ++ number 2 out_port ++ number 2 flags ++ written_outputs actions
 
 abbrev pub written_body : Body → List ℕ
 written_body (Hello version) = []
@@ -74,14 +77,14 @@ written_body BarrierReply = []
 written_body (Other kind) = []
 
 abbrev pub with_header : ℕ → ℕ → List ℕ → List ℕ
-with_header kind xid body = number 1 1 ++ number 1 kind ++ number 2 (8 + length body) ++ number 4 xid ++ body
+with_header kind xid body = number 1 protocol_version ++ number 1 kind ++ number 2 (header_length + length body) ++ number 4 xid ++ body
 
 abbrev pub written : Message → List ℕ
 written m = with_header (type_of m.body) m.xid (written_body m.body)
 
 -- the message that is sent: a HELLO is sent with version 1
 abbrev pub sent_body : Body → Body
-sent_body (Hello version) = Hello 1
+sent_body (Hello version) = Hello protocol_version
 sent_body body = body
 
 abbrev pub sent : Message → Message

@@ -1,8 +1,7 @@
 // Reading what a message says.
-ghost use Rattle.std.specs.Prelude.{◌≡◌, ◌≢◌, ◌≤◌, length, IfOk, IfErr, OnOk, OnErr, Some};
-ghost use Rattle.of10_codec.specs.declared.fault.Bad.TheVariants.{Body};
-ghost use Rattle.of10_codec.specs.Faults.{body_faults, first_fault};
-ghost use Rattle.of10_codec.specs.Reading.{ReadsBody};
+ghost use Rattle.std.specs.Prelude.{◌≡◌, ◌≢◌, ◌≤◌, length, IfOk, IfErr, OnOk, OnErr};
+ghost use Rattle.of10_codec.specs.Reading.{IsFaulty, ReadsBody};
+ghost use Rattle.of10_codec.specs.Types.{error_type, features_reply_type, set_config_type, packet_in_type, flow_removed_type, port_status_type, packet_out_type, flow_mod_type};
 
 use crate::BodyRef;
 use crate::action_reading::{OUTPUT_LEN, read_actions};
@@ -32,7 +31,7 @@ const MODIFIED: u8 = 2;
 pub fn read_body(kind: u8, bytes: &[u8]) -> Result<BodyRef<'_>, u16>
     requires { 8 ≤ length bytes.now }
     ensures found { IfOk result (λ body. ReadsBody kind body bytes.now) }
-    ensures fault { IfErr result (λ offset. first_fault kind (body_faults kind bytes.now) ≡ Some (Body kind offset)) }
+    ensures fault { IfErr result (λ offset. IsFaulty kind offset bytes.now) }
 {
     match kind {
         HELLO => Ok(BodyRef::Hello {
@@ -77,8 +76,8 @@ fn expect_empty(bytes: &[u8]) -> Result<(), u16>
 }
 
 fn read_error(bytes: &[u8]) -> Result<BodyRef<'_>, u16>
-    ensures found { IfOk result (λ body. ReadsBody 1 body bytes.now) }
-    ensures fault { IfErr result (λ offset. first_fault 1 (body_faults 1 bytes.now) ≡ Some (Body 1 offset)) }
+    ensures found { IfOk result (λ body. ReadsBody error_type body bytes.now) }
+    ensures fault { IfErr result (λ offset. IsFaulty error_type offset bytes.now) }
 {
     if bytes.len() < 12 {
         return Err(LENGTH);
@@ -91,8 +90,8 @@ fn read_error(bytes: &[u8]) -> Result<BodyRef<'_>, u16>
 }
 
 fn read_features(bytes: &[u8]) -> Result<BodyRef<'_>, u16>
-    ensures found { IfOk result (λ body. ReadsBody 6 body bytes.now) }
-    ensures fault { IfErr result (λ offset. first_fault 6 (body_faults 6 bytes.now) ≡ Some (Body 6 offset)) }
+    ensures found { IfOk result (λ body. ReadsBody features_reply_type body bytes.now) }
+    ensures fault { IfErr result (λ offset. IsFaulty features_reply_type offset bytes.now) }
 {
     if bytes.len() < 32 || (bytes.len() - 32) % PORT_LEN != 0 {
         return Err(LENGTH);
@@ -104,8 +103,8 @@ fn read_features(bytes: &[u8]) -> Result<BodyRef<'_>, u16>
 }
 
 fn read_config(bytes: &[u8]) -> Result<BodyRef<'_>, u16>
-    ensures found { IfOk result (λ body. ReadsBody 9 body bytes.now) }
-    ensures fault { IfErr result (λ offset. first_fault 9 (body_faults 9 bytes.now) ≡ Some (Body 9 offset)) }
+    ensures found { IfOk result (λ body. ReadsBody set_config_type body bytes.now) }
+    ensures fault { IfErr result (λ offset. IsFaulty set_config_type offset bytes.now) }
 {
     if bytes.len() != 12 {
         return Err(LENGTH);
@@ -116,8 +115,8 @@ fn read_config(bytes: &[u8]) -> Result<BodyRef<'_>, u16>
 }
 
 fn read_packet_in(bytes: &[u8]) -> Result<BodyRef<'_>, u16>
-    ensures found { IfOk result (λ body. ReadsBody 10 body bytes.now) }
-    ensures fault { IfErr result (λ offset. first_fault 10 (body_faults 10 bytes.now) ≡ Some (Body 10 offset)) }
+    ensures found { IfOk result (λ body. ReadsBody packet_in_type body bytes.now) }
+    ensures fault { IfErr result (λ offset. IsFaulty packet_in_type offset bytes.now) }
 {
     if bytes.len() < 18 {
         return Err(LENGTH);
@@ -132,8 +131,8 @@ fn read_packet_in(bytes: &[u8]) -> Result<BodyRef<'_>, u16>
 }
 
 fn read_flow_removed(bytes: &[u8]) -> Result<BodyRef<'_>, u16>
-    ensures found { IfOk result (λ body. ReadsBody 11 body bytes.now) }
-    ensures fault { IfErr result (λ offset. first_fault 11 (body_faults 11 bytes.now) ≡ Some (Body 11 offset)) }
+    ensures found { IfOk result (λ body. ReadsBody flow_removed_type body bytes.now) }
+    ensures fault { IfErr result (λ offset. IsFaulty flow_removed_type offset bytes.now) }
 {
     if bytes.len() != 88 {
         return Err(LENGTH);
@@ -151,8 +150,8 @@ fn read_flow_removed(bytes: &[u8]) -> Result<BodyRef<'_>, u16>
 }
 
 fn read_port_status(bytes: &[u8]) -> Result<BodyRef<'_>, u16>
-    ensures found { IfOk result (λ body. ReadsBody 12 body bytes.now) }
-    ensures fault { IfErr result (λ offset. first_fault 12 (body_faults 12 bytes.now) ≡ Some (Body 12 offset)) }
+    ensures found { IfOk result (λ body. ReadsBody port_status_type body bytes.now) }
+    ensures fault { IfErr result (λ offset. IsFaulty port_status_type offset bytes.now) }
 {
     if bytes.len() != 64 {
         return Err(LENGTH);
@@ -168,8 +167,8 @@ fn read_port_status(bytes: &[u8]) -> Result<BodyRef<'_>, u16>
 }
 
 fn read_packet_out(bytes: &[u8]) -> Result<BodyRef<'_>, u16>
-    ensures found { IfOk result (λ body. ReadsBody 13 body bytes.now) }
-    ensures fault { IfErr result (λ offset. first_fault 13 (body_faults 13 bytes.now) ≡ Some (Body 13 offset)) }
+    ensures found { IfOk result (λ body. ReadsBody packet_out_type body bytes.now) }
+    ensures fault { IfErr result (λ offset. IsFaulty packet_out_type offset bytes.now) }
 {
     if bytes.len() < 16 {
         return Err(LENGTH);
@@ -188,8 +187,8 @@ fn read_packet_out(bytes: &[u8]) -> Result<BodyRef<'_>, u16>
 }
 
 fn read_flow_mod(bytes: &[u8]) -> Result<BodyRef<'_>, u16>
-    ensures found { IfOk result (λ body. ReadsBody 14 body bytes.now) }
-    ensures fault { IfErr result (λ offset. first_fault 14 (body_faults 14 bytes.now) ≡ Some (Body 14 offset)) }
+    ensures found { IfOk result (λ body. ReadsBody flow_mod_type body bytes.now) }
+    ensures fault { IfErr result (λ offset. IsFaulty flow_mod_type offset bytes.now) }
 {
     if bytes.len() < 72 || (bytes.len() - 72) % OUTPUT_LEN != 0 {
         return Err(LENGTH);

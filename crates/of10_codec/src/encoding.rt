@@ -1,8 +1,9 @@
 // Writing messages.
 ghost use Rattle.std.specs.Prelude.{◌≡◌, ◌+◌, ◌≤◌, ◌++◌, true, length, vec_len, vec_capacity, OnOk, OnErr, IfErr};
-ghost use Rattle.of10_codec.specs.Types.{type_of};
+ghost use Rattle.of10_codec.specs.Types.{most_bytes, type_of};
 ghost use Rattle.of10_codec.specs.Laws.{has_bits};
-ghost use Rattle.of10_codec.specs.Written.{number, written, written_match, sent, match_fits_fields, fits_fields};
+ghost use Rattle.maple_base.specs.NetworkOrder.{number};
+ghost use Rattle.of10_codec.specs.Written.{written, written_match, sent, match_fits_fields, fits_fields};
 ghost use Rattle.of10_codec.specs.Messages.{Spelled};
 ghost use Rattle.of10_codec.specs.Answers.{IsTooLong};
 
@@ -11,19 +12,20 @@ mod bodies;
 mod matches;
 mod outputs;
 mod ports;
-#[cfg(test)]
-mod tests;
 
+use crate::header::{
+    BARRIER_REPLY, BARRIER_REQUEST, ECHO_REPLY, ECHO_REQUEST, ERROR, FEATURES_REPLY,
+    FEATURES_REQUEST, FLOW_MOD, FLOW_REMOVED, HEADER_LEN, HELLO, PACKET_IN, PACKET_OUT,
+    PORT_STATUS, SET_CONFIG, VERSION,
+};
 use crate::{Body, EncodeError, Message};
 use append::{append_u8, append_u16, append_u32};
 use bodies::{append_body, len_of};
 use maple_base::Match;
 use matches::bytes_of;
 
-// The version of OpenFlow, and how many bytes a header has.
-const VERSION: u8 = 1;
-
-const HEADER: u128 = 8;
+// The most bytes that a message has: its header tells their number in 16 bits.
+const MOST_BYTES: u128 = u16::MAX as u128;
 
 /// Appends the bytes of a message. Each number fits its field: the Ethernet addresses of a match are
 /// below 2^48, and the reason of a port status is at most 2; and the type of an `Other` is none that
@@ -36,13 +38,13 @@ const HEADER: u128 = 8;
 pub fn encode(message: &Message, out: &mut Vec<u8>) -> Result<(), EncodeError>
     requires { fits_fields message.now.body ≡ true }
     ensures ok { OnOk result (out.new.items ≡ out.old.items ++ written message.now) }
-    ensures short { OnOk result (length (written message.now) ≤ 65535) }
+    ensures short { OnOk result (length (written message.now) ≤ most_bytes) }
     ensures spelled { OnOk result (Spelled (sent message.now) (written message.now)) }
     ensures error { IfErr result (λ error. IsTooLong error message.now) }
     ensures kept { OnErr result (out.new.items ≡ out.old.items) }
 {
-    let len = HEADER + len_of(&message.body);
-    if len > u16::MAX as u128 {
+    let len = HEADER_LEN as u128 + len_of(&message.body);
+    if len > MOST_BYTES {
         return Err(EncodeError::TooLong(len));
     }
     // All room at once, so that nothing fails once `out` has changed.
@@ -58,20 +60,20 @@ fn kind_of(body: &Body) -> u8
     ensures { result ≡ type_of body.now }
 {
     match body {
-        Body::Hello { .. } => 0,
-        Body::Error { .. } => 1,
-        Body::EchoRequest(_) => 2,
-        Body::EchoReply(_) => 3,
-        Body::FeaturesRequest => 5,
-        Body::FeaturesReply { .. } => 6,
-        Body::SetConfig { .. } => 9,
-        Body::PacketIn { .. } => 10,
-        Body::FlowRemoved { .. } => 11,
-        Body::PortStatus { .. } => 12,
-        Body::PacketOut { .. } => 13,
-        Body::FlowMod { .. } => 14,
-        Body::BarrierRequest => 18,
-        Body::BarrierReply => 19,
+        Body::Hello { .. } => HELLO,
+        Body::Error { .. } => ERROR,
+        Body::EchoRequest(_) => ECHO_REQUEST,
+        Body::EchoReply(_) => ECHO_REPLY,
+        Body::FeaturesRequest => FEATURES_REQUEST,
+        Body::FeaturesReply { .. } => FEATURES_REPLY,
+        Body::SetConfig { .. } => SET_CONFIG,
+        Body::PacketIn { .. } => PACKET_IN,
+        Body::FlowRemoved { .. } => FLOW_REMOVED,
+        Body::PortStatus { .. } => PORT_STATUS,
+        Body::PacketOut { .. } => PACKET_OUT,
+        Body::FlowMod { .. } => FLOW_MOD,
+        Body::BarrierRequest => BARRIER_REQUEST,
+        Body::BarrierReply => BARRIER_REPLY,
         Body::Other { kind } => *kind,
     }
 }

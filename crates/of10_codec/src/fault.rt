@@ -1,4 +1,6 @@
 // Why bytes are no message, and why a message has no bytes.
+ghost use Rattle.std.specs.Prelude.{◌≡◌};
+ghost use Rattle.of10_codec.specs.Faults.{fault_number};
 
 use maple_base::NoMemory;
 use thiserror::Error;
@@ -15,6 +17,20 @@ pub enum Bad {
     /// A field of the body of a message of this type, at this offset from the message's first byte,
     /// has no meaning here. Where the length does not suit the type it is the length, at offset 2.
     Body { kind: u8, offset: u16 },
+}
+
+impl Bad {
+    /// The number by which the fault is told, 1 to 4 in the order of the variants.
+    pub fn number(self) -> u8
+        ensures { result ≡ fault_number self }
+    {
+        match self {
+            Bad::Short => 1,
+            Bad::Version => 2,
+            Bad::Length => 3,
+            Bad::Body { .. } => 4,
+        }
+    }
 }
 
 /// Why no message was read.

@@ -9,10 +9,12 @@ use crate::number::{u8_at, u16_at, u32_at};
 /// How many bytes a header has (OpenFlow 1.0, 5.1, ofp_header).
 pub const HEADER_LEN: usize = 8;
 
-/// The version of all messages but HELLO.
-const VERSION: u8 = 1;
+/// The version of OpenFlow, which all messages but HELLO have.
+pub const VERSION: u8 = 1;
 
 // The types of messages (OpenFlow 1.0, 5.1, ofp_type).
+
+/// The type of the one message that may have any version.
 pub const HELLO: u8 = 0;
 
 pub const ERROR: u8 = 1;

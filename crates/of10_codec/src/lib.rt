@@ -3,8 +3,6 @@
 
 mod action_reading;
 mod body_reading;
-#[cfg(test)]
-mod change_tests;
 pub mod decoding;
 pub mod encoding;
 pub mod fault;
@@ -15,12 +13,12 @@ mod match_reading;
 pub mod message;
 mod number;
 mod port_reading;
-#[cfg(test)]
-mod tests;
+mod wildcards;
 
 pub use decoding::{decode, decode_ref};
 pub use encoding::{encode, match_bytes};
 pub use fault::{Bad, DecodeError, EncodeError};
+pub use header::{HEADER_LEN, HELLO, VERSION};
 pub use laws::{codec_laws, writing_laws};
 pub use lent::{BodyRef, MessageRef};
 pub use message::{Body, Message};

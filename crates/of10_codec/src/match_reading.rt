@@ -2,44 +2,22 @@
 ghost use Rattle.std.specs.Prelude.{◌≡◌, ◌+◌, ◌<◌, ◌≤◌, ◌&&◌, ◌==◌, false, length, IfSome, IfNone};
 ghost use Rattle.std.specs.Int.{bit_at};
 ghost use Rattle.maple_base.specs.NetworkOrder.{number_at};
-ghost use Rattle.of10_codec.specs.Matches.{SpellsMatch, unless, is_whole, is_all, wild_bits};
+ghost use Rattle.of10_codec.specs.Matches.{SpellsMatch, unless, is_whole, is_all, wild_bits, nw_src_bit, nw_dst_bit};
 ghost use Rattle.of10_codec.specs.Reading.{bits_from};
 
 use crate::number::{u8_at, u16_at, u32_at, u48_at};
+use crate::wildcards::{
+    DL_DST, DL_PCP, DL_SRC, DL_TYPE, DL_VLAN, IN_PORT, NW_DST, NW_PROTO, NW_SRC, NW_TOS, TP_DST,
+    TP_SRC,
+};
 use maple_base::Match;
-
-// The bits of the wildcards (OpenFlow 1.0, 5.2.3, ofp_flow_wildcards). Of an address, the lowest of
-// six bits that count how many of its low bits are wildcarded.
-const IN_PORT: u32 = 0;
-
-const DL_VLAN: u32 = 1;
-
-const DL_SRC: u32 = 2;
-
-const DL_DST: u32 = 3;
-
-const DL_TYPE: u32 = 4;
-
-const NW_PROTO: u32 = 5;
-
-const TP_SRC: u32 = 6;
-
-const TP_DST: u32 = 7;
-
-const NW_SRC: u32 = 8;
-
-const NW_DST: u32 = 14;
-
-const DL_PCP: u32 = 20;
-
-const NW_TOS: u32 = 21;
 
 /// The match that the first 40 bytes spell (OpenFlow 1.0, 5.2.3, ofp_match), or `None` where they
 /// wildcard an address in part.
 pub fn read_match(bytes: &[u8]) -> Option<Match>
     requires { 40 ≤ length bytes.now }
     ensures found { IfSome result (λ of. SpellsMatch of bytes.now) }
-    ensures part { IfNone result ((is_whole (wild_bits 8 bytes.now) && is_whole (wild_bits 14 bytes.now)) ≡ false) }
+    ensures part { IfNone result ((is_whole (wild_bits nw_src_bit bytes.now) && is_whole (wild_bits nw_dst_bit bytes.now)) ≡ false) }
 {
     let wild = u32_at(bytes, 0);
     let src = wild_count(wild, NW_SRC);

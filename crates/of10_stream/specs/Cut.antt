@@ -4,6 +4,7 @@ use Rattle.maple_base.specs.NetworkOrder.{number_at}
 use Rattle.of10_codec.specs.declared.message.Message.{Message}
 use Rattle.of10_codec.specs.declared.fault.Bad.{Bad}
 use Rattle.of10_codec.specs.declared.fault.Bad.TheVariants.{Version, Length}
+use Rattle.of10_codec.specs.Types.{header_length}
 use Rattle.of10_codec.specs.Messages.{Spelled}
 use Rattle.of10_codec.specs.Faults.{bad_of, is_foreign}
 
@@ -13,23 +14,23 @@ told b = number_at 2 2 b
 
 -- the fault of a header, which shows as soon as its 8 bytes are there: its version, or a length of less than a header's
 abbrev pub head_fault : List ℕ → Option Bad
-head_fault b = if is_foreign b then Some Version else (if nat_lt (told b) 8 then Some Length else None)
+head_fault b = if is_foreign b then Some Version else (if nat_lt (told b) header_length then Some Length else None)
 
 -- the bytes are no whole message, and what is there of the header shows no fault
 pub data IsOpen (b : List ℕ) : Type 0 where
-  NoHeader : nat_lt (length b) 8 ≡ true → IsOpen b
-  NoEnd : nat_lt (length b) 8 ≡ false → head_fault b ≡ None → nat_lt (length b) (told b) ≡ true → IsOpen b
+  NoHeader : nat_lt (length b) header_length ≡ true → IsOpen b
+  NoEnd : nat_lt (length b) header_length ≡ false → head_fault b ≡ None → nat_lt (length b) (told b) ≡ true → IsOpen b
 
 -- all bytes of the message that stands first are there, and its header shows no fault
 pub record IsThere (b : List ℕ) : Type 0 where
-  pub header : nat_lt (length b) 8 ≡ false
+  pub header : nat_lt (length b) header_length ≡ false
   pub sound : head_fault b ≡ None
   pub whole : nat_lt (length b) (told b) ≡ false
 
 -- the message that stands first has this fault: its header, or else its bytes, of the length that the header tells
 pub data IsBad (bad : Bad) (b : List ℕ) : Type 0 where
-  InHeader : nat_lt (length b) 8 ≡ false → head_fault b ≡ Some bad → IsBad bad b
-  InMessage : nat_lt (length b) 8 ≡ false → head_fault b ≡ None → nat_lt (length b) (told b) ≡ false → bad_of (take (told b) b) ≡ Some bad → IsBad bad b
+  InHeader : nat_lt (length b) header_length ≡ false → head_fault b ≡ Some bad → IsBad bad b
+  InMessage : nat_lt (length b) header_length ≡ false → head_fault b ≡ None → nat_lt (length b) (told b) ≡ false → bad_of (take (told b) b) ≡ Some bad → IsBad bad b
 
 -- what stands behind the messages of a stream: a rest that is open, or a fault, with the place of the faulty message's first byte
 pub data End : Type 0 where

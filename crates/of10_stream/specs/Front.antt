@@ -1,12 +1,13 @@
 -- The message that stands first in the rest of a stream.
 use Rattle.std.specs.Prelude.{◌≡◌, ℕ, ◌+◌, ◌≤◌, List, length, drop, Some, None}
 use Rattle.of10_codec.specs.declared.fault.Bad.{Bad}
+use Rattle.of10_codec.specs.Types.{header_length}
 use Rattle.of10_stream.specs.Cut.{told, head_fault}
 use Rattle.of10_stream.specs.Steps.{Stream}
 
 -- a header without a fault, and all the bytes that it tells
 pub record IsWhole (len : ℕ) (b : List ℕ) : Type 0 where
-  pub header : 8 ≤ len
+  pub header : header_length ≤ len
   pub is_told : told b ≡ len
   pub whole : len ≤ length b
   pub sound : head_fault b ≡ None

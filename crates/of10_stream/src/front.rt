@@ -3,16 +3,7 @@ ghost use Rattle.std.specs.Prelude.{◌≡◌, ◌≤◌, IfOk, IfErr, MatchOpti
 ghost use Rattle.of10_stream.specs.Cut.{IsOpen, IsBad, head_fault, told};
 ghost use Rattle.of10_stream.specs.Front.{IsWhole};
 
-use of10_codec::Bad;
-
-/// How many bytes a header has (OpenFlow 1.0, 5.1, ofp_header).
-const HEADER_LEN: usize = 8;
-
-/// The type of the one message that may have any version.
-const HELLO: u8 = 0;
-
-/// The version of all others.
-const VERSION: u8 = 1;
+use of10_codec::{Bad, HEADER_LEN, HELLO, VERSION};
 
 /// How long the message is that the bytes begin with, once it is there as a whole.
 ///

@@ -4,8 +4,6 @@
 mod front;
 pub mod laws;
 pub mod reassembly;
-#[cfg(test)]
-mod tests;
 
 pub use laws::stream_laws;
 pub use reassembly::{Next, Reassembly};

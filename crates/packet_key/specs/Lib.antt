@@ -1,2 +1,3 @@
+-- A reader must believe: Frames (the key of a frame, the numbers of faults). Readings serves private contracts and proofs alone.
 pub mod Frames
 pub mod Readings

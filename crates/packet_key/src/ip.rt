@@ -1,6 +1,7 @@
 // The headers of an IPv4 packet: its own (RFC 791, 3.1), and the ports of TCP, UDP and ICMP.
 ghost use Rattle.std.specs.Prelude.{◌≡◌, ◌*◌, ◌/◌, true, false, IfOk};
 ghost use Rattle.std.specs.Option.{IfSome, IfNone};
+ghost use Rattle.maple_base.specs.Assigned.{ip_type};
 ghost use Rattle.maple_base.specs.NetworkOrder.{number_at};
 ghost use Rattle.maple_base.specs.Keys.{link_valid, valid_key};
 ghost use Rattle.packet_key.specs.Frames.{has_header, is_fragment, segment, ip_key, port_width};
@@ -8,14 +9,7 @@ ghost use Rattle.packet_key.specs.Readings.{ports_of};
 
 use crate::Malformed;
 use crate::bytes::{read_u8, read_u16, read_u32};
-use maple_base::Key;
-
-// The protocol numbers (RFC 790).
-const ICMP: u8 = 1;
-
-const TCP: u8 = 6;
-
-const UDP: u8 = 17;
+use maple_base::{ICMP, Key, TCP, UDP};
 
 #[derive(Drop)]
 struct IpHeader<'a> {
@@ -29,7 +23,7 @@ struct IpHeader<'a> {
 
 // The key with the numbers of an IP header and with the ports.
 pub(crate) fn with_packet(key: Key, packet: &[u8]) -> Result<Key, Malformed>
-    requires { (link_valid key ≡ true) × (key.dl_type ≡ 0x0800) }
+    requires { (link_valid key ≡ true) × (key.dl_type ≡ ip_type) }
     ensures key { result ≡ ip_key key packet.now }
     ensures valid { IfOk result (λ k. valid_key k ≡ true) }
 {

@@ -2,6 +2,7 @@
 ghost use Rattle.std.specs.Prelude.{◌≡◌, ◌+◌, ◌<◌, ◌^◌, ◌/◌, ◌%◌, true, false, length, drop, if◌then◌else◌, ◌==◌, IfOk};
 ghost use Rattle.std.specs.Option.{IfSome, IfNone};
 ghost use Rattle.std.specs.Result.{result_err};
+ghost use Rattle.maple_base.specs.Assigned.{tag_type, no_vlan};
 ghost use Rattle.maple_base.specs.NetworkOrder.{number_at};
 ghost use Rattle.maple_base.specs.Keys.{link_valid};
 ghost use Rattle.packet_key.specs.Frames.{link_key, packet_in};
@@ -9,18 +10,10 @@ ghost use Rattle.packet_key.specs.Readings.{cut_short, is_snap, type_in, behind_
 
 use crate::Malformed;
 use crate::bytes::{read_u16, read_u48};
-use maple_base::Key;
+use maple_base::{FIRST_TYPE, Key, NO_VLAN, TAG_TYPE};
 
-// The type of a frame whose tag follows (IEEE 802.1Q, 9.6).
-const TAGGED: u16 = 0x8100;
-
-// The VLAN id of a frame without a tag, and the type of one without a type (OpenFlow 1.0, 3.4).
-const NO_VLAN: u16 = 0xffff;
-
+// The type of a frame without a type (OpenFlow 1.0, 3.4).
 const NO_TYPE: u16 = 0x05ff;
-
-// A number below it is no type but a length (IEEE 802.3, 3.2.6).
-const FIRST_TYPE: u16 = 0x0600;
 
 // The LLC header and the organization that stand ahead of a type (RFC 1042).
 const SNAP: u64 = 0xaaaa_0300_0000;
@@ -89,14 +82,14 @@ fn ethernet(frame: &[u8]) -> Option<EthernetHeader<'_>>
 
 // What an Ethernet header's type says of the tag behind it.
 fn vlan(type_or_length: u16, rest: &[u8]) -> Option<VlanHeader<'_>>
-    ensures short { IfNone result ((type_or_length ≡ 0x8100) × (length rest.now < 4)) }
-    ensures whole { IfSome result (λ v. type_or_length ≡ 0x8100 → length v.payload.now + 4 ≡ length rest.now) }
-    ensures id { IfSome result (λ v. v.id ≡ (if type_or_length == 0x8100 then number_at 0 2 rest.now % 2 ^ 12 else 0xffff)) }
-    ensures priority { IfSome result (λ v. (v.priority ≡ (if type_or_length == 0x8100 then number_at 0 2 rest.now / 2 ^ 13 else 0)) × (v.priority < 8)) }
-    ensures type_or_length { IfSome result (λ v. v.type_or_length ≡ (if type_or_length == 0x8100 then number_at 2 2 rest.now else type_or_length)) }
-    ensures payload { IfSome result (λ v. v.payload.now ≡ (if type_or_length == 0x8100 then drop 4 rest.now else rest.now)) }
+    ensures short { IfNone result ((type_or_length ≡ tag_type) × (length rest.now < 4)) }
+    ensures whole { IfSome result (λ v. type_or_length ≡ tag_type → length v.payload.now + 4 ≡ length rest.now) }
+    ensures id { IfSome result (λ v. v.id ≡ (if type_or_length == tag_type then number_at 0 2 rest.now % 2 ^ 12 else no_vlan)) }
+    ensures priority { IfSome result (λ v. (v.priority ≡ (if type_or_length == tag_type then number_at 0 2 rest.now / 2 ^ 13 else 0)) × (v.priority < 8)) }
+    ensures type_or_length { IfSome result (λ v. v.type_or_length ≡ (if type_or_length == tag_type then number_at 2 2 rest.now else type_or_length)) }
+    ensures payload { IfSome result (λ v. v.payload.now ≡ (if type_or_length == tag_type then drop 4 rest.now else rest.now)) }
 {
-    if type_or_length != TAGGED {
+    if type_or_length != TAG_TYPE {
         return Some(VlanHeader {
             id: NO_VLAN,
             priority: 0,

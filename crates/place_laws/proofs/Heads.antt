@@ -3,28 +3,28 @@ use Rattle.std.proofs.Common.{◌≡◌, ℕ, ◌+◌, ◌-◌, List, [], ◌∷
 use Rattle.std.proofs.lemmas.List.{map-append}
 use Rattle.std.proofs.lemmas.Simd.{map-map}
 use Rattle.policy_grammar.specs.Grammar.{Question, Host, Hop, Lookup, Holds, action_tokens, Statements, Nothing, Plain, If, IfElse, While, File, file_tokens}
-use Rattle.policy_places.specs.declared.nodes.NodePlace.{NodePlace}
+use Rattle.policy_places.specs.declared.nodes.NodeTokens.{NodeTokens}
 use Rattle.policy_places.specs.Places.{bare, phrase_length, places_from, question_places, action_places, question_length, statements_length, if_length, statements_places, body_first, file_nodes, bound_names, numbered, name_behind}
 use Rattle.place_laws.proofs.Own.{next_is_own}
 use Rattle.place_laws.proofs.Standing.{behind_all}
 use Rattle.place_laws.specs.Laws.{Binding, binding_at, question_bindings, statements_bindings, file_bindings, question_numbers, statements_numbers, file_numbers, EachHasItsOwn}
 
-abbrev first_in : List NodePlace → ℕ → ℕ
+abbrev first_in : List NodeTokens → ℕ → ℕ
 first_in nodes n = (numbered n nodes).first
 
 abbrev begins : Binding → ℕ
 begins b = b.first
 
 -- where these nodes have the numbers from n on, those of the numbers ns begin where these heads do
-record Heads (n : ℕ) (nodes : List NodePlace) (ns : List ℕ) (bs : List Binding) : Type 0 where
-  pub heads : (before rest : List NodePlace) → length before + 1 ≡ n → map (first_in (before ++ (nodes ++ rest))) ns ≡ map begins bs
+record Heads (n : ℕ) (nodes : List NodeTokens) (ns : List ℕ) (bs : List Binding) : Type 0 where
+  pub heads : (before rest : List NodeTokens) → length before + 1 ≡ n → map (first_in (before ++ (nodes ++ rest))) ns ≡ map begins bs
 
 -- ---- how nodes are put together
 
-heads_none : (n : ℕ) (xs : List NodePlace) → Heads n xs [] []
+heads_none : (n : ℕ) (xs : List NodeTokens) → Heads n xs [] []
 heads_none n xs = record { heads = λ before rest h. refl }
 
-heads_both : {n m : ℕ} {xs ys : List NodePlace} {ns ms : List ℕ} {bs cs : List Binding} → n + length xs ≡ m → Heads n xs ns bs → Heads m ys ms cs → Heads n (xs ++ ys) (ns ++ ms) (bs ++ cs)
+heads_both : {n m : ℕ} {xs ys : List NodeTokens} {ns ms : List ℕ} {bs cs : List Binding} → n + length xs ≡ m → Heads n xs ns bs → Heads m ys ms cs → Heads n (xs ++ ys) (ns ++ ms) (bs ++ cs)
 heads_both {n} {m} {xs} {ys} {ns} {ms} {bs} {cs} e x y = record {
   heads = λ before rest h.
       let whole = before ++ ((xs ++ ys) ++ rest) in
@@ -37,13 +37,13 @@ heads_both {n} {m} {xs} {ys} {ns} {ms} {bs} {cs} e x y = record {
 }
 
 -- nodes ahead that bind nothing
-heads_past : {n m : ℕ} {ys : List NodePlace} {ms : List ℕ} {cs : List Binding} (xs : List NodePlace) → n + length xs ≡ m → Heads m ys ms cs → Heads n (xs ++ ys) ms cs
+heads_past : {n m : ℕ} {ys : List NodeTokens} {ms : List ℕ} {cs : List Binding} (xs : List NodeTokens) → n + length xs ≡ m → Heads m ys ms cs → Heads n (xs ++ ys) ms cs
 heads_past {n} xs e y = heads_both e (heads_none n xs) y
 
 -- ---- heads
 
 -- a head is the first of its nodes
-head_at : (n i inside : ℕ) (x : List ℕ) (xs : List NodePlace) → Heads n (bare i ∷ xs) (n ∷ []) (binding_at i inside x)
+head_at : (n i inside : ℕ) (x : List ℕ) (xs : List NodeTokens) → Heads n (bare i ∷ xs) (n ∷ []) (binding_at i inside x)
 head_at n i inside x xs = record {
   heads = λ before rest h.
       let whole = before ++ bare i ∷ (xs ++ rest) in

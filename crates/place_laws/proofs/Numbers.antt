@@ -3,8 +3,8 @@ use Rattle.std.proofs.Common.{◌≡◌, ℕ, ◌+◌, List, [], ◌∷◌, ◌+
 use Rattle.maple_base.specs.declared.key.Field.{Field}
 use Rattle.policy_tokens.specs.declared.token.Token.{Token}
 use Rattle.policy_tokens.specs.declared.token.Token.TheVariants.{Keyword as keyword, Name as name, Field as field, PacketSwitch as packet_switch, SwitchOf as switch_of, PortOf as port_of, Number as number, Sign as sign}
-use Rattle.policy_grammar.specs.declared.operator.Operator.{Operator}
-use Rattle.policy_grammar.specs.declared.operator.Operator.TheVariants as operator
+use Rattle.maple_base.specs.declared.operator.Operator.{Operator}
+use Rattle.maple_base.specs.declared.operator.Operator.TheVariants as operator
 use Rattle.policy_grammar.specs.Grammar as written
 use Rattle.policy_grammar.specs.Grammar.{Callee, Up, At, Phrase, Single, Call, Group, Negation, Test, Pair, Question, Action, action_tokens, Statements, Nothing, Plain, If, IfElse, While}
 use Rattle.policy_lang.specs.declared.Expr.{Expr}
@@ -62,8 +62,8 @@ pair_has operator.Equal A B (Equal' p l q r) h = (l, r, refl, h.0, h.1)
 pair_has operator.NotEqual A B (NotEqual' p l q r) h = (l, r, refl, h.0, h.1)
 pair_has operator.Less A B (Less' p l q r) h = (l, r, refl, h.0, h.1)
 pair_has operator.LessEqual A B (LessEqual' p l q r) h = (l, r, refl, h.0, h.1)
-pair_has operator.Plus A B (Add' p l q r) h = (l, r, refl, h.0, h.1)
-pair_has operator.Minus A B (Sub' p l q r) h = (l, r, refl, h.0, h.1)
+pair_has operator.Add A B (Add' p l q r) h = (l, r, refl, h.0, h.1)
+pair_has operator.Sub A B (Sub' p l q r) h = (l, r, refl, h.0, h.1)
 pair_has o A B e h = absurd h
 
 -- ---- expressions

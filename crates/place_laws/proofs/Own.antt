@@ -8,9 +8,10 @@ use Rattle.policy_tokens.specs.declared.token.Token.{Token}
 use Rattle.policy_tokens.specs.declared.token.Token.TheVariants.{Keyword as keyword, Name as name, Field as field, PacketSwitch, SwitchOf, PortOf, Number, Sign as sign}
 use Rattle.policy_tokens.specs.declared.token.Keyword.TheVariants as word
 use Rattle.policy_tokens.specs.declared.token.Sign.TheVariants as mark
-use Rattle.policy_grammar.specs.declared.operator.Operator.{Operator}
-use Rattle.policy_grammar.specs.declared.operator.Operator.TheVariants.{Or, And, Equal, NotEqual, Less, LessEqual, Plus, Minus}
-use Rattle.policy_grammar.specs.Grammar.{Callee, Up, At, Phrase, Single, Call, Group, Negation, Test, Pair, callee_token, operator_token, phrase_tokens, left_level, right_level, is_single, IsPhrase, Question, Host, Hop, Lookup, Holds, question_tokens, IsQuestion, Action, Drop, Flood, Out, Route, Let, Assign, more_tokens, action_tokens, IsAction, in_braces, if_tokens, while_tokens, Statements, Nothing, Plain, If, IfElse, While, statements_tokens, AreStatements, File, tables_tokens, learning_tokens, file_tokens}
+use Rattle.maple_base.specs.declared.operator.Operator.{Operator}
+use Rattle.maple_base.specs.declared.operator.Operator.TheVariants.{Or, And, Equal, NotEqual, Less, LessEqual, Add, Sub}
+use Rattle.maple_base.specs.Operators.{left_level, right_level}
+use Rattle.policy_grammar.specs.Grammar.{Callee, Up, At, Phrase, Single, Call, Group, Negation, Test, Pair, callee_token, operator_token, phrase_tokens, is_single, IsPhrase, Question, Host, Hop, Lookup, Holds, question_tokens, IsQuestion, Action, Drop, Flood, Out, Route, Let, Assign, more_tokens, action_tokens, IsAction, in_braces, if_tokens, while_tokens, Statements, Nothing, Plain, If, IfElse, While, statements_tokens, AreStatements, File, tables_tokens, learning_tokens, file_tokens}
 use Rattle.policy_places.specs.Places.{phrase_length, question_length, statements_length, if_length, body_first, is_as, bound_names, name_behind}
 use Rattle.place_laws.specs.Laws.{Binding, binding_at, question_bindings, statements_bindings, file_bindings}
 
@@ -95,8 +96,8 @@ operator_quiet Equal = refl
 operator_quiet NotEqual = refl
 operator_quiet Less = refl
 operator_quiet LessEqual = refl
-operator_quiet Plus = refl
-operator_quiet Minus = refl
+operator_quiet Add = refl
+operator_quiet Sub = refl
 
 phrase_quiet : (a : Phrase) (least : ℕ) → IsPhrase least a → Quiet (phrase_tokens a)
 phrase_quiet (Single t) least h = quiet_one (single_quiet t h)

@@ -1,9 +1,6 @@
 //! What follows of the places of nodes and names in a policy's text.
 #![tactic(auto)]
 
-#[cfg(test)]
-mod tests;
-
 ghost use Rattle.place_laws.specs.Laws.{ExpressionsAgree, StatementsAgree, EachHasItsOwn, NamesStandThere};
 
 /// Each expression, and all statements of a block, have as many places in a text as their tree has

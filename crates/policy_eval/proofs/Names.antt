@@ -1,12 +1,12 @@
 -- The names in force among the first of those that are kept.
-use Rattle.std.proofs.Common.{◌≡◌, ℕ, ◌+◌, ◌-◌, ◌<◌, ◌≤◌, Bool, true, false, cond, List, [], ◌∷◌, ◌++◌, length, map, reverse, take, drop, get_or, refl, sym, ap, ◌∙◌, arith, suc, set, append_assoc, length-drop, drop-cons}
+use Rattle.std.proofs.Common.{◌≡◌, ℕ, ◌+◌, ◌-◌, ◌<◌, ◌≤◌, true, false, cond, List, [], ◌∷◌, ◌++◌, length, map, reverse, take, drop, get_or, sym, ap, ◌∙◌, arith, suc, set, append_assoc, length-drop, drop-cons}
 use Rattle.std.specs.Str.{bytes_eq}
 use Rattle.std.proofs.lemmas.List.{take_more, map-append, reverse-append, length-map, length-reverse, take-append-drop, set_split}
 use Rattle.std.proofs.Math.Seq.{drop-append_seam}
 use Rattle.policy_eval.specs.declared.datum.Datum.{Datum}
 use Rattle.policy_eval.specs.Data.{datum_of}
 use Rattle.policy_eval.specs.Scopes.{entry_of, in_force}
-use Rattle.policy_lang.specs.Values.{Datum as Given, named, assigned}
+use Rattle.policy_lang.specs.Values.{named, assigned}
 
 pub forces-append : (xs ys : List (List ℕ × Datum)) → in_force (xs ++ ys) ≡ in_force ys ++ in_force xs
 forces-append xs ys = ap reverse (map-append entry_of xs ys) ∙ reverse-append (map entry_of xs) (map entry_of ys)

@@ -6,7 +6,8 @@ use Rattle.std.proofs.lemmas.Bool.{cases_Bool}
 use Rattle.std.proofs.lemmas.Bool.Decides.{nat_tests}
 use Rattle.std.proofs.lemmas.List.Elements.{filter-append}
 use Rattle.std.proofs.lemmas.List.{take_more}
-use Rattle.policy_lang.specs.Values.{is_port, ports_among}
+use Rattle.maple_base.specs.Ports.{is_port}
+use Rattle.policy_lang.specs.Values.{ports_among}
 
 abbrev has : ℕ → List ℕ → Bool
 has m ps = list_any (λ p. p == m) ps

@@ -5,7 +5,7 @@ use Rattle.policy_lang.specs.Blocks.{statements_of}
 use Rattle.policy_lang.specs.declared.Block.{Block}
 use Rattle.policy_lang.specs.declared.Statement.{Statement}
 use Rattle.policy_lang.specs.Values.{Scope}
-use Rattle.policy_lang.specs.Evaluation.{Arrival, Ending, Goes, Running, leaving, in_order, by_statement, by_block, block_ending}
+use Rattle.policy_lang.specs.Evaluation.{Arrival, Goes, Running, leaving, in_order, by_statement, by_block, block_ending}
 use Rattle.policy_lang.specs.declared.Statement.TheFolds.{fold_out-Block}
 use Rattle.policy_eval.specs.Endings.{statement_ending}
 

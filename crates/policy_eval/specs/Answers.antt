@@ -3,6 +3,7 @@ use Rattle.std.specs.Prelude.{ℕ, ◌≤◌, Result, Ok, Err, Some, None}
 use Rattle.policy_eval.specs.declared.datum.Datum.{Datum}
 use Rattle.policy_eval.specs.declared.steps.Spent.{Spent}
 use Rattle.policy_eval.specs.Data.{datum_of}
+use Rattle.maple_base.specs.Limits.{most_budget}
 use Rattle.maple_base.specs.declared.key.Key.{Key}
 use Rattle.maple_base.specs.declared.cells.Cell.{Cell}
 use Rattle.maple_base.specs.declared.cells.Value.{Value}
@@ -11,7 +12,7 @@ use Rattle.policy_lang.specs.Evaluation.{Arrival, Given}
 -- the limits of a budget
 pub record IsBudget (budget : ℕ) : Type 0 where
   pub some : 1 ≤ budget
-  pub few : budget ≤ 65536
+  pub few : budget ≤ most_budget
 
 -- what an expression gave, with the steps that are left
 abbrev pub given_of : Result Datum Spent → ℕ → Given

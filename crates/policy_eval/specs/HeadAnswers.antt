@@ -1,5 +1,5 @@
 -- What the answers of heads say. Of want of memory nothing is said.
-use Rattle.std.specs.Prelude.{◌≡◌, ℕ, ◌<◌, ◌≤◌, Bool, true, false, Result, Ok, Err}
+use Rattle.std.specs.Prelude.{◌≡◌, ℕ, Bool, true, false, Result, Ok, Err}
 use Rattle.policy_lang.specs.Values.{Scope}
 use Rattle.policy_lang.specs.Evaluation.{Held, Unasked, Fails, Holds}
 use Rattle.policy_eval.specs.declared.ending.Fault.{Fault}

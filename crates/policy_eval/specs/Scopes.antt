@@ -1,5 +1,5 @@
 -- The names in force, as they are kept: the last declared last.
-use Rattle.std.specs.Prelude.{ℕ, List, [], ◌∷◌, ◌++◌, map, reverse}
+use Rattle.std.specs.Prelude.{ℕ, List, map, reverse}
 use Rattle.policy_eval.specs.declared.datum.Datum.{Datum}
 use Rattle.policy_eval.specs.Data.{datum_of}
 use Rattle.policy_lang.specs.Values.{Datum as Given}

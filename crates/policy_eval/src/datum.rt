@@ -3,7 +3,7 @@ ghost use Rattle.std.specs.Prelude.{◌≡◌};
 ghost use Rattle.policy_lang.specs.Values.{number_in, truth_in, place_in};
 ghost use Rattle.policy_eval.specs.Data.{datum_of, applied, Settles};
 
-use maple_base::Place;
+use maple_base::{Operator, Place};
 
 /// What an expression gives.
 #[derive(Clone, Copy, Debug, PartialEq, Eq)]
@@ -56,39 +56,18 @@ impl Datum {
     }
 }
 
-/// What is made of two data.
-#[derive(Clone, Copy, Debug, PartialEq, Eq)]
-pub enum Operator {
-    /// The place of a switch and a port.
-    Place,
-    /// The sum, at most 2^64 - 1.
-    Sum,
-    /// The difference, at least 0.
-    Difference,
-    Equal,
-    NotEqual,
-    Less,
-    LessEqual,
-}
-
-impl Operator {
-    /// What this makes of two data.
-    pub fn apply(self, left: Datum, right: Datum) -> Datum
-        ensures { datum_of result ≡ applied self (datum_of left) (datum_of right) }
-    {
-        let left = left.number();
-        let right = right.number();
-        match self {
-            Operator::Place => Datum::At(Place {
-                switch: left,
-                port: right,
-            }),
-            Operator::Sum => Datum::Number(left.saturating_add(right)),
-            Operator::Difference => Datum::Number(left.saturating_sub(right)),
-            Operator::Equal => Datum::Truth(left == right),
-            Operator::NotEqual => Datum::Truth(left != right),
-            Operator::Less => Datum::Truth(left < right),
-            Operator::LessEqual => Datum::Truth(left <= right),
-        }
+/// What an operator makes of two data. Sums stop at 2^64 - 1, and differences at 0.
+pub fn applied(operator: Operator, left: Datum, right: Datum) -> Datum
+    ensures { datum_of result ≡ applied operator (datum_of left) (datum_of right) }
+{
+    match operator {
+        Operator::Or => Datum::Truth(left.truth() || right.truth()),
+        Operator::And => Datum::Truth(left.truth() && right.truth()),
+        Operator::Equal => Datum::Truth(left.number() == right.number()),
+        Operator::NotEqual => Datum::Truth(left.number() != right.number()),
+        Operator::Less => Datum::Truth(left.number() < right.number()),
+        Operator::LessEqual => Datum::Truth(left.number() <= right.number()),
+        Operator::Add => Datum::Number(left.number().saturating_add(right.number())),
+        Operator::Sub => Datum::Number(left.number().saturating_sub(right.number())),
     }
 }

@@ -1,21 +1,26 @@
 // Plain evaluation of a policy.
-ghost use Rattle.std.specs.Prelude.{◌≡◌, ◌≤◌, ◌<◌, suc, length, IfOk, IsTrue, OnOk};
-ghost use Rattle.std.specs.Option.{option_map};
+ghost use Rattle.std.specs.Prelude.{◌≡◌, ◌≤◌, ◌<◌, length, IfOk, IsTrue, OnOk};
 ghost use Rattle.maple_base.specs.Keys.{valid_key};
-ghost use Rattle.policy_lang.specs.Evaluation.{value_of, from_two, both_hold, one_holds, port_is_up, numbers_of, out_ending, way_to, route_ending, head_of, chosen, rounds, block_ending, eval_of};
+ghost use Rattle.policy_lang.specs.Evaluation.{value_of, place_at, numbers_of, out_ending, way_to, route_ending, head_of, block_ending, eval_of};
 ghost use Rattle.policy_eval.specs.Data.{applied};
+ghost use Rattle.policy_eval.specs.Parts.{of_two, up_of, both_of, either_of, branch_ending, repeat_ending};
 ghost use Rattle.policy_eval.specs.Answers.{IsBudget, given_of};
 ghost use Rattle.policy_eval.specs.Arrivals.{arrival_of};
 ghost use Rattle.policy_eval.specs.HeadAnswers.{IsHead};
 ghost use Rattle.policy_eval.specs.Endings.{EndsAs, OnGoes, DecidesAs, AreNumbers, IsWay, statement_ending};
 
-use crate::datum::Operator::{Difference, Equal, Less, LessEqual, NotEqual, Sum};
 use crate::heads::{bind, flag_in, number_in_table, place_of_host, port_of_hop};
 use crate::sides::{Side, chosen_side};
-use crate::{Datum, Fault, Flow, Operator, Scope, Spent, Steps, is_port, sent_out};
-use maple_base::{Cell, Decision, EnvNow, Key, NoMemory, Outcome, Path, Place, Value};
+use crate::{Datum, Fault, Flow, Scope, Spent, Steps, applied, sent_out};
+use maple_base::Operator::{Add, Equal, Less, LessEqual, NotEqual, Sub};
+use maple_base::{
+    Cell, Decision, EnvNow, Key, NoMemory, Operator, Outcome, Path, Place, Value, is_port,
+};
 use policy_lang::{Block, Expr, Head, Policy, Statement};
 use std::alloc::Global;
+
+// The most next hops of a way.
+const MOST_HOPS: usize = 63;
 
 // Evaluates a policy for a packet that came to a switch.
 struct Evaluator<'a, E: EnvNow> {
@@ -41,7 +46,7 @@ impl<'a, E: EnvNow> Evaluator<'a, E> {
             Expr::PacketSwitch => Ok(Datum::Number(self.switch)),
             Expr::Packet(field) => Ok(Datum::Number(self.key.get(*field))),
             Expr::Up(switch, port) => self.is_up(switch, port, scope, steps),
-            Expr::At(left, right) => self.operation(Operator::Place, left, right, scope, steps),
+            Expr::At(switch, port) => self.place_at(switch, port, scope, steps),
             Expr::Is(field, right) => {
                 let datum = self.value(right, scope, steps)?;
                 Ok(Datum::Truth(self.key.get(*field) == datum.number()))
@@ -49,8 +54,8 @@ impl<'a, E: EnvNow> Evaluator<'a, E> {
             Expr::Not(right) => Ok(Datum::Truth(!self.value(right, scope, steps)?.truth())),
             Expr::And(left, right) => self.both(left, right, scope, steps),
             Expr::Or(left, right) => self.either(left, right, scope, steps),
-            Expr::Add(left, right) => self.operation(Sum, left, right, scope, steps),
-            Expr::Sub(left, right) => self.operation(Difference, left, right, scope, steps),
+            Expr::Add(left, right) => self.operation(Add, left, right, scope, steps),
+            Expr::Sub(left, right) => self.operation(Sub, left, right, scope, steps),
             Expr::Equal(left, right) => self.operation(Equal, left, right, scope, steps),
             Expr::NotEqual(left, right) => self.operation(NotEqual, left, right, scope, steps),
             Expr::Less(left, right) => self.operation(Less, left, right, scope, steps),
@@ -68,12 +73,29 @@ impl<'a, E: EnvNow> Evaluator<'a, E> {
         scope: &Scope,
         steps: &mut Steps,
     ) -> Result<Datum, Spent>
-        ensures given { given_of result steps.new ≡ from_two (applied operator) (value_of left.now (arrival_of E.has self.now) scope.now steps.old) (value_of right.now (arrival_of E.has self.now) scope.now) }
+        ensures given { given_of result steps.new ≡ of_two (applied operator) left.now right.now (arrival_of E.has self.now) scope.now steps.old }
         ensures fewer { OnOk result (steps.new < steps.old) }
     {
         let left = self.value(left, scope, steps)?;
         let right = self.value(right, scope, steps)?;
-        Ok(operator.apply(left, right))
+        Ok(applied(operator, left, right))
+    }
+
+    // The place of a switch and a port.
+    #[cycle(expressions)]
+    fn place_at(
+        &self,
+        switch: &Expr,
+        port: &Expr,
+        scope: &Scope,
+        steps: &mut Steps,
+    ) -> Result<Datum, Spent>
+        ensures given { given_of result steps.new ≡ of_two place_at switch.now port.now (arrival_of E.has self.now) scope.now steps.old }
+        ensures fewer { OnOk result (steps.new < steps.old) }
+    {
+        let switch = self.value(switch, scope, steps)?.number();
+        let port = self.value(port, scope, steps)?.number();
+        Ok(Datum::At(Place { switch, port }))
     }
 
     // Whether a port of a switch is up.
@@ -85,7 +107,7 @@ impl<'a, E: EnvNow> Evaluator<'a, E> {
         scope: &Scope,
         steps: &mut Steps,
     ) -> Result<Datum, Spent>
-        ensures given { given_of result steps.new ≡ from_two (port_is_up (E.has self.now.env.now)) (value_of switch.now (arrival_of E.has self.now) scope.now steps.old) (value_of port.now (arrival_of E.has self.now) scope.now) }
+        ensures given { given_of result steps.new ≡ up_of switch.now port.now (arrival_of E.has self.now) scope.now steps.old }
         ensures fewer { OnOk result (steps.new < steps.old) }
     {
         let switch = self.value(switch, scope, steps)?.number();
@@ -102,7 +124,7 @@ impl<'a, E: EnvNow> Evaluator<'a, E> {
         scope: &Scope,
         steps: &mut Steps,
     ) -> Result<Datum, Spent>
-        ensures given { given_of result steps.new ≡ both_hold (value_of left.now (arrival_of E.has self.now) scope.now steps.old) (value_of right.now (arrival_of E.has self.now) scope.now) }
+        ensures given { given_of result steps.new ≡ both_of left.now right.now (arrival_of E.has self.now) scope.now steps.old }
         ensures fewer { OnOk result (steps.new < steps.old) }
     {
         match self.value(left, scope, steps)?.settled_by(false) {
@@ -120,7 +142,7 @@ impl<'a, E: EnvNow> Evaluator<'a, E> {
         scope: &Scope,
         steps: &mut Steps,
     ) -> Result<Datum, Spent>
-        ensures given { given_of result steps.new ≡ one_holds (value_of left.now (arrival_of E.has self.now) scope.now steps.old) (value_of right.now (arrival_of E.has self.now) scope.now) }
+        ensures given { given_of result steps.new ≡ either_of left.now right.now (arrival_of E.has self.now) scope.now steps.old }
         ensures fewer { OnOk result (steps.new < steps.old) }
     {
         match self.value(left, scope, steps)?.settled_by(true) {
@@ -160,7 +182,7 @@ impl<'a, E: EnvNow> Evaluator<'a, E> {
         let mut hops = Vec::new(self.alloc);
         let mut from = self.switch;
         while from != to.switch {
-            if hops.len() == 63 {
+            if hops.len() == MOST_HOPS {
                 return Ok(None);
             }
             steps.count()?;
@@ -264,7 +286,7 @@ impl<'a, E: EnvNow> Evaluator<'a, E> {
         scope: &mut Scope,
         steps: &mut Steps,
     ) -> Result<Flow, Fault>
-        ensures ending { EndsAs result scope.new steps.new (chosen (head_of head.now (arrival_of E.has self.now) scope.old steps.old) (block_ending first.now) (option_map block_ending second.now) (arrival_of E.has self.now) scope.old) }
+        ensures ending { EndsAs result scope.new steps.new (branch_ending head.now first.now second.now (arrival_of E.has self.now) scope.old steps.old) }
         ensures fewer { OnGoes result (steps.new ≤ steps.old) }
     {
         let outer = scope.len();
@@ -289,7 +311,7 @@ impl<'a, E: EnvNow> Evaluator<'a, E> {
         scope: &mut Scope,
         steps: &mut Steps,
     ) -> Result<Flow, Fault>
-        ensures ending { EndsAs result scope.new steps.new (rounds (suc steps.old) test.now (block_ending body.now) (arrival_of E.has self.now) scope.old steps.old) }
+        ensures ending { EndsAs result scope.new steps.new (repeat_ending test.now body.now (arrival_of E.has self.now) scope.old steps.old) }
         ensures fewer { OnGoes result (steps.new ≤ steps.old) }
     {
         while self.value(test, scope, steps)?.truth() {

@@ -9,12 +9,10 @@ pub mod ports;
 pub mod scope;
 pub mod sides;
 pub mod steps;
-#[cfg(test)]
-mod tests;
 
-pub use datum::{Datum, Operator};
+pub use datum::{Datum, applied};
 pub use ending::{Fault, Flow};
 pub use evaluation::eval;
-pub use ports::{is_port, sent_out};
+pub use ports::sent_out;
 pub use scope::Scope;
 pub use steps::{Spent, Steps};

@@ -1,17 +1,10 @@
 // The ports that an `out` names.
 ghost use Rattle.std.specs.Prelude.{◌≡◌, ◌≤◌, ◌==◌, IfOk, length};
 ghost use Rattle.std.specs.List.{list_any};
-ghost use Rattle.policy_lang.specs.Values.{is_port, ports_among, sent_out};
+ghost use Rattle.policy_lang.specs.Values.{ports_among, sent_out};
 
-use maple_base::{Actions, Decision, NoMemory};
+use maple_base::{Actions, Decision, NoMemory, is_port};
 use std::alloc::Global;
-
-/// Whether a packet can leave by a port of this number (OpenFlow 1.0, 5.2.1, physical ports).
-pub fn is_port(number: u64) -> bool
-    ensures { result ≡ is_port number }
-{
-    1 <= number && number <= 65280
-}
 
 fn is_among(ports: &[u16], port: u16) -> bool
     ensures { result ≡ list_any (λ p. p == port) ports.now }

@@ -5,8 +5,8 @@ use Rattle.std.proofs.Math.Seq.{drop-nil}
 use Rattle.std.proofs.lemmas.Bool.{lt-ltb}
 use Rattle.std.proofs.lemmas.List.{get_or-reverse, length-reverse}
 use Rattle.policy_grammar.specs.declared.event.Event.{Event}
-use Rattle.policy_grammar.specs.declared.place.Around.{Around}
-use Rattle.policy_grammar.specs.declared.place.Shape.{Shape}
+use Rattle.policy_grammar.specs.declared.stage.Around.{Around}
+use Rattle.policy_grammar.specs.declared.stage.Shape.{Shape}
 use Rattle.policy_grammar.specs.Automaton.{least, made, settle}
 use Rattle.policy_grammar.specs.Events.{ended, endings}
 use Rattle.policy_grammar.specs.Stacks.{top_of}

@@ -7,18 +7,19 @@ use Rattle.policy_tokens.specs.declared.token.Token.{Token}
 use Rattle.policy_tokens.specs.declared.token.Token.TheVariants.{Keyword as keyword, Name as name, Field as field, Sign as sign}
 use Rattle.policy_tokens.specs.declared.token.Keyword.TheVariants as word
 use Rattle.policy_tokens.specs.declared.token.Sign.TheVariants as mark
-use Rattle.policy_grammar.specs.declared.operator.Operator.{Operator}
-use Rattle.policy_grammar.specs.declared.operator.Operator.TheVariants.{Or, And, Equal, NotEqual, Less, LessEqual, Plus, Minus}
-use Rattle.policy_grammar.specs.declared.place.Around.{Around}
-use Rattle.policy_grammar.specs.declared.place.Around.TheVariants.{Left, Not, Is, Group, First, Second}
-use Rattle.policy_grammar.specs.declared.place.Base.{Base}
-use Rattle.policy_grammar.specs.declared.place.Base.TheVariants as base
-use Rattle.policy_grammar.specs.declared.place.Shape.{Shape}
-use Rattle.policy_grammar.specs.declared.place.Shape.TheVariants as shape
-use Rattle.policy_grammar.specs.declared.place.Block.{Block}
-use Rattle.policy_grammar.specs.declared.place.Block.TheVariants as block
-use Rattle.policy_grammar.specs.declared.place.Place.TheVariants as at
-use Rattle.policy_grammar.specs.Grammar.{Phrase, Single, Call, Group as grouped, Up, At, operator_token, phrase_tokens, level_of, left_level, IsPhrase, more_tokens, Host, Hop, Lookup, Holds, Out, Route, Let, Assign}
+use Rattle.maple_base.specs.declared.operator.Operator.{Operator}
+use Rattle.maple_base.specs.declared.operator.Operator.TheVariants.{Or, And, Equal, NotEqual, Less, LessEqual, Add, Sub}
+use Rattle.policy_grammar.specs.declared.stage.Around.{Around}
+use Rattle.policy_grammar.specs.declared.stage.Around.TheVariants.{Left, Not, Is, Group, First, Second}
+use Rattle.policy_grammar.specs.declared.stage.Base.{Base}
+use Rattle.policy_grammar.specs.declared.stage.Base.TheVariants as base
+use Rattle.policy_grammar.specs.declared.stage.Shape.{Shape}
+use Rattle.policy_grammar.specs.declared.stage.Shape.TheVariants as shape
+use Rattle.policy_grammar.specs.declared.stage.Block.{Block}
+use Rattle.policy_grammar.specs.declared.stage.Block.TheVariants as block
+use Rattle.policy_grammar.specs.declared.stage.Stage.TheVariants as at
+use Rattle.maple_base.specs.Operators.{level_of, left_level}
+use Rattle.policy_grammar.specs.Grammar.{Phrase, Single, Call, Group as grouped, Up, At, operator_token, phrase_tokens, IsPhrase, more_tokens, Host, Hop, Lookup, Holds, Out, Route, Let, Assign}
 use Rattle.policy_grammar.specs.Automaton.{State, is_keyword, least_in, shape_level, pull, Settled, to, ahead, behind, behind_operator, behind_is, behind_bracket, behind_parenthesis, behind_comma, behind_semicolon, behind_brace, behind_index}
 use Rattle.policy_grammar.proofs.Told.{row, value_single}
 use Rattle.policy_grammar.proofs.Written.{PhraseOf, AroundOf, around_tokens, ShapedOf, BaseOf, base_tokens, ahead_tokens, StatementsOf, AskingOf, OpenOf, inner_tokens, Leads}
@@ -35,8 +36,8 @@ least_small (Left Equal ∷ as_) = omega arith
 least_small (Left NotEqual ∷ as_) = omega arith
 least_small (Left Less ∷ as_) = omega arith
 least_small (Left LessEqual ∷ as_) = omega arith
-least_small (Left Plus ∷ as_) = omega arith
-least_small (Left Minus ∷ as_) = omega arith
+least_small (Left Add ∷ as_) = omega arith
+least_small (Left Sub ∷ as_) = omega arith
 least_small (Not ∷ as_) = omega arith
 least_small (Is ∷ as_) = omega arith
 least_small (Group ∷ as_) = omega arith
@@ -199,8 +200,8 @@ pull_operator Equal = refl
 pull_operator NotEqual = refl
 pull_operator Less = refl
 pull_operator LessEqual = refl
-pull_operator Plus = refl
-pull_operator Minus = refl
+pull_operator Add = refl
+pull_operator Sub = refl
 
 by_operator : (bs : List Block) (o : OpenOf bs) (ss : StatementsOf) (b : Base) (x : BaseOf b) (as_ : List Around) (w : AroundOf as_) (s : Shape) (a : ShapedOf s (least_in as_)) (t : Token) (k : Operator)
     → least_in as_ ≤ pull t → t ≡ operator_token k → Leads (inner_tokens bs o ss (behind_tokens b x as_ w a.phrase)) t (behind_operator b as_ s bs k)

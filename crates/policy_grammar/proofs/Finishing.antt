@@ -5,16 +5,16 @@ use Rattle.policy_tokens.specs.declared.token.Token.{Token}
 use Rattle.policy_tokens.specs.declared.token.Token.TheVariants.{Keyword as keyword, Name as name, Number, Sign as sign}
 use Rattle.policy_tokens.specs.declared.token.Keyword.TheVariants as word
 use Rattle.policy_tokens.specs.declared.token.Sign.TheVariants as mark
-use Rattle.policy_grammar.specs.declared.place.Around.{Around}
-use Rattle.policy_grammar.specs.declared.place.Around.TheVariants.{Left, Not, Is, Group, First, Second}
-use Rattle.policy_grammar.specs.declared.place.Base.{Base}
-use Rattle.policy_grammar.specs.declared.place.Base.TheVariants as base
-use Rattle.policy_grammar.specs.declared.place.Shape.{Shape}
-use Rattle.policy_grammar.specs.declared.place.Shape.TheVariants as shape
-use Rattle.policy_grammar.specs.declared.place.Block.{Block}
-use Rattle.policy_grammar.specs.declared.place.Block.TheVariants as block
-use Rattle.policy_grammar.specs.declared.place.Place.{Place}
-use Rattle.policy_grammar.specs.declared.place.Place.TheVariants as at
+use Rattle.policy_grammar.specs.declared.stage.Around.{Around}
+use Rattle.policy_grammar.specs.declared.stage.Around.TheVariants.{Left, Not, Is, Group, First, Second}
+use Rattle.policy_grammar.specs.declared.stage.Base.{Base}
+use Rattle.policy_grammar.specs.declared.stage.Base.TheVariants as base
+use Rattle.policy_grammar.specs.declared.stage.Shape.{Shape}
+use Rattle.policy_grammar.specs.declared.stage.Shape.TheVariants as shape
+use Rattle.policy_grammar.specs.declared.stage.Block.{Block}
+use Rattle.policy_grammar.specs.declared.stage.Block.TheVariants as block
+use Rattle.policy_grammar.specs.declared.stage.Stage.{Stage}
+use Rattle.policy_grammar.specs.declared.stage.Stage.TheVariants as at
 use Rattle.policy_grammar.specs.Automaton.{State, operator_in, least, made, run, end}
 use Rattle.policy_grammar.proofs.Settles.{past, past_ends, level_below_right}
 use Rattle.policy_grammar.proofs.Statements.{standing}
@@ -108,7 +108,7 @@ inner_ends (Group ∷ as_) b s bs = inner_ends as_ b shape.Whole bs
 inner_ends (First ∷ as_) b s bs = inner_ends as_ b shape.Whole bs
 inner_ends (Second ∷ as_) b s bs = inner_ends as_ b shape.Whole bs
 
--- ---- from each place
+-- ---- from each stage
 
 abbrev policy : List Block → List Token
 policy bs = keyword word.Policy ∷ sign mark.OpenBrace ∷ braces bs
@@ -120,7 +120,7 @@ ended bs = sign mark.Semicolon ∷ braces bs
 abbrev assigned : List Block → List Token
 assigned bs = sign mark.Assign ∷ Number 0 ∷ ended bs
 
-abbrev finish : Place → List Around → List Block → List Token
+abbrev finish : Stage → List Around → List Block → List Token
 finish at.Start as_ bs = policy bs
 finish at.Table as_ bs = name (97 ∷ []) ∷ sign mark.Semicolon ∷ policy bs
 finish at.TableName as_ bs = sign mark.Semicolon ∷ policy bs
@@ -185,7 +185,7 @@ rest_plain b as_ bs = inner_plain as_ (after b (braces bs)) (after_plain b (brac
 assigned_plain : (bs : List Block) → NoOperators (assigned bs)
 assigned_plain bs = (refl, (refl, (refl, braces_plain bs)))
 
-finish_plain : (p : Place) (as_ : List Around) (bs : List Block) → NoOperators (finish p as_ bs)
+finish_plain : (p : Stage) (as_ : List Around) (bs : List Block) → NoOperators (finish p as_ bs)
 finish_plain at.Start as_ bs = (refl, (refl, braces_plain bs))
 finish_plain at.Table as_ bs = (refl, (refl, (refl, (refl, braces_plain bs))))
 finish_plain at.TableName as_ bs = (refl, (refl, (refl, braces_plain bs)))
@@ -211,15 +211,15 @@ finish_plain at.End as_ bs = tt
 -- ---- to the end
 
 abbrev Finishes : State → Type 0
-Finishes s = (rest : List Token) × (n : State) × (run s rest ≡ Some n) × (n.place ≡ at.End) × NoOperators rest
+Finishes s = (rest : List Token) × (n : State) × (run s rest ≡ Some n) × (n.stage ≡ at.End) × NoOperators rest
 
-abbrev state : Place → List Around → List Block → State
-state p as_ bs = record { place = p; around = as_; blocks = bs }
+abbrev state : Stage → List Around → List Block → State
+state p as_ bs = record { stage = p; around = as_; blocks = bs }
 
-to_end : (p : Place) (as_ : List Around) (bs : List Block) → run (state p as_ bs) (finish p as_ bs) ≡ Some end → Finishes (state p as_ bs)
+to_end : (p : Stage) (as_ : List Around) (bs : List Block) → run (state p as_ bs) (finish p as_ bs) ≡ Some end → Finishes (state p as_ bs)
 to_end p as_ bs h = (finish p as_ bs, end, h, refl, finish_plain p as_ bs)
 
-finishes_at : (p : Place) (as_ : List Around) (bs : List Block) → Finishes (state p as_ bs)
+finishes_at : (p : Stage) (as_ : List Around) (bs : List Block) → Finishes (state p as_ bs)
 finishes_at at.Start as_ bs = to_end at.Start as_ bs (braces_end bs)
 finishes_at at.Table as_ bs = to_end at.Table as_ bs (braces_end bs)
 finishes_at at.TableName as_ bs = to_end at.TableName as_ bs (braces_end bs)
@@ -243,8 +243,8 @@ finishes_at at.ElseBlock as_ bs = to_end at.ElseBlock as_ bs (braces_end bs)
 finishes_at at.End as_ bs = ([], state at.End as_ bs, refl, refl, tt)
 
 -- also by tokens that are no operators
-pub finishes_plainly : (s : State) → (rest : List Token) × (n : State) × (run s rest ≡ Some n) × (n.place ≡ at.End) × NoOperators rest
-finishes_plainly s = finishes_at s.place s.around s.blocks
+pub finishes_plainly : (s : State) → (rest : List Token) × (n : State) × (run s rest ≡ Some n) × (n.stage ≡ at.End) × NoOperators rest
+finishes_plainly s = finishes_at s.stage s.around s.blocks
 
-pub finishes : (s : State) → (rest : List Token) × (n : State) × (run s rest ≡ Some n) × (n.place ≡ at.End)
+pub finishes : (s : State) → (rest : List Token) × (n : State) × (run s rest ≡ Some n) × (n.stage ≡ at.End)
 finishes s = let f = finishes_plainly s in (f.0, f.1, f.2, f.3)

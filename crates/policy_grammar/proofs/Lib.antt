@@ -8,7 +8,7 @@ pub mod Written
 pub mod Moves
 pub mod Settling
 pub mod Expressions
-pub mod Places
+pub mod Stages
 pub mod Sound
 pub mod Finishing
 pub mod Writer

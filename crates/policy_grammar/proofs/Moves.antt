@@ -6,15 +6,15 @@ use Rattle.policy_tokens.specs.declared.token.Token.{Token}
 use Rattle.policy_tokens.specs.declared.token.Token.TheVariants.{Keyword as keyword, Name as name, Field as field, Sign as sign}
 use Rattle.policy_tokens.specs.declared.token.Keyword.{Keyword}
 use Rattle.policy_tokens.specs.declared.token.Sign.{Sign}
-use Rattle.policy_grammar.specs.declared.operator.Operator.{Operator}
-use Rattle.policy_grammar.specs.declared.place.Around.{Around}
-use Rattle.policy_grammar.specs.declared.place.Block.{Block}
-use Rattle.policy_grammar.specs.declared.place.Place.{Place}
-use Rattle.policy_grammar.specs.declared.place.Place.TheVariants as at
+use Rattle.maple_base.specs.declared.operator.Operator.{Operator}
+use Rattle.policy_grammar.specs.declared.stage.Around.{Around}
+use Rattle.policy_grammar.specs.declared.stage.Block.{Block}
+use Rattle.policy_grammar.specs.declared.stage.Stage.{Stage}
+use Rattle.policy_grammar.specs.declared.stage.Stage.TheVariants as at
 use Rattle.policy_grammar.specs.Grammar.{operator_token, Action, action_tokens, IsAction, Statements, Nothing, Plain, If, IfElse, While, statements_tokens, AreStatements}
 use Rattle.policy_grammar.specs.Automaton.{State, is_keyword, is_sign, is_name, is_field, operator_in, to, within}
 use Rattle.policy_grammar.proofs.Told.{keyword_is, sign_is, name_is, field_is, operator_is}
-use Rattle.policy_grammar.proofs.Written.{StatementsOf, OpenOf, open_tokens, PlaceOf, place_tokens, inner_tokens, Inner, Leads}
+use Rattle.policy_grammar.proofs.Written.{StatementsOf, OpenOf, open_tokens, StageOf, stage_tokens, inner_tokens, Inner, Leads}
 
 -- ---- rows of tables
 
@@ -78,7 +78,7 @@ added_tokens bs o ss more right ts = rw then_tokens (simp append_assoc)
 -- ---- moves
 
 -- on in the statement
-pub goes : (bs : List Block) (o : OpenOf bs) (ss : StatementsOf) (ts : List Token) (t : Token) (p : Place) (as_ : List Around) (w : PlaceOf p as_) → place_tokens p as_ w ≡ ts ++ t ∷ []
+pub goes : (bs : List Block) (o : OpenOf bs) (ss : StatementsOf) (ts : List Token) (t : Token) (p : Stage) (as_ : List Around) (w : StageOf p as_) → stage_tokens p as_ w ≡ ts ++ t ∷ []
     → Leads (inner_tokens bs o ss ts) t (within p as_ bs)
 goes bs o ss ts t p as_ w e = record { led = record { written = Inner o ss w; same = ap (inner_tokens bs o ss) e ∙ simp append_assoc } }
 

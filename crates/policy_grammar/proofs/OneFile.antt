@@ -6,7 +6,8 @@ use Rattle.policy_tokens.specs.declared.token.Token.{Token}
 use Rattle.policy_tokens.specs.declared.token.Token.TheVariants.{Keyword as keyword, Name as name, Field as field, PacketSwitch, SwitchOf, PortOf, Number, Sign as sign}
 use Rattle.policy_tokens.specs.declared.token.Keyword.TheVariants as word
 use Rattle.policy_tokens.specs.declared.token.Sign.TheVariants as mark
-use Rattle.policy_grammar.specs.Grammar.{Phrase, Up, At, Single, Call, Group, Negation, Test, Pair, operator_token, phrase_tokens, left_level, is_single, IsPhrase, Question, Host, Hop, Lookup, Holds, question_tokens, IsQuestion, Action, Drop, Flood, Out, Route, Let, Assign, more_tokens, action_tokens, IsAction, Statements, Nothing, Plain, If, IfElse, While, in_braces, if_tokens, while_tokens, statements_tokens, AreStatements, File, tables_tokens, learning_tokens, file_tokens}
+use Rattle.maple_base.specs.Operators.{left_level}
+use Rattle.policy_grammar.specs.Grammar.{Phrase, Up, At, Single, Call, Group, Negation, Test, Pair, operator_token, phrase_tokens, is_single, IsPhrase, Question, Host, Hop, Lookup, Holds, question_tokens, IsQuestion, Action, Drop, Flood, Out, Route, Let, Assign, more_tokens, action_tokens, IsAction, Statements, Nothing, Plain, If, IfElse, While, in_braces, if_tokens, while_tokens, statements_tokens, AreStatements, File, tables_tokens, learning_tokens, file_tokens}
 use Rattle.policy_grammar.specs.Automaton.{pull}
 use Rattle.policy_grammar.proofs.Writer.{Writer, Ahead, Behind, Outs, Asks, Body, Else, Tables, Policy, Done, outs, bound, asked, onward, written}
 use Rattle.policy_grammar.proofs.WrittenPhrases.{phrase_written}

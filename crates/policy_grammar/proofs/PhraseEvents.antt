@@ -6,17 +6,18 @@ use Rattle.policy_tokens.specs.declared.token.Token.{Token}
 use Rattle.policy_tokens.specs.declared.token.Token.TheVariants.{Keyword as keyword, Name as name, Field as field, PacketSwitch, SwitchOf, PortOf, Number, Sign as sign}
 use Rattle.policy_tokens.specs.declared.token.Keyword.TheVariants as word
 use Rattle.policy_tokens.specs.declared.token.Sign.TheVariants as mark
-use Rattle.policy_grammar.specs.declared.operator.Operator.{Operator}
-use Rattle.policy_grammar.specs.declared.operator.Operator.TheVariants.{Or, And, Equal, NotEqual, Less, LessEqual, Plus, Minus}
+use Rattle.maple_base.specs.declared.operator.Operator.{Operator}
+use Rattle.maple_base.specs.declared.operator.Operator.TheVariants.{Or, And, Equal, NotEqual, Less, LessEqual, Add, Sub}
 use Rattle.policy_grammar.specs.declared.event.Event.TheVariants as event
-use Rattle.policy_grammar.specs.declared.place.Around.{Around}
-use Rattle.policy_grammar.specs.declared.place.Around.TheVariants as around
-use Rattle.policy_grammar.specs.declared.place.Base.{Base}
-use Rattle.policy_grammar.specs.declared.place.Shape.{Shape}
-use Rattle.policy_grammar.specs.declared.place.Shape.TheVariants as shape
-use Rattle.policy_grammar.specs.declared.place.Block.{Block}
-use Rattle.policy_grammar.specs.declared.place.Place.TheVariants as at
-use Rattle.policy_grammar.specs.Grammar.{Phrase, Callee, Up, At, Single, Call, Group, Negation, Test, Pair, callee_token, operator_token, phrase_tokens, level_of, left_level, right_level, is_single, IsPhrase}
+use Rattle.policy_grammar.specs.declared.stage.Around.{Around}
+use Rattle.policy_grammar.specs.declared.stage.Around.TheVariants as around
+use Rattle.policy_grammar.specs.declared.stage.Base.{Base}
+use Rattle.policy_grammar.specs.declared.stage.Shape.{Shape}
+use Rattle.policy_grammar.specs.declared.stage.Shape.TheVariants as shape
+use Rattle.policy_grammar.specs.declared.stage.Block.{Block}
+use Rattle.policy_grammar.specs.declared.stage.Stage.TheVariants as at
+use Rattle.maple_base.specs.Operators.{level_of, left_level, right_level}
+use Rattle.policy_grammar.specs.Grammar.{Phrase, Callee, Up, At, Single, Call, Group, Negation, Test, Pair, callee_token, operator_token, phrase_tokens, is_single, IsPhrase}
 use Rattle.policy_grammar.specs.Automaton.{Settled, pull, least, least_in, made, settle, shape_level, within, behind}
 use Rattle.policy_grammar.specs.Events.{callee_event, phrase_events, ended, endings, behind_events, events_onto, trace}
 use Rattle.policy_grammar.proofs.Settles.{before, past, settle_stays, settle_ends, pull_gap, pull_operator, at_operator, level_below_left, level_below_right, left_most}
@@ -50,8 +51,8 @@ operator_added Equal b as_ = refl
 operator_added NotEqual b as_ = refl
 operator_added Less b as_ = refl
 operator_added LessEqual b as_ = refl
-operator_added Plus b as_ = refl
-operator_added Minus b as_ = refl
+operator_added Add b as_ = refl
+operator_added Sub b as_ = refl
 
 -- an operator behind its left part
 trace_operator : (o : Operator) (b : Base) (s : Shape) (as_ : List Around) (bs : List Block) (rest : List Token) → least_in as_ ≤ level_of o → left_level o ≤ shape_level s

@@ -7,7 +7,7 @@ use Rattle.policy_tokens.specs.declared.token.Token.{Token}
 use Rattle.policy_tokens.specs.declared.token.Token.TheVariants.{PacketSwitch}
 use Rattle.policy_tokens.specs.declared.token.PlacedToken.{PlacedToken}
 use Rattle.policy_grammar.specs.declared.event.Event.{Event}
-use Rattle.policy_grammar.specs.declared.place.Place.TheVariants as at
+use Rattle.policy_grammar.specs.declared.stage.Stage.TheVariants as at
 use Rattle.policy_grammar.specs.Automaton.{State, step, run, start}
 use Rattle.policy_grammar.specs.Events.{events, events_onto, trace}
 use Rattle.policy_grammar.specs.Reading.{plain, Reads, RunsToEnd, StopsAt}
@@ -63,10 +63,10 @@ reads_on ps i p s n es us h e r q =
 all_read : (ts : List Token) (i : ℕ) (s : State) (es : List Event) → length ts ≤ i → Progress (take i ts) s es → run start ts ≡ Some s
 all_read ts i s es h p = ap (run start) (sym (take_all i ts h)) ∙ p.run
 
-pub runs_to_end : (ts : List Token) (i : ℕ) (s : State) (es : List Event) → length ts ≤ i → Progress (take i ts) s es → s.place ≡ at.End → RunsToEnd ts
+pub runs_to_end : (ts : List Token) (i : ℕ) (s : State) (es : List Event) → length ts ≤ i → Progress (take i ts) s es → s.stage ≡ at.End → RunsToEnd ts
 runs_to_end ts i s es h p e = record { state = s; run = all_read ts i s es h p; ended = e }
 
-pub stops_at_end : (ts : List Token) (i n : ℕ) (s : State) (es : List Event) → length ts ≤ i → n ≡ length ts → Progress (take i ts) s es → s.place ≢ at.End → StopsAt ts n
+pub stops_at_end : (ts : List Token) (i n : ℕ) (s : State) (es : List Event) → length ts ≤ i → n ≡ length ts → Progress (take i ts) s es → s.stage ≢ at.End → StopsAt ts n
 stops_at_end ts i n s es h l p e =
     record {
       state = s;

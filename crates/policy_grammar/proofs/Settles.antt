@@ -5,23 +5,24 @@ use Rattle.std.proofs.lemmas.Bool.{lt-ltb, le-ltb, le-leb}
 use Rattle.policy_tokens.specs.declared.token.Token.{Token}
 use Rattle.policy_tokens.specs.declared.token.Keyword.TheVariants as word
 use Rattle.policy_tokens.specs.declared.token.Sign.TheVariants as mark
-use Rattle.policy_grammar.specs.declared.operator.Operator.{Operator}
-use Rattle.policy_grammar.specs.declared.operator.Operator.TheVariants.{Or, And, Equal, NotEqual, Less, LessEqual, Plus, Minus}
-use Rattle.policy_grammar.specs.declared.place.Around.{Around}
-use Rattle.policy_grammar.specs.declared.place.Around.TheVariants.{Left}
-use Rattle.policy_grammar.specs.declared.place.Base.{Base}
-use Rattle.policy_grammar.specs.declared.place.Shape.{Shape}
-use Rattle.policy_grammar.specs.declared.place.Block.{Block}
-use Rattle.policy_grammar.specs.declared.place.Place.TheVariants as at
-use Rattle.policy_grammar.specs.Grammar.{operator_token, level_of, left_level, right_level}
+use Rattle.maple_base.specs.declared.operator.Operator.{Operator}
+use Rattle.maple_base.specs.declared.operator.Operator.TheVariants.{Or, And, Equal, NotEqual, Less, LessEqual, Add, Sub}
+use Rattle.policy_grammar.specs.declared.stage.Around.{Around}
+use Rattle.policy_grammar.specs.declared.stage.Around.TheVariants.{Left}
+use Rattle.policy_grammar.specs.declared.stage.Base.{Base}
+use Rattle.policy_grammar.specs.declared.stage.Shape.{Shape}
+use Rattle.policy_grammar.specs.declared.stage.Block.{Block}
+use Rattle.policy_grammar.specs.declared.stage.Stage.TheVariants as at
+use Rattle.maple_base.specs.Operators.{level_of, left_level, right_level}
+use Rattle.policy_grammar.specs.Grammar.{operator_token}
 use Rattle.policy_grammar.specs.Automaton.{State, Settled, is_keyword, is_sign, operator_in, pull_of, pull, least, least_in, shape_level, made, settle, within, behind, behind_operator, run}
 
 -- a state ahead of an expression, and one behind it
 abbrev pub before : Base → List Around → List Block → State
-before b as_ bs = record { place = at.Ahead b; around = as_; blocks = bs }
+before b as_ bs = record { stage = at.Ahead b; around = as_; blocks = bs }
 
 abbrev pub past : Base → Shape → List Around → List Block → State
-past b s as_ bs = record { place = at.Behind b s; around = as_; blocks = bs }
+past b s as_ bs = record { stage = at.Behind b s; around = as_; blocks = bs }
 
 pub settle_stays : (n : ℕ) (as_ : List Around) (s : Shape) → least_in as_ ≤ n → settle n as_ s ≡ record { around = as_; shape = s }
 settle_stays n [] s h = refl
@@ -44,8 +45,8 @@ pull_of_gap (Some Equal) h = absurd (omega (arith, h))
 pull_of_gap (Some NotEqual) h = absurd (omega (arith, h))
 pull_of_gap (Some Less) h = absurd (omega (arith, h))
 pull_of_gap (Some LessEqual) h = absurd (omega (arith, h))
-pull_of_gap (Some Plus) h = absurd (omega (arith, h))
-pull_of_gap (Some Minus) h = absurd (omega (arith, h))
+pull_of_gap (Some Add) h = absurd (omega (arith, h))
+pull_of_gap (Some Sub) h = absurd (omega (arith, h))
 
 tight_gap : (u v : Bool) (o : Option Operator) → cond u 5 (cond v 5 (pull_of o)) ≤ 2 → cond u 5 (cond v 5 (pull_of o)) < 2
 tight_gap true v o h = absurd (omega (arith, h))
@@ -64,8 +65,8 @@ pull_operator Equal = refl
 pull_operator NotEqual = refl
 pull_operator Less = refl
 pull_operator LessEqual = refl
-pull_operator Plus = refl
-pull_operator Minus = refl
+pull_operator Add = refl
+pull_operator Sub = refl
 
 pub at_operator : (o : Operator) (b : Base) (s : Settled) (bs : List Block) → behind b s bs (operator_token o) ≡ behind_operator b s.around s.shape bs o
 at_operator Or b s bs = refl
@@ -74,8 +75,8 @@ at_operator Equal b s bs = refl
 at_operator NotEqual b s bs = refl
 at_operator Less b s bs = refl
 at_operator LessEqual b s bs = refl
-at_operator Plus b s bs = refl
-at_operator Minus b s bs = refl
+at_operator Add b s bs = refl
+at_operator Sub b s bs = refl
 
 pub level_below_left : (o : Operator) → level_of o ≤ left_level o
 level_below_left Or = omega arith
@@ -84,8 +85,8 @@ level_below_left Equal = omega arith
 level_below_left NotEqual = omega arith
 level_below_left Less = omega arith
 level_below_left LessEqual = omega arith
-level_below_left Plus = omega arith
-level_below_left Minus = omega arith
+level_below_left Add = omega arith
+level_below_left Sub = omega arith
 
 pub level_below_right : (o : Operator) → level_of o < right_level o
 level_below_right Or = omega arith
@@ -94,8 +95,8 @@ level_below_right Equal = omega arith
 level_below_right NotEqual = omega arith
 level_below_right Less = omega arith
 level_below_right LessEqual = omega arith
-level_below_right Plus = omega arith
-level_below_right Minus = omega arith
+level_below_right Add = omega arith
+level_below_right Sub = omega arith
 
 pub left_most : (o : Operator) → left_level o ≤ 5
 left_most Or = omega arith
@@ -104,8 +105,8 @@ left_most Equal = omega arith
 left_most NotEqual = omega arith
 left_most Less = omega arith
 left_most LessEqual = omega arith
-left_most Plus = omega arith
-left_most Minus = omega arith
+left_most Add = omega arith
+left_most Sub = omega arith
 
 -- an operator behind its left part
 pub past_operator : (o : Operator) (b : Base) (s : Shape) (as_ : List Around) (bs : List Block) (rest : List Token) → least_in as_ ≤ level_of o → left_level o ≤ shape_level s

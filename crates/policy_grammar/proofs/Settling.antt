@@ -3,9 +3,9 @@ use Rattle.std.proofs.Common.{◌≡◌, ℕ, ◌<◌, ◌≤◌, List, [], ◌�
 use Rattle.std.specs.Prelude.{nat_lt}
 use Rattle.std.proofs.lemmas.Bool.{cond_both, ltb-true, ltb-false}
 use Rattle.policy_tokens.specs.declared.token.Token.{Token}
-use Rattle.policy_grammar.specs.declared.place.Around.{Around}
-use Rattle.policy_grammar.specs.declared.place.Around.TheVariants.{Left, Not, Is, Group, First, Second}
-use Rattle.policy_grammar.specs.declared.place.Shape.{Shape}
+use Rattle.policy_grammar.specs.declared.stage.Around.{Around}
+use Rattle.policy_grammar.specs.declared.stage.Around.TheVariants.{Left, Not, Is, Group, First, Second}
+use Rattle.policy_grammar.specs.declared.stage.Shape.{Shape}
 use Rattle.policy_grammar.specs.Grammar.{Phrase, Single, Call, Group as grouped, Negation, Test, Pair, phrase_tokens, IsPhrase}
 use Rattle.policy_grammar.specs.Automaton.{least, least_in, shape_level, made, Settled, settle}
 use Rattle.policy_grammar.proofs.Written.{AroundOf, around_tokens, ShapedOf}

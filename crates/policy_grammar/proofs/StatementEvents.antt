@@ -9,12 +9,13 @@ use Rattle.policy_tokens.specs.declared.token.Keyword.TheVariants as word
 use Rattle.policy_tokens.specs.declared.token.Sign.TheVariants as mark
 use Rattle.policy_grammar.specs.declared.event.Event.{Event}
 use Rattle.policy_grammar.specs.declared.event.Event.TheVariants as event
-use Rattle.policy_grammar.specs.declared.place.Base.{Base}
-use Rattle.policy_grammar.specs.declared.place.Base.TheVariants as base
-use Rattle.policy_grammar.specs.declared.place.Block.{Block}
-use Rattle.policy_grammar.specs.declared.place.Block.TheVariants as block
-use Rattle.policy_grammar.specs.declared.place.Place.TheVariants as at
-use Rattle.policy_grammar.specs.Grammar.{Phrase, Up, At, Single, Call, Group, Negation, Test, Pair, operator_token, phrase_tokens, left_level, is_single, IsPhrase, Question, Host, Hop, Lookup, Holds, question_tokens, IsQuestion, Action, Drop, Flood, Out, Route, Let, Assign, more_tokens, action_tokens, IsAction, Statements, Nothing, Plain, If, IfElse, While, in_braces, if_tokens, while_tokens, statements_tokens, AreStatements}
+use Rattle.policy_grammar.specs.declared.stage.Base.{Base}
+use Rattle.policy_grammar.specs.declared.stage.Base.TheVariants as base
+use Rattle.policy_grammar.specs.declared.stage.Block.{Block}
+use Rattle.policy_grammar.specs.declared.stage.Block.TheVariants as block
+use Rattle.policy_grammar.specs.declared.stage.Stage.TheVariants as at
+use Rattle.maple_base.specs.Operators.{left_level}
+use Rattle.policy_grammar.specs.Grammar.{Phrase, Up, At, Single, Call, Group, Negation, Test, Pair, operator_token, phrase_tokens, is_single, IsPhrase, Question, Host, Hop, Lookup, Holds, question_tokens, IsQuestion, Action, Drop, Flood, Out, Route, Let, Assign, more_tokens, action_tokens, IsAction, Statements, Nothing, Plain, If, IfElse, While, in_braces, if_tokens, while_tokens, statements_tokens, AreStatements}
 use Rattle.policy_grammar.specs.Automaton.{pull, to, closed}
 use Rattle.policy_grammar.specs.Events.{phrase_events, question_events, phrases_events, action_events, statements_events, closed_events, events_onto, trace}
 use Rattle.policy_grammar.proofs.Settles.{before, past}

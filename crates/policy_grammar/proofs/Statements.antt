@@ -8,20 +8,21 @@ use Rattle.policy_tokens.specs.declared.token.Token.{Token}
 use Rattle.policy_tokens.specs.declared.token.Token.TheVariants.{Keyword as keyword, Name as name, Field as field, PacketSwitch, SwitchOf, PortOf, Number, Sign as sign}
 use Rattle.policy_tokens.specs.declared.token.Keyword.TheVariants as word
 use Rattle.policy_tokens.specs.declared.token.Sign.TheVariants as mark
-use Rattle.policy_grammar.specs.declared.place.Base.{Base}
-use Rattle.policy_grammar.specs.declared.place.Base.TheVariants as base
-use Rattle.policy_grammar.specs.declared.place.Block.{Block}
-use Rattle.policy_grammar.specs.declared.place.Block.TheVariants as block
-use Rattle.policy_grammar.specs.declared.place.Place.{Place}
-use Rattle.policy_grammar.specs.declared.place.Place.TheVariants as at
-use Rattle.policy_grammar.specs.Grammar.{Phrase, Up, At, Single, Call, Group, Negation, Test, Pair, operator_token, phrase_tokens, left_level, is_single, IsPhrase, Question, Host, Hop, Lookup, Holds, question_tokens, IsQuestion, Action, Drop, Flood, Out, Route, Let, Assign, more_tokens, action_tokens, IsAction, Statements, Nothing, Plain, If, IfElse, While, in_braces, if_tokens, while_tokens, statements_tokens, AreStatements}
+use Rattle.policy_grammar.specs.declared.stage.Base.{Base}
+use Rattle.policy_grammar.specs.declared.stage.Base.TheVariants as base
+use Rattle.policy_grammar.specs.declared.stage.Block.{Block}
+use Rattle.policy_grammar.specs.declared.stage.Block.TheVariants as block
+use Rattle.policy_grammar.specs.declared.stage.Stage.{Stage}
+use Rattle.policy_grammar.specs.declared.stage.Stage.TheVariants as at
+use Rattle.maple_base.specs.Operators.{left_level}
+use Rattle.policy_grammar.specs.Grammar.{Phrase, Up, At, Single, Call, Group, Negation, Test, Pair, operator_token, phrase_tokens, is_single, IsPhrase, Question, Host, Hop, Lookup, Holds, question_tokens, IsQuestion, Action, Drop, Flood, Out, Route, Let, Assign, more_tokens, action_tokens, IsAction, Statements, Nothing, Plain, If, IfElse, While, in_braces, if_tokens, while_tokens, statements_tokens, AreStatements}
 use Rattle.policy_grammar.specs.Automaton.{State, pull, to, closed, run}
 use Rattle.policy_grammar.proofs.Settles.{before, past}
 use Rattle.policy_grammar.proofs.Phrases.{shape_of, phrase_read}
 
 -- a state without an expression
-abbrev pub standing : Place → List Block → State
-standing p bs = record { place = p; around = []; blocks = bs }
+abbrev pub standing : Stage → List Block → State
+standing p bs = record { stage = p; around = []; blocks = bs }
 
 whole_read : (a : Phrase) (b : Base) (bs : List Block) (t : Token) (rest : List Token) → IsPhrase 0 a → pull t ≤ 0
     → run (before b [] bs) (phrase_tokens a ++ t ∷ rest) ≡ run (past b (shape_of a) [] bs) (t ∷ rest)

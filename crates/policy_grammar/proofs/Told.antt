@@ -13,8 +13,8 @@ use Rattle.policy_tokens.specs.declared.token.Sign.TheVariants as mark
 use Rattle.policy_tokens.specs.Spellings.{keyword_text, sign_text}
 use Rattle.policy_tokens.specs.Words.{token_of}
 use Rattle.policy_tokens.proofs.Readings.{keywords_read, signs_read}
-use Rattle.policy_grammar.specs.declared.operator.Operator.{Operator}
-use Rattle.policy_grammar.specs.declared.operator.Operator.TheVariants.{Or, And, Equal, NotEqual, Less, LessEqual, Plus, Minus}
+use Rattle.maple_base.specs.declared.operator.Operator.{Operator}
+use Rattle.maple_base.specs.declared.operator.Operator.TheVariants.{Or, And, Equal, NotEqual, Less, LessEqual, Add, Sub}
 use Rattle.policy_grammar.specs.Grammar.{is_single, operator_token}
 use Rattle.policy_grammar.specs.Automaton.{is_keyword, is_sign, is_name, is_field, is_value, operator_in}
 
@@ -66,4 +66,4 @@ operator_is t o =
     row P (λ h. operator_row t Or o (keyword_is word.Or t h)) (row P (λ h. operator_row t And o (keyword_is word.And t h))
     (row P (λ h. operator_row t Equal o (sign_is mark.Equal t h)) (row P (λ h. operator_row t NotEqual o (sign_is mark.NotEqual t h))
     (row P (λ h. operator_row t Less o (sign_is mark.Less t h)) (row P (λ h. operator_row t LessEqual o (sign_is mark.LessEqual t h))
-    (row P (λ h. operator_row t Plus o (sign_is mark.Plus t h)) (row P (λ h. operator_row t Minus o (sign_is mark.Minus t h)) (λ e. absurd (cc)))))))))
+    (row P (λ h. operator_row t Add o (sign_is mark.Plus t h)) (row P (λ h. operator_row t Sub o (sign_is mark.Minus t h)) (λ e. absurd (cc)))))))))

@@ -6,8 +6,9 @@ use Rattle.policy_tokens.specs.declared.token.Token.{Token}
 use Rattle.policy_tokens.specs.declared.token.Token.TheVariants.{Keyword as keyword, Name as name, Field as field, Sign as sign}
 use Rattle.policy_tokens.specs.declared.token.Keyword.TheVariants as word
 use Rattle.policy_tokens.specs.declared.token.Sign.TheVariants as mark
-use Rattle.policy_grammar.specs.declared.operator.Operator.{Operator}
-use Rattle.policy_grammar.specs.Grammar.{Phrase, Callee, Up, At, Single, Call, Group, Negation, Test, Pair, right_level, Question, Host, Hop, Lookup, Holds, Action, Drop, Flood, Out, Route, Let, Assign, Statements, Nothing, Plain, If, IfElse, While, File}
+use Rattle.maple_base.specs.declared.operator.Operator.{Operator}
+use Rattle.maple_base.specs.Operators.{right_level}
+use Rattle.policy_grammar.specs.Grammar.{Phrase, Callee, Up, At, Single, Call, Group, Negation, Test, Pair, Question, Host, Hop, Lookup, Holds, Action, Drop, Flood, Out, Route, Let, Assign, Statements, Nothing, Plain, If, IfElse, While, File}
 use Rattle.policy_grammar.specs.Automaton.{pull, operator_in}
 
 -- what stands around an expression, with what was read of it

@@ -6,17 +6,18 @@ use Rattle.policy_tokens.specs.declared.token.Token.{Token}
 use Rattle.policy_tokens.specs.declared.token.Token.TheVariants.{Keyword as keyword, Name as name, Field as field, Sign as sign}
 use Rattle.policy_tokens.specs.declared.token.Keyword.TheVariants as word
 use Rattle.policy_tokens.specs.declared.token.Sign.TheVariants as mark
-use Rattle.policy_grammar.specs.declared.place.Around.{Around}
-use Rattle.policy_grammar.specs.declared.place.Around.TheVariants.{Left, Not, Is, Group, First, Second}
-use Rattle.policy_grammar.specs.declared.place.Base.{Base}
-use Rattle.policy_grammar.specs.declared.place.Base.TheVariants as base
-use Rattle.policy_grammar.specs.declared.place.Shape.{Shape}
-use Rattle.policy_grammar.specs.declared.place.Shape.TheVariants as shape
-use Rattle.policy_grammar.specs.declared.place.Block.{Block}
-use Rattle.policy_grammar.specs.declared.place.Block.TheVariants as block
-use Rattle.policy_grammar.specs.declared.place.Place.{Place}
-use Rattle.policy_grammar.specs.declared.place.Place.TheVariants as at
-use Rattle.policy_grammar.specs.Grammar.{Phrase, Single, Callee, callee_token, operator_token, phrase_tokens, level_of, left_level, IsPhrase, Question, question_tokens, IsQuestion, Action, action_tokens, IsAction, Statements, statements_tokens, AreStatements, if_tokens, File, tables_tokens, learning_tokens, file_tokens}
+use Rattle.policy_grammar.specs.declared.stage.Around.{Around}
+use Rattle.policy_grammar.specs.declared.stage.Around.TheVariants.{Left, Not, Is, Group, First, Second}
+use Rattle.policy_grammar.specs.declared.stage.Base.{Base}
+use Rattle.policy_grammar.specs.declared.stage.Base.TheVariants as base
+use Rattle.policy_grammar.specs.declared.stage.Shape.{Shape}
+use Rattle.policy_grammar.specs.declared.stage.Shape.TheVariants as shape
+use Rattle.policy_grammar.specs.declared.stage.Block.{Block}
+use Rattle.policy_grammar.specs.declared.stage.Block.TheVariants as block
+use Rattle.policy_grammar.specs.declared.stage.Stage.{Stage}
+use Rattle.policy_grammar.specs.declared.stage.Stage.TheVariants as at
+use Rattle.maple_base.specs.Operators.{level_of, left_level}
+use Rattle.policy_grammar.specs.Grammar.{Phrase, Single, Callee, callee_token, operator_token, phrase_tokens, IsPhrase, Question, question_tokens, IsQuestion, Action, action_tokens, IsAction, Statements, statements_tokens, AreStatements, if_tokens, File, tables_tokens, learning_tokens, file_tokens}
 use Rattle.policy_grammar.specs.Automaton.{State, least_in, shape_level}
 
 -- ---- expressions
@@ -143,41 +144,41 @@ open_tokens (block.Second ∷ bs) w =
 open_tokens (block.Loop ∷ bs) w = open_tokens bs w.0 ++ (statements_tokens w.1.statements ++ keyword word.While ∷ (phrase_tokens w.2.phrase ++ sign mark.OpenBrace ∷ []))
 
 -- what is written behind the statements of the innermost block
-abbrev pub PlaceOf : Place → List Around → Type 0
-PlaceOf at.Statement as_ = Unit {0}
-PlaceOf at.Else as_ = QuestionOf × StatementsOf
-PlaceOf at.Decided as_ = DecidedOf
-PlaceOf at.Let as_ = Unit {0}
-PlaceOf at.LetName as_ = List ℕ
-PlaceOf at.Assigned as_ = List ℕ
-PlaceOf at.If as_ = Unit {0}
-PlaceOf (at.Asks b) as_ = AsksOf b
-PlaceOf (at.Ahead b) as_ = BaseOf b × AroundOf as_
-PlaceOf (at.Callee b) as_ = BaseOf b × AroundOf as_ × Callee
-PlaceOf (at.Behind b s) as_ = BaseOf b × AroundOf as_ × ShapedOf s (least_in as_)
-PlaceOf at.Asked as_ = AskingOf
-PlaceOf at.As as_ = AskingOf
-PlaceOf at.Bound as_ = QuestionOf
-PlaceOf at.ElseBlock as_ = QuestionOf × StatementsOf
-PlaceOf p as_ = ⊥
+abbrev pub StageOf : Stage → List Around → Type 0
+StageOf at.Statement as_ = Unit {0}
+StageOf at.Else as_ = QuestionOf × StatementsOf
+StageOf at.Decided as_ = DecidedOf
+StageOf at.Let as_ = Unit {0}
+StageOf at.LetName as_ = List ℕ
+StageOf at.Assigned as_ = List ℕ
+StageOf at.If as_ = Unit {0}
+StageOf (at.Asks b) as_ = AsksOf b
+StageOf (at.Ahead b) as_ = BaseOf b × AroundOf as_
+StageOf (at.Callee b) as_ = BaseOf b × AroundOf as_ × Callee
+StageOf (at.Behind b s) as_ = BaseOf b × AroundOf as_ × ShapedOf s (least_in as_)
+StageOf at.Asked as_ = AskingOf
+StageOf at.As as_ = AskingOf
+StageOf at.Bound as_ = QuestionOf
+StageOf at.ElseBlock as_ = QuestionOf × StatementsOf
+StageOf p as_ = ⊥
 
-abbrev pub place_tokens : (p : Place) (as_ : List Around) → PlaceOf p as_ → List Token
-place_tokens at.Statement as_ w = []
-place_tokens at.Else as_ w = if_tokens w.0.question (statements_tokens w.1.statements)
-place_tokens at.Decided as_ w = w.front
-place_tokens at.Let as_ w = keyword word.Let ∷ []
-place_tokens at.LetName as_ x = keyword word.Let ∷ name x ∷ []
-place_tokens at.Assigned as_ x = name x ∷ []
-place_tokens at.If as_ w = keyword word.If ∷ []
-place_tokens (at.Asks b) as_ w = asks_tokens b w
-place_tokens (at.Ahead b) as_ w = base_tokens b w.0 ++ around_tokens as_ w.1
-place_tokens (at.Callee b) as_ w = base_tokens b w.0 ++ (around_tokens as_ w.1 ++ callee_token w.2 ∷ [])
-place_tokens (at.Behind b s) as_ w = base_tokens b w.0 ++ (around_tokens as_ w.1 ++ phrase_tokens w.2.phrase)
-place_tokens at.Asked as_ w = keyword word.If ∷ w.front
-place_tokens at.As as_ w = keyword word.If ∷ (w.front ++ keyword word.As ∷ [])
-place_tokens at.Bound as_ w = keyword word.If ∷ question_tokens w.question
-place_tokens at.ElseBlock as_ w = if_tokens w.0.question (statements_tokens w.1.statements) ++ keyword word.Else ∷ []
-place_tokens p as_ w = absurd w
+abbrev pub stage_tokens : (p : Stage) (as_ : List Around) → StageOf p as_ → List Token
+stage_tokens at.Statement as_ w = []
+stage_tokens at.Else as_ w = if_tokens w.0.question (statements_tokens w.1.statements)
+stage_tokens at.Decided as_ w = w.front
+stage_tokens at.Let as_ w = keyword word.Let ∷ []
+stage_tokens at.LetName as_ x = keyword word.Let ∷ name x ∷ []
+stage_tokens at.Assigned as_ x = name x ∷ []
+stage_tokens at.If as_ w = keyword word.If ∷ []
+stage_tokens (at.Asks b) as_ w = asks_tokens b w
+stage_tokens (at.Ahead b) as_ w = base_tokens b w.0 ++ around_tokens as_ w.1
+stage_tokens (at.Callee b) as_ w = base_tokens b w.0 ++ (around_tokens as_ w.1 ++ callee_token w.2 ∷ [])
+stage_tokens (at.Behind b s) as_ w = base_tokens b w.0 ++ (around_tokens as_ w.1 ++ phrase_tokens w.2.phrase)
+stage_tokens at.Asked as_ w = keyword word.If ∷ w.front
+stage_tokens at.As as_ w = keyword word.If ∷ (w.front ++ keyword word.As ∷ [])
+stage_tokens at.Bound as_ w = keyword word.If ∷ question_tokens w.question
+stage_tokens at.ElseBlock as_ w = if_tokens w.0.question (statements_tokens w.1.statements) ++ keyword word.Else ∷ []
+stage_tokens p as_ w = absurd w
 
 -- ---- files
 
@@ -191,7 +192,7 @@ pub record FileOf : Type 0 where
   pub right : AreStatements file.body
 
 -- what is written where no statements are read: ahead of them all, and behind them all
-abbrev pub OuterOf : Place → List Block → Type 0
+abbrev pub OuterOf : Stage → List Block → Type 0
 OuterOf at.Start bs = NoneOpen bs × List (List ℕ)
 OuterOf at.Table bs = NoneOpen bs × List (List ℕ)
 OuterOf at.TableName bs = NoneOpen bs × List (List ℕ) × List ℕ
@@ -200,7 +201,7 @@ OuterOf at.Learning bs = NoneOpen bs × List (List ℕ)
 OuterOf at.End bs = FileOf
 OuterOf p bs = ⊥
 
-abbrev pub outer_tokens : (p : Place) (bs : List Block) → OuterOf p bs → List Token
+abbrev pub outer_tokens : (p : Stage) (bs : List Block) → OuterOf p bs → List Token
 outer_tokens at.Start bs w = tables_tokens w.1
 outer_tokens at.Table bs w = tables_tokens w.1 ++ keyword word.Table ∷ []
 outer_tokens at.TableName bs w = tables_tokens w.1 ++ keyword word.Table ∷ name w.2 ∷ []
@@ -211,16 +212,16 @@ outer_tokens p bs w = absurd w
 
 -- what is written where the reader is in a state, and its tokens
 pub data Written (s : State) : Type 0 where
-  Outer : OuterOf s.place s.blocks → Written s
-  Inner : OpenOf s.blocks → StatementsOf → PlaceOf s.place s.around → Written s
+  Outer : OuterOf s.stage s.blocks → Written s
+  Inner : OpenOf s.blocks → StatementsOf → StageOf s.stage s.around → Written s
 
 -- the tokens of what is written in the policy's braces
 abbrev pub inner_tokens : (bs : List Block) → OpenOf bs → StatementsOf → List Token → List Token
 inner_tokens bs o ss ts = open_tokens bs o ++ (statements_tokens ss.statements ++ ts)
 
 abbrev pub tokens_of : (s : State) → Written s → List Token
-tokens_of s (Outer w) = outer_tokens s.place s.blocks w
-tokens_of s (Inner o ss w) = inner_tokens s.blocks o ss (place_tokens s.place s.around w)
+tokens_of s (Outer w) = outer_tokens s.stage s.blocks w
+tokens_of s (Inner o ss w) = inner_tokens s.blocks o ss (stage_tokens s.stage s.around w)
 
 -- these tokens are what is written where the reader is in the state
 pub record Reached (ts : List Token) (s : State) : Type 0 where

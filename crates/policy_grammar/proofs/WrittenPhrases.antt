@@ -6,9 +6,10 @@ use Rattle.policy_tokens.specs.declared.token.Token.{Token}
 use Rattle.policy_tokens.specs.declared.token.Token.TheVariants.{Keyword as keyword, Name as name, Field as field, PacketSwitch, SwitchOf, PortOf, Number, Sign as sign}
 use Rattle.policy_tokens.specs.declared.token.Keyword.TheVariants as word
 use Rattle.policy_tokens.specs.declared.token.Sign.TheVariants as mark
-use Rattle.policy_grammar.specs.declared.operator.Operator.{Operator}
-use Rattle.policy_grammar.specs.declared.operator.Operator.TheVariants.{Or, And, Equal, NotEqual, Less, LessEqual, Plus, Minus}
-use Rattle.policy_grammar.specs.Grammar.{Phrase, Callee, Up, At, Single, Call, Group, Negation, Test, Pair, callee_token, operator_token, phrase_tokens, level_of, left_level, right_level, is_single, IsPhrase}
+use Rattle.maple_base.specs.declared.operator.Operator.{Operator}
+use Rattle.maple_base.specs.declared.operator.Operator.TheVariants.{Or, And, Equal, NotEqual, Less, LessEqual, Add, Sub}
+use Rattle.maple_base.specs.Operators.{level_of, left_level, right_level}
+use Rattle.policy_grammar.specs.Grammar.{Phrase, Callee, Up, At, Single, Call, Group, Negation, Test, Pair, callee_token, operator_token, phrase_tokens, is_single, IsPhrase}
 use Rattle.policy_grammar.specs.Automaton.{pull}
 use Rattle.policy_grammar.proofs.Settles.{pull_gap, pull_operator, level_below_left, level_below_right}
 use Rattle.policy_grammar.proofs.Writer.{Kept, LeftOf, Negated, Tested, Grouped, FirstOf, SecondOf, Writer, Ahead, Behind, Settled, least, least_in, made, settle, tested, behind, written}
@@ -30,8 +31,8 @@ at_operator Equal s k = refl
 at_operator NotEqual s k = refl
 at_operator Less s k = refl
 at_operator LessEqual s k = refl
-at_operator Plus s k = refl
-at_operator Minus s k = refl
+at_operator Add s k = refl
+at_operator Sub s k = refl
 
 operator_written : (o : Operator) (a : Phrase) (cs : List Kept) (k : Phrase → Token → Writer) (rest : List Token) → least_in cs ≤ level_of o
     → written (Behind a cs k) (operator_token o ∷ rest) ≡ written (Ahead (LeftOf o a ∷ cs) k) rest

@@ -1,4 +1,4 @@
--- How a policy's tokens are read, one after the other. Behind each token the reader stands at a place, with what stands around the expression that it reads and with the blocks that are open, the innermost first.
+-- How a policy's tokens are read, one after the other. Behind each token the reader stands at a stage, with what stands around the expression that it reads and with the blocks that are open, the innermost first.
 use Rattle.std.specs.Prelude.{ℕ, ◌+◌, Bool, true, false, ◌&&◌, nat_lt, nat_le, if◌then◌else◌, List, [], ◌∷◌, Option, Some, None}
 use Rattle.std.specs.Option.{option_and_then}
 use Rattle.std.specs.Str.{bytes_eq}
@@ -9,22 +9,23 @@ use Rattle.policy_tokens.specs.declared.token.Keyword.TheVariants as word
 use Rattle.policy_tokens.specs.declared.token.Sign.{Sign}
 use Rattle.policy_tokens.specs.declared.token.Sign.TheVariants as mark
 use Rattle.policy_tokens.specs.Spellings.{keyword_text, sign_text}
-use Rattle.policy_grammar.specs.declared.operator.Operator.{Operator}
-use Rattle.policy_grammar.specs.declared.operator.Operator.TheVariants.{Or, And, Equal, NotEqual, Less, LessEqual, Plus, Minus}
-use Rattle.policy_grammar.specs.declared.place.Around.{Around}
-use Rattle.policy_grammar.specs.declared.place.Around.TheVariants.{Left, Not, Is, Group, First, Second}
-use Rattle.policy_grammar.specs.declared.place.Base.{Base}
-use Rattle.policy_grammar.specs.declared.place.Base.TheVariants as base
-use Rattle.policy_grammar.specs.declared.place.Shape.{Shape}
-use Rattle.policy_grammar.specs.declared.place.Shape.TheVariants as shape
-use Rattle.policy_grammar.specs.declared.place.Block.{Block}
-use Rattle.policy_grammar.specs.declared.place.Block.TheVariants as block
-use Rattle.policy_grammar.specs.declared.place.Place.{Place}
-use Rattle.policy_grammar.specs.declared.place.Place.TheVariants as at
-use Rattle.policy_grammar.specs.Grammar.{level_of, left_level, right_level}
+use Rattle.maple_base.specs.declared.operator.Operator.{Operator}
+use Rattle.maple_base.specs.declared.operator.Operator.TheVariants.{Or, And, Equal, NotEqual, Less, LessEqual, Add, Sub}
+use Rattle.policy_grammar.specs.declared.stage.Around.{Around}
+use Rattle.policy_grammar.specs.declared.stage.Around.TheVariants.{Left, Not, Is, Group, First, Second}
+use Rattle.policy_grammar.specs.declared.stage.Base.{Base}
+use Rattle.policy_grammar.specs.declared.stage.Base.TheVariants as base
+use Rattle.policy_grammar.specs.declared.stage.Shape.{Shape}
+use Rattle.policy_grammar.specs.declared.stage.Shape.TheVariants as shape
+use Rattle.policy_grammar.specs.declared.stage.Block.{Block}
+use Rattle.policy_grammar.specs.declared.stage.Block.TheVariants as block
+use Rattle.policy_grammar.specs.declared.stage.Stage.{Stage}
+use Rattle.policy_grammar.specs.declared.stage.Stage.TheVariants as at
+use Rattle.maple_base.specs.Operators.{level_of, left_level, right_level}
+use Rattle.policy_grammar.specs.Grammar.{most_behind_first}
 
 pub record State : Type 0 where
-  pub place : Place
+  pub stage : Stage
   pub around : List Around
   pub blocks : List Block
 
@@ -62,7 +63,7 @@ chosen ((b, a) ∷ rest) = if b then a else chosen rest
 abbrev pub operator_in : Token → Option Operator
 operator_in t =
     chosen ((is_keyword word.Or t, Some Or) ∷ (is_keyword word.And t, Some And) ∷ (is_sign mark.Equal t, Some Equal) ∷ (is_sign mark.NotEqual t, Some NotEqual)
-    ∷ (is_sign mark.Less t, Some Less) ∷ (is_sign mark.LessEqual t, Some LessEqual) ∷ (is_sign mark.Plus t, Some Plus) ∷ (is_sign mark.Minus t, Some Minus) ∷ [])
+    ∷ (is_sign mark.Less t, Some Less) ∷ (is_sign mark.LessEqual t, Some LessEqual) ∷ (is_sign mark.Plus t, Some Add) ∷ (is_sign mark.Minus t, Some Sub) ∷ [])
 
 -- ---- expressions
 
@@ -117,12 +118,12 @@ settle n (a ∷ as_) s = if nat_lt n (least a) then settle n as_ (made a) else r
 -- ---- the reader
 
 -- a state without an expression
-abbrev pub to : Place → List Block → Option State
-to p bs = Some (record { place = p; around = []; blocks = bs })
+abbrev pub to : Stage → List Block → Option State
+to p bs = Some (record { stage = p; around = []; blocks = bs })
 
 -- a state in an expression
-abbrev pub within : Place → List Around → List Block → Option State
-within p as_ bs = Some (record { place = p; around = as_; blocks = bs })
+abbrev pub within : Stage → List Around → List Block → Option State
+within p as_ bs = Some (record { stage = p; around = as_; blocks = bs })
 
 abbrev pub ahead : Base → List Around → List Block → Token → Option State
 ahead b as_ bs t =
@@ -158,7 +159,7 @@ behind_parenthesis b as_ bs = None
 -- `,`
 abbrev pub behind_comma : Base → List Around → List Block → Option State
 behind_comma b (First ∷ as_) bs = within (at.Ahead b) (Second ∷ as_) bs
-behind_comma (base.Out n) [] bs = if nat_lt n 15 then to (at.Ahead (base.Out (n + 1))) bs else None
+behind_comma (base.Out n) [] bs = if nat_lt n most_behind_first then to (at.Ahead (base.Out (n + 1))) bs else None
 behind_comma b as_ bs = None
 
 -- `;`
@@ -208,7 +209,7 @@ statement bs t =
 abbrev pub only : Bool → Option State → Option State
 only b s = if b then s else None
 
-abbrev pub step_at : Place → List Around → List Block → Token → Option State
+abbrev pub step_at : Stage → List Around → List Block → Token → Option State
 step_at at.Start as_ bs t = chosen ((is_keyword word.Table t, to at.Table bs) ∷ (is_keyword word.Policy t, to at.Policy bs) ∷ [])
 step_at at.Table as_ bs t = only (is_name t) (to at.TableName bs)
 step_at at.TableName as_ bs t = only (is_sign mark.Semicolon t) (to at.Start bs)
@@ -234,7 +235,7 @@ step_at at.End as_ bs t = None
 
 -- the state behind a token, where one may stand there
 abbrev pub step : State → Token → Option State
-step s t = step_at s.place s.around s.blocks t
+step s t = step_at s.stage s.around s.blocks t
 
 -- the state behind tokens
 abbrev pub run : State → List Token → Option State
@@ -242,7 +243,7 @@ run s [] = Some s
 run s (t ∷ ts) = option_and_then (λ next. run next ts) (step s t)
 
 abbrev pub start : State
-start = record { place = at.Start; around = []; blocks = [] }
+start = record { stage = at.Start; around = []; blocks = [] }
 
 abbrev pub end : State
-end = record { place = at.End; around = []; blocks = [] }
+end = record { stage = at.End; around = []; blocks = [] }

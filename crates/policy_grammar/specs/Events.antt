@@ -4,17 +4,17 @@ use Rattle.policy_tokens.specs.declared.token.Token.{Token}
 use Rattle.policy_tokens.specs.declared.token.Token.TheVariants.{Name as name, Field as field}
 use Rattle.policy_tokens.specs.declared.token.Keyword.TheVariants as word
 use Rattle.policy_tokens.specs.declared.token.Sign.TheVariants as mark
-use Rattle.policy_grammar.specs.declared.operator.Operator.{Operator}
+use Rattle.maple_base.specs.declared.operator.Operator.{Operator}
 use Rattle.policy_grammar.specs.declared.event.Event.{Event}
 use Rattle.policy_grammar.specs.declared.event.Event.TheVariants as event
-use Rattle.policy_grammar.specs.declared.place.Around.{Around}
-use Rattle.policy_grammar.specs.declared.place.Around.TheVariants as around
-use Rattle.policy_grammar.specs.declared.place.Base.{Base}
-use Rattle.policy_grammar.specs.declared.place.Base.TheVariants as base
-use Rattle.policy_grammar.specs.declared.place.Block.{Block}
-use Rattle.policy_grammar.specs.declared.place.Block.TheVariants as block
-use Rattle.policy_grammar.specs.declared.place.Place.{Place}
-use Rattle.policy_grammar.specs.declared.place.Place.TheVariants as at
+use Rattle.policy_grammar.specs.declared.stage.Around.{Around}
+use Rattle.policy_grammar.specs.declared.stage.Around.TheVariants as around
+use Rattle.policy_grammar.specs.declared.stage.Base.{Base}
+use Rattle.policy_grammar.specs.declared.stage.Base.TheVariants as base
+use Rattle.policy_grammar.specs.declared.stage.Block.{Block}
+use Rattle.policy_grammar.specs.declared.stage.Block.TheVariants as block
+use Rattle.policy_grammar.specs.declared.stage.Stage.{Stage}
+use Rattle.policy_grammar.specs.declared.stage.Stage.TheVariants as at
 use Rattle.policy_grammar.specs.Grammar.{Callee, Up, At, Phrase, Single, Call, Group, Negation, Test, Pair, Question, Host, Hop, Lookup, Holds, Action, Drop, Flood, Out, Route, Let, Assign, Statements, Nothing, Plain, If, IfElse, While, File}
 use Rattle.policy_grammar.specs.Automaton.{State, least, pull, settle, operator_in, is_keyword, is_sign, step}
 
@@ -145,7 +145,7 @@ abbrev pub question_first : Token → List Event
 question_first t =
     if is_keyword word.Host t then event.Begin ∷ [] else (if is_keyword word.Hop t then event.Begin ∷ [] else ahead_events t)
 
-abbrev pub events_at : Place → List Around → List Block → Token → List Event
+abbrev pub events_at : Stage → List Around → List Block → Token → List Event
 events_at at.Table as_ bs t = table_events t
 events_at at.Policy as_ bs t = if is_keyword word.Learning t then event.Learning ∷ [] else []
 events_at at.Statement as_ bs t = statement_events bs t
@@ -161,7 +161,7 @@ events_at p as_ bs t = []
 
 -- what a token adds to what was read
 abbrev pub events : State → Token → List Event
-events s t = events_at s.place s.around s.blocks t
+events s t = events_at s.stage s.around s.blocks t
 
 abbrev pub events_onto : Option State → (State → List Event) → List Event
 events_onto None rest = []

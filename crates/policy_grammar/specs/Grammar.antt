@@ -5,8 +5,9 @@ use Rattle.policy_tokens.specs.declared.token.Token.{Token}
 use Rattle.policy_tokens.specs.declared.token.Token.TheVariants.{Keyword as keyword, Name as name, Field as field, PacketSwitch, SwitchOf, PortOf, Number, Sign as sign}
 use Rattle.policy_tokens.specs.declared.token.Keyword.TheVariants as word
 use Rattle.policy_tokens.specs.declared.token.Sign.TheVariants as mark
-use Rattle.policy_grammar.specs.declared.operator.Operator.{Operator}
-use Rattle.policy_grammar.specs.declared.operator.Operator.TheVariants.{Or, And, Equal, NotEqual, Less, LessEqual, Plus, Minus}
+use Rattle.maple_base.specs.declared.operator.Operator.{Operator}
+use Rattle.maple_base.specs.declared.operator.Operator.TheVariants.{Or, And, Equal, NotEqual, Less, LessEqual, Add, Sub}
+use Rattle.maple_base.specs.Operators.{level_of, left_level, right_level}
 
 -- ---- expressions
 
@@ -41,8 +42,8 @@ operator_token Equal = sign mark.Equal
 operator_token NotEqual = sign mark.NotEqual
 operator_token Less = sign mark.Less
 operator_token LessEqual = sign mark.LessEqual
-operator_token Plus = sign mark.Plus
-operator_token Minus = sign mark.Minus
+operator_token Add = sign mark.Plus
+operator_token Sub = sign mark.Minus
 
 -- the tokens of an expression
 abbrev pub phrase_tokens : Phrase → List Token
@@ -52,39 +53,6 @@ phrase_tokens (Group a) = sign mark.OpenParenthesis ∷ (phrase_tokens a ++ sign
 phrase_tokens (Negation a) = keyword word.Not ∷ phrase_tokens a
 phrase_tokens (Test f a) = field f ∷ keyword word.Is ∷ phrase_tokens a
 phrase_tokens (Pair o a b) = phrase_tokens a ++ operator_token o ∷ phrase_tokens b
-
--- what an operator makes is of this level
-abbrev pub level_of : Operator → ℕ
-level_of Or = 0
-level_of And = 1
-level_of Equal = 3
-level_of NotEqual = 3
-level_of Less = 3
-level_of LessEqual = 3
-level_of Plus = 4
-level_of Minus = 4
-
--- its left part is of at least this level: a chain groups to the left, and comparisons make no chain
-abbrev pub left_level : Operator → ℕ
-left_level Or = 0
-left_level And = 1
-left_level Equal = 4
-left_level NotEqual = 4
-left_level Less = 4
-left_level LessEqual = 4
-left_level Plus = 4
-left_level Minus = 4
-
--- its right part is of at least this level
-abbrev pub right_level : Operator → ℕ
-right_level Or = 1
-right_level And = 2
-right_level Equal = 4
-right_level NotEqual = 4
-right_level Less = 4
-right_level LessEqual = 4
-right_level Plus = 5
-right_level Minus = 5
 
 -- a token that is an expression of its own
 abbrev pub is_single : Token → Bool
@@ -176,11 +144,14 @@ IsQuestion (Hop a x) = IsPhrase 0 a
 IsQuestion (Lookup t a x) = IsPhrase 0 a
 IsQuestion (Holds a) = IsPhrase 0 a
 
--- an `out` has at most 16 expressions
+-- an `out` has at most 16 expressions: this many behind the first
+abbrev pub most_behind_first : ℕ
+most_behind_first = 15
+
 abbrev pub IsAction : Action → Type 0
 IsAction Drop = ⊤
 IsAction Flood = ⊤
-IsAction (Out a more) = IsPhrase 0 a × All (IsPhrase 0) more × (length more ≤ 15)
+IsAction (Out a more) = IsPhrase 0 a × All (IsPhrase 0) more × (length more ≤ most_behind_first)
 IsAction (Route a) = IsPhrase 0 a
 IsAction (Let x a) = IsPhrase 0 a
 IsAction (Assign x a) = IsPhrase 0 a

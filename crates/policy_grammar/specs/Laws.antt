@@ -1,7 +1,7 @@
 -- What holds of the tokens of each policy.
 use Rattle.std.specs.Prelude.{◌≡◌, List, Some, ◌↔◌}
 use Rattle.policy_tokens.specs.declared.token.Token.{Token}
-use Rattle.policy_grammar.specs.declared.place.Place.TheVariants as at
+use Rattle.policy_grammar.specs.declared.stage.Stage.TheVariants as at
 use Rattle.policy_grammar.specs.Grammar.{File, AreStatements, file_tokens, IsText, Begins}
 use Rattle.policy_grammar.specs.Automaton.{State, start, run}
 use Rattle.policy_grammar.specs.Events.{trace, file_events}
@@ -14,7 +14,7 @@ OneFile = (f g : File) → AreStatements f.body → AreStatements g.body → fil
 pub record IsReadToEnd (tokens : List Token) : Type 0 where
   pub state : State
   pub reached : run start tokens ≡ Some state
-  pub end : state.place ≡ at.End
+  pub end : state.stage ≡ at.End
 
 -- exactly the tokens of the grammar's files are read to the end
 abbrev pub ReadsTexts : Type 0

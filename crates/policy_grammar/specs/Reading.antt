@@ -4,7 +4,7 @@ use Rattle.std.specs.List.{slice_get}
 use Rattle.policy_tokens.specs.declared.token.Token.{Token}
 use Rattle.policy_tokens.specs.declared.token.PlacedToken.{PlacedToken}
 use Rattle.policy_grammar.specs.declared.event.Event.{Event}
-use Rattle.policy_grammar.specs.declared.place.Place.TheVariants as at
+use Rattle.policy_grammar.specs.declared.stage.Stage.TheVariants as at
 use Rattle.policy_grammar.specs.Automaton.{State, start, step, run}
 use Rattle.policy_grammar.specs.Events.{events}
 
@@ -33,7 +33,7 @@ Reads false s n old new t = (step s t ≡ None) × (new ≡ old)
 pub record RunsToEnd (tokens : List Token) : Type 0 where
   pub state : State
   pub run : run start tokens ≡ Some state
-  pub ended : state.place ≡ at.End
+  pub ended : state.stage ≡ at.End
 
 -- the tokens ahead of this index are read, and with the one at it none can go on; where none is at it, the policy has not ended
 pub record StopsAt (tokens : List Token) (i : ℕ) : Type 0 where
@@ -41,7 +41,7 @@ pub record StopsAt (tokens : List Token) (i : ℕ) : Type 0 where
   pub within : i ≤ length tokens
   pub run : run start (take i tokens) ≡ Some state
   pub stops : (t : Token) → slice_get tokens i ≡ Some t → step state t ≡ None
-  pub unfinished : i ≡ length tokens → state.place ≢ at.End
+  pub unfinished : i ≡ length tokens → state.stage ≢ at.End
 
 abbrev pub Runs : List Token → Option ℕ → Type 0
 Runs tokens None = RunsToEnd tokens

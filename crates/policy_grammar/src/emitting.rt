@@ -1,13 +1,13 @@
 // What each token adds to what was read.
 ghost use Rattle.std.specs.Prelude.{◌≡◌, ◌++◌, [], ◌∷◌, drop, OnOk, IfOk};
 ghost use Rattle.policy_grammar.specs.Automaton.{settle, operator_in};
-ghost use Rattle.policy_grammar.specs.declared.place.Shape.{Shape};
+ghost use Rattle.policy_grammar.specs.declared.stage.Shape.{Shape};
 ghost use Rattle.policy_grammar.specs.Events.{ended, endings, operator_event, closing, finished, opening, behind_events, ahead_events, closed_events, name_events, table_events, statement_events, question_first, events_at, events};
 
 use crate::operator::operator_in;
 use crate::reader::pull;
 use crate::tokens::{is_keyword, is_sign};
-use crate::{Around, Base, Block, Event, Place, Reader};
+use crate::{Around, Base, Block, Event, Reader, Stage};
 use maple_base::NoMemory;
 use policy_tokens::{Keyword, Sign, Token};
 
@@ -59,7 +59,7 @@ fn named(token: &Token, out: &mut Vec<Event>) -> Result<(), NoMemory>
 }
 
 fn learning(token: &Token, out: &mut Vec<Event>) -> Result<(), NoMemory>
-    ensures { OnOk result (out.new.items ≡ out.old.items ++ events_at Place.Policy [] [] token.now) }
+    ensures { OnOk result (out.new.items ≡ out.old.items ++ events_at Stage.Policy [] [] token.now) }
 {
     if is_keyword(token, Keyword::Learning) {
         return add(out, Event::Learning);
@@ -134,27 +134,27 @@ impl Reader {
     pub fn emit(&self, token: &Token, out: &mut Vec<Event>) -> Result<(), NoMemory>
         ensures emitted { OnOk result (out.new.items ≡ out.old.items ++ events self.now token.now) }
     {
-        match self.place {
-            Place::Table => table(token, out),
-            Place::Policy => learning(token, out),
-            Place::Statement => self.emit_statement(token, out),
-            Place::Else => self.emit_else(token, out),
-            Place::Let | Place::As => named(token, out),
-            Place::If => question(token, out),
-            Place::Ahead(_) => ahead(token, out),
-            Place::Behind(base, _) => self.emit_behind(base, token, out),
-            Place::Bound => add_both(out, Event::Bind, Event::Open),
-            Place::ElseBlock => add(out, Event::Open),
-            Place::Start
-            | Place::TableName
-            | Place::Learning
-            | Place::Decided
-            | Place::LetName
-            | Place::Assigned
-            | Place::Asks(_)
-            | Place::Callee(_)
-            | Place::Asked
-            | Place::End => Ok(()),
+        match self.stage {
+            Stage::Table => table(token, out),
+            Stage::Policy => learning(token, out),
+            Stage::Statement => self.emit_statement(token, out),
+            Stage::Else => self.emit_else(token, out),
+            Stage::Let | Stage::As => named(token, out),
+            Stage::If => question(token, out),
+            Stage::Ahead(_) => ahead(token, out),
+            Stage::Behind(base, _) => self.emit_behind(base, token, out),
+            Stage::Bound => add_both(out, Event::Bind, Event::Open),
+            Stage::ElseBlock => add(out, Event::Open),
+            Stage::Start
+            | Stage::TableName
+            | Stage::Learning
+            | Stage::Decided
+            | Stage::LetName
+            | Stage::Assigned
+            | Stage::Asks(_)
+            | Stage::Callee(_)
+            | Stage::Asked
+            | Stage::End => Ok(()),
         }
     }
 
@@ -188,7 +188,7 @@ impl Reader {
 
     // The same where an `else` may stand: any other token ends the `if`.
     fn emit_else(&self, token: &Token, out: &mut Vec<Event>) -> Result<(), NoMemory>
-        ensures { OnOk result (out.new.items ≡ out.old.items ++ events_at Place.Else [] self.now.blocks token.now) }
+        ensures { OnOk result (out.new.items ≡ out.old.items ++ events_at Stage.Else [] self.now.blocks token.now) }
     {
         if is_keyword(token, Keyword::Else) {
             return Ok(());
@@ -215,7 +215,7 @@ impl Reader {
 
     // Behind an expression, or behind what of it was read.
     fn emit_behind(&self, base: Base, token: &Token, out: &mut Vec<Event>) -> Result<(), NoMemory>
-        ensures { OnOk result ((s : Shape) → out.new.items ≡ out.old.items ++ events_at (Place.Behind base s) self.now.around [] token.now) }
+        ensures { OnOk result ((s : Shape) → out.new.items ≡ out.old.items ++ events_at (Stage.Behind base s) self.now.around [] token.now) }
     {
         let depth = self.emit_endings(pull(token), out)?;
         self.emit_part(base, depth, token, out)

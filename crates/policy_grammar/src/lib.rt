@@ -5,18 +5,16 @@ pub mod emitting;
 pub mod event;
 pub mod laws;
 pub mod operator;
-pub mod place;
 pub mod reader;
 pub mod reading;
 pub mod stack;
-#[cfg(test)]
-mod tests;
+pub mod stage;
 pub mod tokens;
 
 pub use event::Event;
 pub use laws::grammar_laws;
-pub use operator::Operator;
-pub use place::{Around, Base, Block, Place, Shape};
+pub use maple_base::Operator;
 pub use reader::Reader;
 pub use reading::{Reading, read_events};
 pub use stack::Stack;
+pub use stage::{Around, Base, Block, Shape, Stage};

@@ -5,17 +5,20 @@ ghost use Rattle.policy_grammar.specs.Reading.{Goes};
 
 use crate::operator::operator_in;
 use crate::tokens::{is_field, is_keyword, is_name, is_sign, is_value};
-use crate::{Around, Base, Block, Operator, Place, Shape, Stack};
+use crate::{Around, Base, Block, Operator, Shape, Stack, Stage};
 use maple_base::NoMemory;
 use policy_tokens::{Keyword, Sign, Token};
 use std::alloc::Global;
 use std::marker::Model;
 
-/// A reader of a policy's tokens: its place, what stands around the expression that it reads, and
+/// The most expressions behind the first of an `out`, which has at most 16.
+const MOST_BEHIND_FIRST: u8 = 15;
+
+/// A reader of a policy's tokens: its stage, what stands around the expression that it reads, and
 /// the blocks that are open.
 #[derive(Drop)]
 pub struct Reader {
-    pub(crate) place: Place,
+    pub(crate) stage: Stage,
     pub(crate) around: Stack<Around>,
     pub(crate) blocks: Stack<Block>,
 }
@@ -25,7 +28,7 @@ impl Model for Reader {
 
     ghost Value = { State };
 
-    ghost view = { λ a. record { place = a.place; around = a.around; blocks = a.blocks } };
+    ghost view = { λ a. record { stage = a.stage; around = a.around; blocks = a.blocks } };
 }
 
 // The level of tokens that end no part of an expression ahead of them.
@@ -47,7 +50,7 @@ impl Reader {
         ensures { result ≡ start }
     {
         Reader {
-            place: Place::Start,
+            stage: Stage::Start,
             around: Stack::new(alloc),
             blocks: Stack::new(alloc),
         }
@@ -55,42 +58,42 @@ impl Reader {
 
     /// Whether a whole policy was read.
     pub fn is_at_end(&self) -> bool
-        ensures { (result ≡ true) ↔ (self.now.place ≡ Place.End) }
+        ensures { (result ≡ true) ↔ (self.now.stage ≡ Stage.End) }
     {
-        self.place == Place::End
+        self.stage == Stage::End
     }
 
-    // Goes to a place at which nothing stands around.
-    fn to(&mut self, place: Place) -> bool
-        ensures { (result ≡ true) × (self.new ≡ record { place = place; around = []; blocks = self.old.blocks }) }
+    // Goes to a stage at which nothing stands around.
+    fn to(&mut self, stage: Stage) -> bool
+        ensures { (result ≡ true) × (self.new ≡ record { stage = stage; around = []; blocks = self.old.blocks }) }
     {
         self.around.clear();
-        self.place = place;
+        self.stage = stage;
         true
     }
 
-    // Goes to a place in an expression.
-    fn within(&mut self, place: Place) -> bool
-        ensures { (result ≡ true) × (self.new ≡ record { place = place; around = self.old.around; blocks = self.old.blocks }) }
+    // Goes to a stage in an expression.
+    fn within(&mut self, stage: Stage) -> bool
+        ensures { (result ≡ true) × (self.new ≡ record { stage = stage; around = self.old.around; blocks = self.old.blocks }) }
     {
-        self.place = place;
+        self.stage = stage;
         true
     }
 
     // Goes to an expression that has this around it.
-    fn enter(&mut self, around: Around, place: Place) -> Result<bool, NoMemory>
-        ensures { IfOk result (λ read. (read ≡ true) × (self.new ≡ record { place = place; around = around ∷ self.old.around; blocks = self.old.blocks })) }
+    fn enter(&mut self, around: Around, stage: Stage) -> Result<bool, NoMemory>
+        ensures { IfOk result (λ read. (read ≡ true) × (self.new ≡ record { stage = stage; around = around ∷ self.old.around; blocks = self.old.blocks })) }
     {
         self.around.push(around)?;
-        Ok(self.within(place))
+        Ok(self.within(stage))
     }
 
     // Opens a block.
     fn open(&mut self, block: Block) -> Result<bool, NoMemory>
-        ensures { IfOk result (λ read. (read ≡ true) × (self.new ≡ record { place = Place.Statement; around = []; blocks = block ∷ self.old.blocks })) }
+        ensures { IfOk result (λ read. (read ≡ true) × (self.new ≡ record { stage = Stage.Statement; around = []; blocks = block ∷ self.old.blocks })) }
     {
         self.blocks.push(block)?;
-        Ok(self.to(Place::Statement))
+        Ok(self.to(Stage::Statement))
     }
 
     // The least level of an expression that stands here.
@@ -106,7 +109,7 @@ impl Reader {
     // Ends what ends ahead of a token, and gives the shape of what was read then.
     fn settle(&mut self, pull: u8, shape: Shape) -> Shape
         ensures settled { settle pull self.old.around shape ≡ record { around = self.new.around; shape = result } }
-        ensures place { self.new.place ≡ self.old.place }
+        ensures stage { self.new.stage ≡ self.old.stage }
         ensures blocks { self.new.blocks ≡ self.old.blocks }
     {
         let mut shape = shape;
@@ -125,9 +128,9 @@ impl Reader {
         ensures { Goes result self.new (closed self.old.blocks) }
     {
         match self.blocks.pop() {
-            None => self.to(Place::End),
-            Some(Block::First) => self.to(Place::Else),
-            Some(Block::Second | Block::Loop) => self.to(Place::Statement),
+            None => self.to(Stage::End),
+            Some(Block::First) => self.to(Stage::Else),
+            Some(Block::Second | Block::Loop) => self.to(Stage::Statement),
         }
     }
 
@@ -138,57 +141,57 @@ impl Reader {
     pub fn step(&mut self, token: &Token) -> Result<bool, NoMemory>
         ensures { IfOk result (λ read. Goes read self.new (step self.old token.now)) }
     {
-        let read = match self.place {
-            Place::Start => self.start(token),
-            Place::Table => is_name(token) && self.to(Place::TableName),
-            Place::TableName => is_sign(token, Sign::Semicolon) && self.to(Place::Start),
-            Place::Policy => self.policy(token),
-            Place::Learning => is_sign(token, Sign::OpenBrace) && self.to(Place::Statement),
-            Place::Statement => self.statement(token),
-            Place::Else => self.or_else(token),
-            Place::Decided => is_sign(token, Sign::Semicolon) && self.to(Place::Statement),
-            Place::Let => is_name(token) && self.to(Place::LetName),
-            Place::LetName => is_sign(token, Sign::Assign) && self.to(Place::Ahead(Base::Let)),
-            Place::Assigned => is_sign(token, Sign::Assign) && self.to(Place::Ahead(Base::Assign)),
-            Place::If => return self.question(token),
-            Place::Asks(base) => {
-                is_sign(token, Sign::OpenParenthesis) && self.to(Place::Ahead(base))
+        let read = match self.stage {
+            Stage::Start => self.start(token),
+            Stage::Table => is_name(token) && self.to(Stage::TableName),
+            Stage::TableName => is_sign(token, Sign::Semicolon) && self.to(Stage::Start),
+            Stage::Policy => self.policy(token),
+            Stage::Learning => is_sign(token, Sign::OpenBrace) && self.to(Stage::Statement),
+            Stage::Statement => self.statement(token),
+            Stage::Else => self.or_else(token),
+            Stage::Decided => is_sign(token, Sign::Semicolon) && self.to(Stage::Statement),
+            Stage::Let => is_name(token) && self.to(Stage::LetName),
+            Stage::LetName => is_sign(token, Sign::Assign) && self.to(Stage::Ahead(Base::Let)),
+            Stage::Assigned => is_sign(token, Sign::Assign) && self.to(Stage::Ahead(Base::Assign)),
+            Stage::If => return self.question(token),
+            Stage::Asks(base) => {
+                is_sign(token, Sign::OpenParenthesis) && self.to(Stage::Ahead(base))
             }
-            Place::Ahead(base) => return self.ahead(base, token),
-            Place::Callee(base) => return self.callee(base, token),
-            Place::Behind(base, shape) => return self.behind(base, shape, token),
-            Place::Asked => is_keyword(token, Keyword::As) && self.to(Place::As),
-            Place::As => is_name(token) && self.to(Place::Bound),
-            Place::Bound => return self.block(Block::First, token),
-            Place::ElseBlock => return self.block(Block::Second, token),
-            Place::End => false,
+            Stage::Ahead(base) => return self.ahead(base, token),
+            Stage::Callee(base) => return self.callee(base, token),
+            Stage::Behind(base, shape) => return self.behind(base, shape, token),
+            Stage::Asked => is_keyword(token, Keyword::As) && self.to(Stage::As),
+            Stage::As => is_name(token) && self.to(Stage::Bound),
+            Stage::Bound => return self.block(Block::First, token),
+            Stage::ElseBlock => return self.block(Block::Second, token),
+            Stage::End => false,
         };
         Ok(read)
     }
 
     fn start(&mut self, token: &Token) -> bool
-        ensures { Goes result self.new (step_at Place.Start self.old.around self.old.blocks token.now) }
+        ensures { Goes result self.new (step_at Stage.Start self.old.around self.old.blocks token.now) }
     {
         if is_keyword(token, Keyword::Table) {
-            return self.to(Place::Table);
+            return self.to(Stage::Table);
         }
-        is_keyword(token, Keyword::Policy) && self.to(Place::Policy)
+        is_keyword(token, Keyword::Policy) && self.to(Stage::Policy)
     }
 
     fn policy(&mut self, token: &Token) -> bool
-        ensures { Goes result self.new (step_at Place.Policy self.old.around self.old.blocks token.now) }
+        ensures { Goes result self.new (step_at Stage.Policy self.old.around self.old.blocks token.now) }
     {
         if is_keyword(token, Keyword::Learning) {
-            return self.to(Place::Learning);
+            return self.to(Stage::Learning);
         }
-        is_sign(token, Sign::OpenBrace) && self.to(Place::Statement)
+        is_sign(token, Sign::OpenBrace) && self.to(Stage::Statement)
     }
 
     fn or_else(&mut self, token: &Token) -> bool
-        ensures { Goes result self.new (step_at Place.Else self.old.around self.old.blocks token.now) }
+        ensures { Goes result self.new (step_at Stage.Else self.old.around self.old.blocks token.now) }
     {
         if is_keyword(token, Keyword::Else) {
-            return self.to(Place::ElseBlock);
+            return self.to(Stage::ElseBlock);
         }
         self.statement(token)
     }
@@ -198,19 +201,19 @@ impl Reader {
         ensures { Goes result self.new (statement self.old.blocks token.now) }
     {
         if is_keyword(token, Keyword::Drop) || is_keyword(token, Keyword::Flood) {
-            self.to(Place::Decided)
+            self.to(Stage::Decided)
         } else if is_keyword(token, Keyword::Out) {
-            self.to(Place::Ahead(Base::Out(0)))
+            self.to(Stage::Ahead(Base::Out(0)))
         } else if is_keyword(token, Keyword::Route) {
-            self.to(Place::Ahead(Base::Route))
+            self.to(Stage::Ahead(Base::Route))
         } else if is_keyword(token, Keyword::Let) {
-            self.to(Place::Let)
+            self.to(Stage::Let)
         } else if is_keyword(token, Keyword::If) {
-            self.to(Place::If)
+            self.to(Stage::If)
         } else if is_keyword(token, Keyword::While) {
-            self.to(Place::Ahead(Base::While))
+            self.to(Stage::Ahead(Base::While))
         } else if is_name(token) {
-            self.to(Place::Assigned)
+            self.to(Stage::Assigned)
         } else {
             is_sign(token, Sign::CloseBrace) && self.closed()
         }
@@ -218,7 +221,7 @@ impl Reader {
 
     // The opening brace of a block.
     fn block(&mut self, block: Block, token: &Token) -> Result<bool, NoMemory>
-        ensures { IfOk result (λ read. Goes read self.new (only (is_sign Sign.OpenBrace token.now) (to Place.Statement (block ∷ self.old.blocks)))) }
+        ensures { IfOk result (λ read. Goes read self.new (only (is_sign Sign.OpenBrace token.now) (to Stage.Statement (block ∷ self.old.blocks)))) }
     {
         if is_sign(token, Sign::OpenBrace) {
             self.open(block)
@@ -229,14 +232,14 @@ impl Reader {
 
     // What an `if` asks.
     fn question(&mut self, token: &Token) -> Result<bool, NoMemory>
-        ensures { IfOk result (λ read. Goes read self.new (step_at Place.If self.old.around self.old.blocks token.now)) }
+        ensures { IfOk result (λ read. Goes read self.new (step_at Stage.If self.old.around self.old.blocks token.now)) }
     {
         self.around.clear();
         if is_keyword(token, Keyword::Host) {
-            return Ok(self.to(Place::Asks(Base::Host)));
+            return Ok(self.to(Stage::Asks(Base::Host)));
         }
         if is_keyword(token, Keyword::Hop) {
-            return Ok(self.to(Place::Asks(Base::Hop)));
+            return Ok(self.to(Stage::Asks(Base::Hop)));
         }
         self.ahead(Base::If, token)
     }
@@ -246,9 +249,9 @@ impl Reader {
         ensures { IfOk result (λ read. Goes read self.new (ahead base self.old.around self.old.blocks token.now)) }
     {
         if is_sign(token, Sign::OpenParenthesis) {
-            self.enter(Around::Group, Place::Ahead(base))
+            self.enter(Around::Group, Stage::Ahead(base))
         } else if is_keyword(token, Keyword::Not) && self.least() <= 2 {
-            self.enter(Around::Not, Place::Ahead(base))
+            self.enter(Around::Not, Stage::Ahead(base))
         } else {
             Ok(self.single(base, token))
         }
@@ -261,22 +264,22 @@ impl Reader {
         ensures { Goes result self.new (ahead base self.old.around self.old.blocks token.now) }
     {
         if is_keyword(token, Keyword::Up) || is_keyword(token, Keyword::At) {
-            self.within(Place::Callee(base))
+            self.within(Stage::Callee(base))
         } else if is_name(token) {
-            self.within(Place::Behind(base, Shape::Name))
+            self.within(Stage::Behind(base, Shape::Name))
         } else if is_field(token) {
-            self.within(Place::Behind(base, Shape::Field))
+            self.within(Stage::Behind(base, Shape::Field))
         } else {
-            is_value(token) && self.within(Place::Behind(base, Shape::Whole))
+            is_value(token) && self.within(Stage::Behind(base, Shape::Whole))
         }
     }
 
     // The parenthesis behind the word of a call.
     fn callee(&mut self, base: Base, token: &Token) -> Result<bool, NoMemory>
-        ensures { IfOk result (λ read. Goes read self.new (step_at (Place.Callee base) self.old.around self.old.blocks token.now)) }
+        ensures { IfOk result (λ read. Goes read self.new (step_at (Stage.Callee base) self.old.around self.old.blocks token.now)) }
     {
         if is_sign(token, Sign::OpenParenthesis) {
-            self.enter(Around::First, Place::Ahead(base))
+            self.enter(Around::First, Stage::Ahead(base))
         } else {
             Ok(false)
         }
@@ -317,7 +320,7 @@ impl Reader {
         ensures { IfOk result (λ read. Goes read self.new (behind_operator base self.old.around shape self.old.blocks operator)) }
     {
         if operator.left_level() <= shape.level() {
-            self.enter(Around::Left(operator), Place::Ahead(base))
+            self.enter(Around::Left(operator), Stage::Ahead(base))
         } else {
             Ok(false)
         }
@@ -328,7 +331,7 @@ impl Reader {
         ensures { IfOk result (λ read. Goes read self.new (behind_is base self.old.around shape self.old.blocks)) }
     {
         match shape {
-            Shape::Field if self.least() <= 3 => self.enter(Around::Is, Place::Ahead(base)),
+            Shape::Field if self.least() <= 3 => self.enter(Around::Is, Stage::Ahead(base)),
             _ => Ok(false),
         }
     }
@@ -338,7 +341,7 @@ impl Reader {
         ensures { Goes result self.new (behind_bracket base self.old.around shape self.old.blocks) }
     {
         match (base, self.around.top(), shape) {
-            (Base::If, None, Shape::Name) => self.to(Place::Ahead(Base::Lookup)),
+            (Base::If, None, Shape::Name) => self.to(Stage::Ahead(Base::Lookup)),
             _ => false,
         }
     }
@@ -347,10 +350,10 @@ impl Reader {
         ensures { Goes result self.new (behind_parenthesis base self.old.around self.old.blocks) }
     {
         match self.around.pop() {
-            Some(Around::Group | Around::Second) => self.within(Place::Behind(base, Shape::Whole)),
+            Some(Around::Group | Around::Second) => self.within(Stage::Behind(base, Shape::Whole)),
             Some(_) => false,
             None => match base {
-                Base::Host | Base::Hop => self.to(Place::Asked),
+                Base::Host | Base::Hop => self.to(Stage::Asked),
                 _ => false,
             },
         }
@@ -360,9 +363,9 @@ impl Reader {
         ensures { IfOk result (λ read. Goes read self.new (behind_comma base self.old.around self.old.blocks)) }
     {
         match (self.around.pop(), base) {
-            (Some(Around::First), _) => self.enter(Around::Second, Place::Ahead(base)),
-            (None, Base::Out(count)) if count < 15 => {
-                Ok(self.to(Place::Ahead(Base::Out(count + 1))))
+            (Some(Around::First), _) => self.enter(Around::Second, Stage::Ahead(base)),
+            (None, Base::Out(count)) if count < MOST_BEHIND_FIRST => {
+                Ok(self.to(Stage::Ahead(Base::Out(count + 1))))
             }
             _ => Ok(false),
         }
@@ -373,7 +376,7 @@ impl Reader {
     {
         match (self.around.top(), base) {
             (None, Base::Out(_) | Base::Route | Base::Let | Base::Assign) => {
-                self.to(Place::Statement)
+                self.to(Stage::Statement)
             }
             _ => false,
         }
@@ -393,7 +396,7 @@ impl Reader {
         ensures { Goes result self.new (behind_index base self.old.around self.old.blocks) }
     {
         match (self.around.top(), base) {
-            (None, Base::Lookup) => self.to(Place::Asked),
+            (None, Base::Lookup) => self.to(Stage::Asked),
             _ => false,
         }
     }

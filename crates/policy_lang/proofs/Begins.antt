@@ -15,7 +15,8 @@ use Rattle.policy_lang.specs.declared.Statement.TheOpen.{Statement-F, Block-F, D
 use Rattle.policy_lang.specs.declared.Statement.TheFolds.{fold-roll-Statement, fold-roll-Block, map-Statement, map-Block, ind-Block}
 use Rattle.policy_lang.specs.declared.Statement.TheViews.{roll-Statement, roll-Block}
 use Rattle.policy_lang.specs.declared.Block.{Block}
-use Rattle.policy_lang.specs.Values.{Scope, place_in, is_port, ports_among, sent_out}
+use Rattle.maple_base.specs.Ports.{is_port}
+use Rattle.policy_lang.specs.Values.{Scope, place_in, ports_among, sent_out}
 use Rattle.policy_lang.specs.Evaluation.{Arrival, Given, AllGiven, value_of, numbers_of, Ending, Spends, Decides, Goes, Running, and_then, out_ending, Way, Unread, Lost, Leads, behind, hop_at, onward, way, way_ending, route_ending, declared, changed, leaving, otherwise, Held, Unasked, Fails, Holds, by_truth, head_of, chosen, round, rounds, by_statement, in_order, by_block, block_ending, outcome_of}
 use Rattle.policy_lang.specs.Laws.{begins_at}
 use Rattle.policy_lang.proofs.Plainly.{statement_running}

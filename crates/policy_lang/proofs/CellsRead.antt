@@ -18,7 +18,8 @@ use Rattle.policy_lang.specs.declared.Statement.TheOpen.{Statement-F, Block-F, D
 use Rattle.policy_lang.specs.declared.Statement.TheFolds.{fold-Statement, fold-roll-Statement, fold-roll-Block, map-Statement, map-Block, ind-Block}
 use Rattle.policy_lang.specs.declared.Statement.TheViews.{roll-Statement, roll-Block}
 use Rattle.policy_lang.specs.declared.Block.{Block}
-use Rattle.policy_lang.specs.Values.{Datum, Truth, Scope, number_in, truth_in, place_in, place_of_host, port_of_hop, number_in_table, flag_in, is_port}
+use Rattle.maple_base.specs.Ports.{is_port}
+use Rattle.policy_lang.specs.Values.{Datum, Truth, Scope, number_in, truth_in, place_in, place_of_host, port_of_hop, number_in_table, flag_in}
 use Rattle.policy_lang.specs.Evaluation.{Arrival, Given, AllGiven, from_one, from_two, settled_by, both_hold, one_holds, has_value, opposite, sum_of, difference_of, are_equal, are_unequal, is_less, is_at_most, place_at, port_is_up, value_of, ahead_of, with_number, numbers_of, Ending, Spends, Decides, Goes, Running, and_then, out_ending, Way, Lost, Leads, behind, hop_at, onward, way, way_to, way_ending, route_ending, declared, changed, leaving, otherwise, Held, Unasked, Fails, Holds, by_truth, bound, by_cell, head_of, chosen, round, rounds, by_statement, in_order, by_block, block_ending, outcome_of}
 use Rattle.policy_lang.specs.Reads.{behind_value, Reading, pair_reads, nothing_more, up_cell, reads_where, value_reads, numbers_reads, hop_reads, way_reads, route_reads, head_reads, Part, else_reads, chosen_reads, then_reads, round_reads, rounds_reads, ends_of, part_statement, reads_in_order, ends_in_order, part_block, block_part}
 use Rattle.policy_lang.specs.Laws.{ReadsNothingElse}

@@ -1,14 +1,14 @@
 -- The first limit that an expression passes, by the nodes that begin with its first word.
-use Rattle.std.proofs.Common.{◌≡◌, ◌⊎◌, ℕ, ◌+◌, ◌*◌, ◌<◌, ◌≤◌, Bool, true, false, cond, List, [], ◌∷◌, ◌++◌, refl, sym, ap, ◌∙◌, subst, inl, inr, arith}
-use Rattle.std.specs.Prelude.{nat_lt, Option, Some, None}
-use Rattle.std.proofs.lemmas.Bool.{lt-ltb, le-ltb, cases_lt}
+use Rattle.std.proofs.Common.{◌≡◌, ◌⊎◌, ℕ, ◌+◌, ◌<◌, ◌≤◌, cond, List, [], ◌∷◌, ◌++◌, refl, sym, ap, ◌∙◌, subst, inl, inr, arith}
+use Rattle.std.specs.Prelude.{Option, Some, None}
+use Rattle.std.proofs.lemmas.Bool.{le-ltb, cases_lt}
 use Rattle.policy_lang.specs.declared.Expr.{Expr}
 use Rattle.policy_lang.specs.declared.limits.Limit.{Limit}
-use Rattle.policy_lang.specs.declared.faults.Rule.TheVariants as rules
+use Rattle.maple_base.specs.declared.policy_fault.PolicyFault.TheVariants.{Nesting, Nodes}
 use Rattle.policy_lang.specs.Faults.{Fault, limit_faults, first_of, size_of, expr_limits}
 use Rattle.policy_lang.specs.Limits.{unless_deep, deep_word, IsFirst}
-use Rattle.policy_lang.proofs.Shapes.{Shape, Alone, Above, Call, Infix, shape, size_in, front, limits, rest, deep, limits_rest, deep_now, size_shape, deep_shape, limits_shape, append_none}
-use Rattle.policy_lang.proofs.Later.{AllLater, later_append, later_less, own_later, nesting_at, nodes_at, nesting_first, first_stays, own_none, own_last, deep_part_first, first_later, place_decides}
+use Rattle.policy_lang.proofs.Shapes.{Shape, Alone, Above, Call, Infix, shape, size_in, front, limits, rest, deep, limits_rest, deep_now, size_shape, deep_shape, limits_shape}
+use Rattle.policy_lang.proofs.Later.{AllLater, later_append, later_less, own_later, nesting_at, nodes_at, nesting_first, first_stays, own_none, own_last, deep_part_first}
 
 pub front_least : (s : Shape) (n : ℕ) → n ≤ front s n
 front_least Alone n = omega arith
@@ -127,12 +127,12 @@ shape_told s n d h k = by (cases_lt 32 d)
         (last_told (deep s n d) n (front s n) d (rest s n d) q last (rest_is s n d (omega arith) q))
 
 abbrev nesting_limit : ℕ → Limit
-nesting_limit m = record { rule = rules.Nesting; node = m }
+nesting_limit m = record { kind = Nesting; node = m }
 
 abbrev nodes_limit : ℕ → Limit
-nodes_limit n = record { rule = rules.Nodes; node = n }
+nodes_limit n = record { kind = Nodes; node = n }
 
--- the first of them is told by its rule and its node
+-- the first of them is told by its kind and its node
 pub nesting_told : (e : Expr) (n d m : ℕ) → n ≤ 4097 → (32 < d) ⊎ (4096 < n) → deep_word e n d ≡ Some m → IsFirst (nesting_limit m) (first_of (expr_limits e n d)) (n + size_of e)
 nesting_told e n d m h k q =
     let told = subst (λ o. Told o n (front (shape e) n) (limits (shape e) n d)) (sym (deep_shape e n d) ∙ q) (shape_told (shape e) n d h k) in

@@ -1,5 +1,5 @@
 -- Loops over expressions and statements whose names and types are looked at.
-use Rattle.std.proofs.Common.{◌≡◌, ℕ, ◌+◌, ◌-◌, ◌<◌, ◌≤◌, Bool, true, false, cond, zero, suc, List, [], ◌∷◌, ◌++◌, map, take, drop, length, get_or, append_assoc, refl, sym, ap, ◌∙◌, subst, arith}
+use Rattle.std.proofs.Common.{◌≡◌, ℕ, ◌+◌, ◌-◌, ◌<◌, ◌≤◌, Bool, true, false, cond, List, [], ◌∷◌, ◌++◌, map, take, drop, length, get_or, append_assoc, refl, sym, ap, ◌∙◌, subst, arith}
 use Rattle.std.specs.Prelude.{Option, Some, None, is_some}
 use Rattle.std.specs.Option.{option_map}
 use Rattle.std.proofs.lemmas.List.{drop_all, append-nil}
@@ -24,18 +24,18 @@ pub record NumbersFound (place : Site → ℕ) (es : List Expr) (names : Names) 
   pub fault : merged_by place found (first_by place (numbers_faults left names next)) ≡ first_by place (numbers_faults es names n)
   pub size : next + sizes_of left ≡ n + sizes_of es
 
-pub numbers_found : (place : Site → ℕ) (es : List Expr) (names : Names) (n : ℕ) → NumbersFound place es names n (drop 0 es) None n
-numbers_found place es names n = record { fault = refl; size = refl }
+pub exprs_found : (place : Site → ℕ) (es : List Expr) (names : Names) (n : ℕ) → NumbersFound place es names n (drop 0 es) None n
+exprs_found place es names n = record { fault = refl; size = refl }
 
-pub numbers_fit : (place : Site → ℕ) (es : List Expr) (names : Names) (n i : ℕ) (e : Expr) (found : Option Fault) (next : ℕ) → i < length es → e ≡ get_or es i e → NumbersFound place es names n (drop i es) found next
+pub exprs_fit : (place : Site → ℕ) (es : List Expr) (names : Names) (n i : ℕ) (e : Expr) (found : Option Fault) (next : ℕ) → i < length es → e ≡ get_or es i e → NumbersFound place es names n (drop i es) found next
     → next + size_of e ≤ n + sizes_of es
-numbers_fit place es names n i e found next h q left =
+exprs_fit place es names n i e found next h q left =
     let before = subst (λ l. NumbersFound place es names n l found next) (rest_expressions es i e h q) left in
     let z = before.size in omega arith
 
-pub numbers_more_found : (place : Site → ℕ) (es : List Expr) (names : Names) (n i : ℕ) (e : Expr) (found new : Option Fault) (next after : ℕ) → i < length es → e ≡ get_or es i e → NumbersFound place es names n (drop i es) found next
+pub exprs_more : (place : Site → ℕ) (es : List Expr) (names : Names) (n i : ℕ) (e : Expr) (found new : Option Fault) (next after : ℕ) → i < length es → e ≡ get_or es i e → NumbersFound place es names n (drop i es) found next
     → new ≡ merged_by place found (first_by place (operand_faults NumberType e names next)) → after ≡ next + size_of e → NumbersFound place es names n (drop (i + 1) es) new after
-numbers_more_found place es names n i e found new next after h q left new_is after_is =
+exprs_more place es names n i e found new next after h q left new_is after_is =
     let before = subst (λ l. NumbersFound place es names n l found next) (rest_expressions es i e h q) left in
     let others : ℕ → List Fault = λ m. numbers_faults (drop (i + 1) es) names m in
     record {
@@ -46,9 +46,9 @@ numbers_more_found place es names n i e found new next after h q left new_is aft
       size = let z = before.size in omega arith;
     }
 
-pub numbers_all_found : (place : Site → ℕ) (es : List Expr) (names : Names) (n i : ℕ) (found : Option Fault) (next : ℕ) → length es ≤ i → NumbersFound place es names n (drop i es) found next
+pub exprs_last : (place : Site → ℕ) (es : List Expr) (names : Names) (n i : ℕ) (found : Option Fault) (next : ℕ) → length es ≤ i → NumbersFound place es names n (drop i es) found next
     → (found ≡ first_by place (numbers_faults es names n)) × (next ≡ n + sizes_of es)
-numbers_all_found place es names n i found next h left =
+exprs_last place es names n i found next h left =
     let done = subst (λ l. NumbersFound place es names n l found next) (drop_all i es h) left in
     (sym (merged_none place found) ∙ done.fault, let z = done.size in omega arith)
 

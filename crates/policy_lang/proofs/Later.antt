@@ -1,16 +1,19 @@
 -- Limits that are passed from a place of the text on.
-use Rattle.std.proofs.Common.{◌≡◌, ◌⊎◌, ℕ, ◌+◌, ◌*◌, ◌<◌, ◌≤◌, Bool, true, false, cond, List, [], ◌∷◌, ◌++◌, refl, sym, ap, ◌∙◌, subst, inl, inr, arith}
-use Rattle.std.specs.Prelude.{◌==◌, ◌||◌, ◌&&◌, not, nat_lt, nat_le, Option, Some, None}
-use Rattle.std.proofs.lemmas.Bool.{lt-ltb, le-ltb, eq-eqb, eqb-true, cases_lt, false_from_ne_true}
+use Rattle.std.proofs.Common.{◌≡◌, ℕ, ◌*◌, ◌<◌, ◌≤◌, Bool, true, false, cond, List, [], ◌∷◌, ◌++◌, refl, sym, ap, ◌∙◌, subst, inl, inr, arith}
+use Rattle.std.specs.Prelude.{◌==◌, not, nat_lt, nat_le, Option, Some, None}
+use Rattle.std.proofs.lemmas.Bool.{le-ltb, eq-eqb, eqb-true, cases_lt, false_from_ne_true}
 use Rattle.policy_lang.specs.declared.limits.Limit.{Limit}
-use Rattle.policy_lang.specs.Faults.{Fault, Rule, UnknownName, Twice, TypeMismatch, Nesting, Nodes, Site, AtNode, is_limit, number_of, node_of, position, pass_of, is_before, sooner, first_of, unless_so, limit_faults}
-use Rattle.policy_lang.specs.Walks.{rule_of, merged}
+use Rattle.maple_base.specs.declared.policy_fault.PolicyFault.{PolicyFault}
+use Rattle.maple_base.specs.declared.policy_fault.PolicyFault.TheVariants.{NotAscii, Token as no_token, Syntax, UnknownName, Twice, TypeMismatch, NumberRange, Nesting, Nodes, TooLong}
+use Rattle.maple_base.specs.PolicyFaults.{number_of}
+use Rattle.policy_lang.specs.Faults.{Fault, Site, AtNode, is_limit, node_of, position, pass_of, is_before, sooner, first_of, unless_so, limit_faults}
+use Rattle.policy_lang.specs.Walks.{merged}
 use Rattle.policy_lang.specs.Limits.{IsFirst}
-use Rattle.policy_lang.proofs.Order.{ahead, ahead_same, ahead_more, ahead_less, first_append}
+use Rattle.policy_lang.proofs.Order.{ahead, ahead_same, ahead_more, first_append}
 
 -- a fault of a limit that lies at this place or behind it, in this node or one behind it
 pub record Later (place node : ℕ) (f : Fault) : Type 0 where
-  pub limit : is_limit f.rule ≡ true
+  pub limit : is_limit f.kind ≡ true
   pub place_in : 2 * place ≤ position f.site
   pub node_in : node ≤ node_of f.site
 
@@ -43,9 +46,9 @@ first_later p n (x ∷ xs) a = sooner_later x (first_of xs) a.0 (first_later p n
     sooner_later f None h k = h
     sooner_later f (Some g) h k = picked (is_before g f) f g h k
 
-pub unless_later : (p n : ℕ) (b : Bool) (rule : Rule) (site : Site) → is_limit rule ≡ true → 2 * p ≤ position site → n ≤ node_of site → AllLater p n (unless_so b rule site)
-unless_later p n true rule site a b c = tt
-unless_later p n false rule site a b c = (record { limit = a; place_in = b; node_in = c }, tt)
+pub unless_later : (p n : ℕ) (b : Bool) (kind : PolicyFault) (site : Site) → is_limit kind ≡ true → 2 * p ≤ position site → n ≤ node_of site → AllLater p n (unless_so b kind site)
+unless_later p n true kind site a b c = tt
+unless_later p n false kind site a b c = (record { limit = a; place_in = b; node_in = c }, tt)
 
 pub own_later : (n first d : ℕ) → AllLater first n (limit_faults n first d)
 own_later n first d =
@@ -53,24 +56,29 @@ own_later n first d =
     (unless_later first n (nat_le d 32) Nesting (AtNode n first) refl (omega arith) (omega arith))
     (unless_later first n (not (n == 4097)) Nodes (AtNode n first) refl (omega arith) (omega arith))
 
-pass_limit : (f : Fault) → is_limit f.rule ≡ true → pass_of f ≡ 0
+pass_limit : (f : Fault) → is_limit f.kind ≡ true → pass_of f ≡ 0
 pass_limit f h = ap (λ b. cond b 0 1) h
 
-big_number : (r : Rule) → is_limit r ≡ true → 8 ≤ number_of r
+big_number : (r : PolicyFault) → is_limit r ≡ true → 8 ≤ number_of r
+big_number NotAscii h = absurd (cc)
+big_number no_token h = absurd (cc)
+big_number Syntax h = absurd (cc)
 big_number UnknownName h = absurd (cc)
 big_number Twice h = absurd (cc)
 big_number TypeMismatch h = absurd (cc)
+big_number NumberRange h = absurd (cc)
 big_number Nesting h = omega arith
 big_number Nodes h = omega arith
+big_number TooLong h = absurd (cc)
 
 abbrev pub nesting_at : ℕ → ℕ → Fault
-nesting_at n p = record { rule = Nesting; site = AtNode n p }
+nesting_at n p = record { kind = Nesting; site = AtNode n p }
 
 abbrev pub nodes_at : ℕ → ℕ → Fault
-nodes_at n p = record { rule = Nodes; site = AtNode n p }
+nodes_at n p = record { kind = Nodes; site = AtNode n p }
 
 -- of two limits the one at an earlier place comes first
-pub place_decides : (f g : Fault) → is_limit f.rule ≡ true → is_limit g.rule ≡ true → position f.site < position g.site → is_before g f ≡ false
+pub place_decides : (f g : Fault) → is_limit f.kind ≡ true → is_limit g.kind ≡ true → position f.site < position g.site → is_before g f ≡ false
 place_decides f g a b h =
     ahead_same (pass_of g) (pass_of f) _ (pass_limit g b ∙ sym (pass_limit f a))
     ∙ ahead_more (position g.site) (position f.site) _ h
@@ -79,19 +87,19 @@ place_decides f g a b h =
 pub nesting_stands : (n p : ℕ) (g : Fault) → Later p n g → is_before g (nesting_at n p) ≡ false
 nesting_stands n p g h =
     ahead_same (pass_of g) 0 _ (pass_limit g h.limit)
-    ∙ elim (cases_lt (2 * p) (position g.site)) as (λ _. ahead (position g.site) (2 * p) (ahead (number_of g.rule) 8 (nat_lt (node_of g.site) n)) ≡ false) [
+    ∙ elim (cases_lt (2 * p) (position g.site)) as (λ _. ahead (position g.site) (2 * p) (ahead (number_of g.kind) 8 (nat_lt (node_of g.site) n)) ≡ false) [
       | inl a ↦ ahead_more (position g.site) (2 * p) _ a
       | inr a ↦ let z = h.place_in in let same : position g.site ≡ 2 * p = omega arith in
           ahead_same (position g.site) (2 * p) _ same ∙ by_number
     ]
   where
-    by_number : ahead (number_of g.rule) 8 (nat_lt (node_of g.site) n) ≡ false
+    by_number : ahead (number_of g.kind) 8 (nat_lt (node_of g.site) n) ≡ false
     by_number =
-        let big = big_number g.rule h.limit in
-        elim (cases_lt 8 (number_of g.rule)) as (λ _. ahead (number_of g.rule) 8 (nat_lt (node_of g.site) n) ≡ false) [
-          | inl a ↦ ahead_more (number_of g.rule) 8 _ a
-          | inr a ↦ let same : number_of g.rule ≡ 8 = omega arith in
-              ahead_same (number_of g.rule) 8 _ same ∙ le-ltb (node_of g.site) n h.node_in
+        let big = big_number g.kind h.limit in
+        elim (cases_lt 8 (number_of g.kind)) as (λ _. ahead (number_of g.kind) 8 (nat_lt (node_of g.site) n) ≡ false) [
+          | inl a ↦ ahead_more (number_of g.kind) 8 _ a
+          | inr a ↦ let same : number_of g.kind ≡ 8 = omega arith in
+              ahead_same (number_of g.kind) 8 _ same ∙ le-ltb (node_of g.site) n h.node_in
         ]
 
 stays : (f : Fault) (o : Option Fault) → ((g : Fault) → o ≡ Some g → is_before g f ≡ false) → sooner f o ≡ f
@@ -113,7 +121,7 @@ nesting_first n p d xs h a =
     too_deep q = grind (arith, le-ltb)
 
 -- what comes first at an earlier place comes first
-pub first_stays : (f : Fault) (p n : ℕ) (xs ys : List Fault) → first_of xs ≡ Some f → is_limit f.rule ≡ true → position f.site < 2 * p → AllLater p n ys → first_of (xs ++ ys) ≡ Some f
+pub first_stays : (f : Fault) (p n : ℕ) (xs ys : List Fault) → first_of xs ≡ Some f → is_limit f.kind ≡ true → position f.site < 2 * p → AllLater p n ys → first_of (xs ++ ys) ≡ Some f
 first_stays f p n xs ys e l h a =
     first_append xs ys ∙ ap (λ o. merged o (first_of ys)) e
     ∙ ap Some (stays f (first_of ys) (λ g q. let z = later_of p n (first_of ys) g (first_later p n ys a) q in place_decides f g l z.limit (let w = z.place_in in omega arith)))

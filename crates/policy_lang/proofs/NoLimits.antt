@@ -8,26 +8,28 @@ use Rattle.policy_lang.specs.declared.Expr.TheVariants.{Number, Var, SwitchOf, P
 use Rattle.policy_lang.specs.declared.Head.{Head}
 use Rattle.policy_lang.specs.declared.Head.TheVariants.{Host, Hop, Lookup, Test}
 use Rattle.policy_lang.specs.declared.Statement.{Statement}
-use Rattle.policy_lang.specs.declared.Statement.TheFolds.{fold-Statement, fold-roll-Statement, fold-roll-Block, map-Statement, ind-Block}
+use Rattle.policy_lang.specs.declared.Statement.TheFolds.{fold-roll-Statement, fold-roll-Block, map-Statement, ind-Block}
 use Rattle.policy_lang.specs.declared.Statement.TheViews.{roll-Statement, roll-Block}
 use Rattle.policy_lang.specs.declared.Statement.TheOpen.{Statement-F, Block-F, Drop as drop_, Flood as flood, Out as out, Route as route, Let as let_, Assign as assign, If as if_, While as while_}
 use Rattle.policy_lang.specs.declared.Block.{Block}
-use Rattle.policy_lang.specs.Faults.{Fault, Rule, Site, UnknownName, Twice, TypeMismatch, AtTable, AtNode, AtWhole, AtDeclared, AtBound, Type_, NumberType, TruthType, PlaceType, Meaning, Table, Variable, Names, Checked, is_limit, pass_of, is_before, sooner, first_of, size_of, size_of_head, first_in, suits, type_of, meaning_of, unless_so, value_faults, place_faults, table_faults, type_faults, parts_faults, expr_faults, operand_faults, numbers_faults, declared_faults, head_faults, names_behind, assigned_faults, wrong_otherwise, wrong_in, check_leaf, check_out, check_route, check_let, check_assign, check_if, check_while, check_statement, check_block, checked, tables_faults, table_names, name_faults, policy_faults}
+use Rattle.maple_base.specs.declared.policy_fault.PolicyFault.{PolicyFault}
+use Rattle.maple_base.specs.declared.policy_fault.PolicyFault.TheVariants.{Twice, TypeMismatch}
+use Rattle.policy_lang.specs.Faults.{Fault, Site, AtTable, AtNode, AtWhole, AtDeclared, AtBound, Type_, NumberType, TruthType, PlaceType, Meaning, Table, Variable, Names, Checked, is_limit, pass_of, is_before, sooner, first_of, size_of, size_of_head, first_in, suits, type_of, meaning_of, unless_so, value_faults, place_faults, table_faults, type_faults, parts_faults, expr_faults, operand_faults, numbers_faults, declared_faults, head_faults, names_behind, assigned_faults, wrong_otherwise, wrong_in, check_leaf, check_out, check_route, check_let, check_assign, check_if, check_while, check_statement, check_block, checked, tables_faults, table_names, name_faults, policy_faults}
 use Rattle.policy_lang.specs.Walks.{merged}
 use Rattle.policy_lang.specs.Limits.{statement_checked}
 use Rattle.policy_lang.proofs.Order.{ahead_less, ahead_more, first_append}
 
 abbrev pub NoLimits : List Fault → Type 0
 NoLimits [] = Unit {0}
-NoLimits (f ∷ fs) = (is_limit f.rule ≡ false) × NoLimits fs
+NoLimits (f ∷ fs) = (is_limit f.kind ≡ false) × NoLimits fs
 
 both_free : (xs ys : List Fault) → NoLimits xs → NoLimits ys → NoLimits (xs ++ ys)
 both_free [] ys a b = b
 both_free (x ∷ xs) ys a b = (a.0, both_free xs ys a.1 b)
 
-unless_free : (b : Bool) (rule : Rule) (site : Site) → is_limit rule ≡ false → NoLimits (unless_so b rule site)
-unless_free true rule site h = tt
-unless_free false rule site h = (h, tt)
+unless_free : (b : Bool) (kind : PolicyFault) (site : Site) → is_limit kind ≡ false → NoLimits (unless_so b kind site)
+unless_free true kind site h = tt
+unless_free false kind site h = (h, tt)
 
 value_free : (m : Option Meaning) (n : ℕ) → NoLimits (value_faults m n)
 value_free None n = (refl, tt)
@@ -187,33 +189,33 @@ tables_free seen (t ∷ ts) =
 
 abbrev NoneOrFree : Option Fault → Type 0
 NoneOrFree None = Unit {0}
-NoneOrFree (Some f) = is_limit f.rule ≡ false
+NoneOrFree (Some f) = is_limit f.kind ≡ false
 
 first_free : (xs : List Fault) → NoLimits xs → NoneOrFree (first_of xs)
 first_free [] h = tt
 first_free (x ∷ xs) h = sooner_free x (first_of xs) h.0 (first_free xs h.1)
   where
-    picked : (b : Bool) (f g : Fault) → is_limit f.rule ≡ false → is_limit g.rule ≡ false → is_limit (cond b g f).rule ≡ false
+    picked : (b : Bool) (f g : Fault) → is_limit f.kind ≡ false → is_limit g.kind ≡ false → is_limit (cond b g f).kind ≡ false
     picked true f g a b = b
     picked false f g a b = a
 
-    sooner_free : (f : Fault) (o : Option Fault) → is_limit f.rule ≡ false → NoneOrFree o → is_limit (sooner f o).rule ≡ false
+    sooner_free : (f : Fault) (o : Option Fault) → is_limit f.kind ≡ false → NoneOrFree o → is_limit (sooner f o).kind ≡ false
     sooner_free f None a b = a
     sooner_free f (Some g) a b = picked (is_before g f) f g a b
 
-ahead_of_free : (f g : Fault) → is_limit f.rule ≡ true → is_limit g.rule ≡ false → is_before f g ≡ true
+ahead_of_free : (f g : Fault) → is_limit f.kind ≡ true → is_limit g.kind ≡ false → is_before f g ≡ true
 ahead_of_free f g a b =
     let p : pass_of f ≡ 0 = ap (λ x. cond x 0 1) a in
     let q : pass_of g ≡ 1 = ap (λ x. cond x 0 1) b in
     ahead_less (pass_of f) (pass_of g) _ (omega arith)
 
-not_ahead : (f g : Fault) → is_limit f.rule ≡ true → is_limit g.rule ≡ false → is_before g f ≡ false
+not_ahead : (f g : Fault) → is_limit f.kind ≡ true → is_limit g.kind ≡ false → is_before g f ≡ false
 not_ahead f g a b =
     let p : pass_of f ≡ 0 = ap (λ x. cond x 0 1) a in
     let q : pass_of g ≡ 1 = ap (λ x. cond x 0 1) b in
     ahead_more (pass_of g) (pass_of f) _ (omega arith)
 
-limit_wins : (o p : Option Fault) (f : Fault) → is_limit f.rule ≡ true → NoneOrFree o → NoneOrFree p → merged (merged o (Some f)) p ≡ Some f
+limit_wins : (o p : Option Fault) (f : Fault) → is_limit f.kind ≡ true → NoneOrFree o → NoneOrFree p → merged (merged o (Some f)) p ≡ Some f
 limit_wins None None f l a b = refl
 limit_wins None (Some h) f l a b = ap (λ x. Some (cond x h f)) (not_ahead f h l b)
 limit_wins (Some g) None f l a b = ap (λ x. Some (cond x f g)) (ahead_of_free f g l a)
@@ -221,7 +223,7 @@ limit_wins (Some g) (Some h) f l a b =
     ap (λ x. Some (sooner (cond x f g) (Some h))) (ahead_of_free f g l a) ∙ ap (λ x. Some (cond x h f)) (not_ahead f h l b)
 
 -- a limit is told ahead of all else
-pub limit_first : (tables : List (List ℕ)) (body : Block) (f : Fault) → first_of ((checked body).limits 1 1) ≡ Some f → is_limit f.rule ≡ true → first_of (policy_faults tables body) ≡ Some f
+pub limit_first : (tables : List (List ℕ)) (body : Block) (f : Fault) → first_of ((checked body).limits 1 1) ≡ Some f → is_limit f.kind ≡ true → first_of (policy_faults tables body) ≡ Some f
 limit_first tables body f e l =
     let named : List Fault = tables_faults [] tables in
     let limits : List Fault = (checked body).limits 1 1 in

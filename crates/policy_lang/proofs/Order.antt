@@ -1,8 +1,9 @@
 -- The order of faults, and the first of several lists of them.
-use Rattle.std.proofs.Common.{◌≡◌, ◌⊎◌, ℕ, ◌+◌, ◌*◌, ◌<◌, ◌≤◌, Bool, true, false, cond, List, [], ◌∷◌, ◌++◌, refl, sym, ap, ◌∙◌, subst, inl, inr, arith, append_assoc}
-use Rattle.std.specs.Prelude.{◌==◌, ◌&&◌, ◌||◌, not, nat_lt, nat_le, Option, Some, None}
+use Rattle.std.proofs.Common.{◌≡◌, ◌⊎◌, ℕ, ◌<◌, ◌≤◌, Bool, true, false, cond, List, [], ◌∷◌, ◌++◌, refl, sym, ap, ◌∙◌, inl, inr, arith, append_assoc}
+use Rattle.std.specs.Prelude.{◌==◌, ◌&&◌, ◌||◌, nat_lt, Option, Some, None}
 use Rattle.std.proofs.lemmas.Bool.{ltb-true, ltb-false, lt-ltb, le-ltb, eq-eqb, eqb-true}
-use Rattle.policy_lang.specs.Faults.{Fault, Rule, UnknownName, Twice, TypeMismatch, Nesting, Nodes, Site, AtNode, is_limit, number_of, node_of, position, pass_of, is_before_by, sooner_by, first_by, first_of}
+use Rattle.maple_base.specs.PolicyFaults.{number_of}
+use Rattle.policy_lang.specs.Faults.{Fault, Site, node_of, position, pass_of, is_before_by, sooner_by, first_by, first_of}
 use Rattle.policy_lang.specs.Walks.{merged_by, merged}
 
 -- the order by a number, and of equal numbers by what is left
@@ -75,13 +76,13 @@ pub before_trans : (place : Site → ℕ) (f g h : Fault) → is_before_by place
 before_trans place f g h =
     ahead_trans (pass_of f) (pass_of g) (pass_of h) _ _ _
     (ahead_trans (place f.site) (place g.site) (place h.site) _ _ _
-    (ahead_trans (number_of f.rule) (number_of g.rule) (number_of h.rule) _ _ _ (last_trans (node_of f.site) (node_of g.site) (node_of h.site))))
+    (ahead_trans (number_of f.kind) (number_of g.kind) (number_of h.kind) _ _ _ (last_trans (node_of f.site) (node_of g.site) (node_of h.site))))
 
 pub before_none : (place : Site → ℕ) (f g h : Fault) → is_before_by place f g ≡ false → is_before_by place g h ≡ false → is_before_by place f h ≡ false
 before_none place f g h =
     ahead_none (pass_of f) (pass_of g) (pass_of h) _ _ _
     (ahead_none (place f.site) (place g.site) (place h.site) _ _ _
-    (ahead_none (number_of f.rule) (number_of g.rule) (number_of h.rule) _ _ _ (last_none (node_of f.site) (node_of g.site) (node_of h.site))))
+    (ahead_none (number_of f.kind) (number_of g.kind) (number_of h.kind) _ _ _ (last_none (node_of f.site) (node_of g.site) (node_of h.site))))
 
 three : (place : Site → ℕ) (x y z : Bool) (f g h : Fault) → is_before_by place g f ≡ x → is_before_by place h g ≡ y → is_before_by place h f ≡ z
     → sooner_by place (sooner_by place f (Some g)) (Some h) ≡ sooner_by place f (Some (sooner_by place g (Some h)))

@@ -1,5 +1,5 @@
 -- A policy that passes no limit has at most 4,096 nodes.
-use Rattle.std.proofs.Common.{◌≡◌, ℕ, ◌+◌, ◌≤◌, Bool, true, false, List, [], ◌∷◌, ◌++◌, map, refl, sym, ap, ◌∙◌, subst, arith}
+use Rattle.std.proofs.Common.{◌≡◌, ℕ, ◌+◌, ◌≤◌, Bool, true, false, List, [], ◌∷◌, ◌++◌, map, refl, sym, ◌∙◌, subst, arith}
 use Rattle.std.specs.Prelude.{not, ◌==◌, nat_le, Option, Some, None}
 use Rattle.std.proofs.lemmas.Bool.Decides.{nat_tests}
 use Rattle.policy_lang.specs.declared.Expr.{Expr}
@@ -10,7 +10,8 @@ use Rattle.policy_lang.specs.declared.Statement.TheFolds.{fold-roll-Statement, f
 use Rattle.policy_lang.specs.declared.Statement.TheViews.{roll-Statement, roll-Block}
 use Rattle.policy_lang.specs.declared.Statement.TheOpen.{Statement-F, Block-F, Drop as drop_, Flood as flood, Out as out, Route as route, Let as let_, Assign as assign, If as if_, While as while_}
 use Rattle.policy_lang.specs.declared.Block.{Block}
-use Rattle.policy_lang.specs.Faults.{Fault, Nesting, Nodes, AtNode, unless_so, Checked, size_of, sizes_of, size_of_head, limit_faults, expr_limits, numbers_limits, binding_limits, head_limits, limits_otherwise, size_otherwise, check_statement, check_block, checked, limits_in, sizes_in, check_leaf, check_out, check_route, check_let, check_assign, check_if, check_while, tables_faults, table_names, IsWellFormed}
+use Rattle.maple_base.specs.declared.policy_fault.PolicyFault.TheVariants.{Nesting, Nodes}
+use Rattle.policy_lang.specs.Faults.{Fault, AtNode, unless_so, Checked, size_of, sizes_of, size_of_head, limit_faults, expr_limits, numbers_limits, binding_limits, head_limits, limits_otherwise, size_otherwise, check_statement, check_block, checked, limits_in, sizes_in, check_leaf, check_out, check_if, check_while, tables_faults, table_names, IsWellFormed}
 use Rattle.policy_lang.specs.Limits.{statement_checked}
 use Rattle.policy_lang.proofs.Shapes.{Shape, Alone, Above, Call, Infix, shape, size_in, front, limits, limits_shape, size_shape}
 
@@ -58,11 +59,11 @@ expr_fits e n d none le =
     let s = size_shape e in
     omega (arith, h, s)
 
-numbers_fit : (es : List Expr) → Fit (numbers_limits es) (sizes_of es)
-numbers_fit [] n d none le = omega (arith, le)
-numbers_fit (e ∷ es) n d none le =
+exprs_fit : (es : List Expr) → Fit (numbers_limits es) (sizes_of es)
+exprs_fit [] n d none le = omega (arith, le)
+exprs_fit (e ∷ es) n d none le =
     let h = none_both (expr_limits e n d) (numbers_limits es (n + size_of e) d) none in
-    let rest = numbers_fit es (n + size_of e) d h.1 (expr_fits e n d h.0 le) in
+    let rest = exprs_fit es (n + size_of e) d h.1 (expr_fits e n d h.0 le) in
     omega (arith, rest)
 
 binding_fits : (e : Expr) → Fit (binding_limits e) (1 + size_of e)
@@ -86,7 +87,7 @@ leaf_fits n d none le = own_fits n n d none le
 out_fits : (es : List Expr) → Fitting (check_out es)
 out_fits es n d none le =
     let h = none_both (limit_faults n n d) (numbers_limits es (n + 1) (d + 1)) none in
-    let inner = numbers_fit es (n + 1) (d + 1) h.1 (own_fits n n d h.0 le) in
+    let inner = exprs_fit es (n + 1) (d + 1) h.1 (own_fits n n d h.0 le) in
     omega (arith, inner)
 
 while_fits : (e : Expr) (body : Checked) → Fitting body → Fitting (check_while e body)

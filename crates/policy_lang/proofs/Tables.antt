@@ -4,7 +4,8 @@ use Rattle.std.specs.Prelude.{◌||◌, not, Option}
 use Rattle.std.specs.List.{list_any}
 use Rattle.std.specs.Str.{bytes_eq}
 use Rattle.std.proofs.Math.Seq.{drop-cons, take-suc}
-use Rattle.policy_lang.specs.Faults.{Fault, Twice, AtTable, unless_so, Site, tables_faults, first_by}
+use Rattle.maple_base.specs.declared.policy_fault.PolicyFault.TheVariants.{Twice}
+use Rattle.policy_lang.specs.Faults.{Fault, AtTable, unless_so, Site, tables_faults, first_by}
 use Rattle.policy_lang.specs.Walks.{merged_by}
 use Rattle.policy_lang.proofs.Order.{merged_append}
 

@@ -1,17 +1,18 @@
 -- What an error tells of the first fault.
-use Rattle.std.proofs.Common.{◌≡◌, ℕ, List, [], ◌∷◌, refl, sym, ap, ◌∙◌, subst}
+use Rattle.std.proofs.Common.{◌≡◌, ℕ, List, [], refl, sym, ap, ◌∙◌, subst}
 use Rattle.std.specs.Prelude.{Option, Some, None}
 use Rattle.policy_lang.specs.declared.Block.{Block}
 use Rattle.policy_lang.specs.declared.limits.Limit.{Limit}
 use Rattle.policy_lang.specs.declared.faults.Fault.{Fault as CodeFault}
-use Rattle.policy_lang.specs.Faults.{Fault, Site, Names, number_of, node_of, checked, tables_faults, table_names, name_faults, policy_faults, first_by, first_of, IsWellFormed}
-use Rattle.policy_lang.specs.Walks.{rule_of, site_of, fault_of, told, merged_by}
+use Rattle.maple_base.specs.PolicyFaults.{number_of}
+use Rattle.policy_lang.specs.Faults.{Fault, Site, Names, node_of, checked, tables_faults, table_names, name_faults, policy_faults, first_by, first_of, IsWellFormed}
+use Rattle.policy_lang.specs.Walks.{site_of, told, merged_by}
 use Rattle.policy_lang.specs.Built.{IsTold}
 use Rattle.policy_lang.specs.Limits.{IsFirst}
 use Rattle.policy_lang.proofs.NoLimits.{limit_first, names_only, none_wrong}
 use Rattle.policy_lang.proofs.Order.{first_both}
 
-pub limit_told : (tables : List (List ℕ)) (body : Block) (l : Limit) (after kind : ℕ) → IsFirst l (first_of ((checked body).limits 1 1)) after → kind ≡ number_of (rule_of l.rule)
+pub limit_told : (tables : List (List ℕ)) (body : Block) (l : Limit) (after kind : ℕ) → IsFirst l (first_of ((checked body).limits 1 1)) after → kind ≡ number_of l.kind
     → IsTold l.node kind (first_of (policy_faults tables body))
 limit_told tables body l after kind h k = by (first_of ((checked body).limits 1 1)) refl h
   where
@@ -23,7 +24,7 @@ fault_of_names : (tables : List (List ℕ)) (body : Block) (found : Option CodeF
 fault_of_names tables body found none is = ap first_of (names_only tables body none) ∙ sym is
 
 pub fault_told : (tables : List (List ℕ)) (body : Block) (f : CodeFault) (node kind : ℕ) → (checked body).limits 1 1 ≡ [] → told (Some f) ≡ first_of (name_faults tables body)
-    → node ≡ node_of (site_of f.site) → kind ≡ number_of (rule_of f.rule) → IsTold node kind (first_of (policy_faults tables body))
+    → node ≡ node_of (site_of f.site) → kind ≡ number_of f.kind → IsTold node kind (first_of (policy_faults tables body))
 fault_told tables body f node kind none is n k = subst (IsTold node kind) (sym (fault_of_names tables body (Some f) none is)) (n, k)
 
 pub well_formed : (tables : List (List ℕ)) (body : Block) → (checked body).limits 1 1 ≡ [] → None ≡ first_of (name_faults tables body) → IsWellFormed tables body

@@ -8,7 +8,7 @@ use Rattle.policy_lang.specs.declared.Expr.{Expr}
 use Rattle.policy_lang.specs.declared.Head.{Head}
 use Rattle.policy_lang.specs.declared.Head.TheVariants.{Host, Hop, Lookup, Test}
 use Rattle.policy_lang.specs.declared.Statement.{Statement}
-use Rattle.policy_lang.specs.declared.Statement.TheFolds.{fold-Statement, fold-roll-Statement, fold-roll-Block, fold_out-Block, map-Statement, ind-Statement, ind-Block}
+use Rattle.policy_lang.specs.declared.Statement.TheFolds.{fold-roll-Statement, fold-roll-Block, fold_out-Block, map-Statement, ind-Statement, ind-Block}
 use Rattle.policy_lang.specs.declared.Statement.TheViews.{roll-Statement, roll-Block}
 use Rattle.policy_lang.specs.declared.Statement.TheOpen.{Statement-F, Block-F, Drop as drop_, Flood as flood, Out as out, Route as route, Let as let_, Assign as assign, If as if_, While as while_}
 use Rattle.policy_lang.specs.declared.Block.{Block}
@@ -16,8 +16,8 @@ use Rattle.policy_lang.specs.declared.limits.Limit.{Limit}
 use Rattle.policy_lang.specs.Faults.{Fault, Checked, size_of, sizes_of, size_of_head, limit_faults, expr_limits, numbers_limits, binding_limits, head_limits, limits_otherwise, size_otherwise, check_statement, check_block, checked, limits_in, sizes_in, check_leaf, check_out, check_route, check_let, check_assign, check_if, check_while, first_of}
 use Rattle.policy_lang.specs.Blocks.{statements_of}
 use Rattle.policy_lang.specs.Limits.{IsFirst, statement_checked}
-use Rattle.policy_lang.proofs.Shapes.{append_none, shape, size_shape}
-use Rattle.policy_lang.proofs.FirstWord.{expr_later, size_some}
+use Rattle.policy_lang.proofs.Shapes.{append_none}
+use Rattle.policy_lang.proofs.FirstWord.{expr_later}
 use Rattle.policy_lang.proofs.Later.{AllLater, later_append, later_less, own_later, stop}
 
 numbers_later : (es : List Expr) (n d : ℕ) → AllLater n n (numbers_limits es n d)
@@ -172,8 +172,8 @@ pub expr_stops : (l : Limit) (e : Expr) (xs : List Fault) (m after d : ℕ) → 
 expr_stops l e xs m after d h k = stop l xs (expr_limits e m d) m m m after h (omega arith) (omega arith) (expr_later e m d)
 
 -- of a loop over expressions
-pub numbers_stops : (l : Limit) (e : Expr) (es : List Expr) (m d : ℕ) → IsFirst l (first_of (expr_limits e m d)) (m + size_of e) → IsFirst l (first_of (numbers_limits (e ∷ es) m d)) (m + sizes_of (e ∷ es))
-numbers_stops l e es m d h =
+pub exprs_stops : (l : Limit) (e : Expr) (es : List Expr) (m d : ℕ) → IsFirst l (first_of (expr_limits e m d)) (m + size_of e) → IsFirst l (first_of (numbers_limits (e ∷ es) m d)) (m + sizes_of (e ∷ es))
+exprs_stops l e es m d h =
     stop l (expr_limits e m d) (numbers_limits es (m + size_of e) d) (m + size_of e) (m + size_of e) (m + size_of e) (m + (size_of e + sizes_of es)) h (omega arith) (omega arith) (numbers_later es (m + size_of e) d)
 
 pub all_stops : (l : Limit) (s : Statement) (ss : List Statement) (m d : ℕ) → IsFirst l (first_of ((statement_checked s).limits m d)) (m + (statement_checked s).size)
@@ -202,12 +202,12 @@ pub record NumbersLeft (es : List Expr) (n d : ℕ) (left : List Expr) (next : �
   pub size : next + sizes_of left ≡ n + sizes_of es
   pub few : next ≤ 4097
 
-pub numbers_begin : (es : List Expr) (n d : ℕ) → n ≤ 4097 → NumbersLeft es n d (drop 0 es) n
-numbers_begin es n d h = record { limits = refl; size = refl; few = h }
+pub exprs_begin : (es : List Expr) (n d : ℕ) → n ≤ 4097 → NumbersLeft es n d (drop 0 es) n
+exprs_begin es n d h = record { limits = refl; size = refl; few = h }
 
-pub numbers_go_on : (es : List Expr) (n d i : ℕ) (e : Expr) (next after : ℕ) → i < length es → e ≡ get_or es i e → NumbersLeft es n d (drop i es) next
+pub exprs_on : (es : List Expr) (n d i : ℕ) (e : Expr) (next after : ℕ) → i < length es → e ≡ get_or es i e → NumbersLeft es n d (drop i es) next
     → expr_limits e next d ≡ [] → after ≡ next + size_of e → after ≤ 4097 → NumbersLeft es n d (drop (i + 1) es) after
-numbers_go_on es n d i e next after h q left none after_is few =
+exprs_on es n d i e next after h q left none after_is few =
     let more = rest_expressions es i e h q in
     let before = subst (λ l. NumbersLeft es n d l next) more left in
     let here : numbers_limits (drop (i + 1) es) (next + size_of e) d ≡ numbers_limits es n d =
@@ -218,16 +218,16 @@ numbers_go_on es n d i e next after h q left none after_is few =
       few = few;
     }
 
-pub numbers_stop : (es : List Expr) (n d i : ℕ) (e : Expr) (next : ℕ) (l : Limit) → i < length es → e ≡ get_or es i e → NumbersLeft es n d (drop i es) next
+pub exprs_stop : (es : List Expr) (n d i : ℕ) (e : Expr) (next : ℕ) (l : Limit) → i < length es → e ≡ get_or es i e → NumbersLeft es n d (drop i es) next
     → IsFirst l (first_of (expr_limits e next d)) (next + size_of e) → IsFirst l (first_of (numbers_limits es n d)) (n + sizes_of es)
-numbers_stop es n d i e next l h q left told =
+exprs_stop es n d i e next l h q left told =
     let more = rest_expressions es i e h q in
     let before = subst (λ k. NumbersLeft es n d k next) more left in
     subst (λ xs. IsFirst l (first_of xs) (n + sizes_of es)) before.limits
-    (subst (IsFirst l (first_of (numbers_limits (e ∷ drop (i + 1) es) next d))) before.size (numbers_stops l e (drop (i + 1) es) next d told))
+    (subst (IsFirst l (first_of (numbers_limits (e ∷ drop (i + 1) es) next d))) before.size (exprs_stops l e (drop (i + 1) es) next d told))
 
-pub numbers_end : (es : List Expr) (n d i next : ℕ) → length es ≤ i → NumbersLeft es n d (drop i es) next → (numbers_limits es n d ≡ []) × (next ≡ n + sizes_of es)
-numbers_end es n d i next h left =
+pub exprs_end : (es : List Expr) (n d i next : ℕ) → length es ≤ i → NumbersLeft es n d (drop i es) next → (numbers_limits es n d ≡ []) × (next ≡ n + sizes_of es)
+exprs_end es n d i next h left =
     let done = subst (λ l. NumbersLeft es n d l next) (drop_all i es h) left in
     (sym done.limits, let z = done.size in omega arith)
 

@@ -8,6 +8,7 @@ use Rattle.maple_base.specs.declared.items.Item.TheVariants.{Read, Test as Teste
 use Rattle.maple_base.specs.declared.decision.Decision.TheVariants.{Drop as Dropped}
 use Rattle.maple_base.specs.declared.decision.Outcome.{Outcome}
 use Rattle.maple_base.specs.declared.decision.Outcome.TheVariants.{Decided, Spent}
+use Rattle.maple_base.specs.Assigned.{ip_type, icmp_protocol, tcp_protocol, udp_protocol}
 use Rattle.maple_base.specs.Keys.{field_of, in_domain, has_ports}
 use Rattle.maple_base.specs.Questions.{known, excluded}
 use Rattle.policy_lang.specs.declared.Expr.{Expr}
@@ -42,13 +43,13 @@ abbrev pub Onward : Type 0
 Onward = Bool → List Item → Course
 
 abbrev pub settled_net : Option ℕ → Bool → List Item → Onward → Course
-settled_net (Some v) ruled seen next = next (v == 0x0800) seen
+settled_net (Some v) ruled seen next = next (v == ip_type) seen
 settled_net None true seen next = next false seen
-settled_net None false seen next = Asks DlType (λ v. next (v == 0x0800) (seen ++ Read DlType v ∷ []))
+settled_net None false seen next = Asks DlType (λ v. next (v == ip_type) (seen ++ Read DlType v ∷ []))
 
 -- whether the packet has an IP header: settled by what is known of dl_type, which else is read
 abbrev pub ask_net : List Item → Onward → Course
-ask_net seen next = settled_net (known DlType seen) (excluded DlType 0x0800 seen) seen next
+ask_net seen next = settled_net (known DlType seen) (excluded DlType ip_type seen) seen next
 
 abbrev pub settled_ports : Option ℕ → Bool → List Item → Onward → Course
 settled_ports (Some v) ruled seen next = next (has_ports v) seen
@@ -56,7 +57,7 @@ settled_ports None true seen next = next false seen
 settled_ports None false seen next = Asks NwProto (λ v. next (has_ports v) (seen ++ Read NwProto v ∷ []))
 
 abbrev pub no_ports : List Item → Bool
-no_ports seen = excluded NwProto 1 seen && excluded NwProto 6 seen && excluded NwProto 17 seen
+no_ports seen = excluded NwProto icmp_protocol seen && excluded NwProto tcp_protocol seen && excluded NwProto udp_protocol seen
 
 abbrev pub ask_proto : Onward → Onward
 ask_proto next true seen = settled_ports (known NwProto seen) (no_ports seen) seen next

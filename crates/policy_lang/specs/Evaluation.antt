@@ -18,7 +18,8 @@ use Rattle.policy_lang.specs.declared.Head.TheVariants.{Host, Hop, Lookup, Test}
 use Rattle.policy_lang.specs.declared.Statement.TheOpen.{Statement-F, Block-F, Drop as drop_, Flood as flood, Out as out, Route as route, Let as let_, Assign as assign, If as if_, While as while_}
 use Rattle.policy_lang.specs.declared.Block.{Block, fold-Block}
 use Rattle.policy_lang.specs.declared.Policy.{Policy}
-use Rattle.policy_lang.specs.Values.{Datum, Numeral, Truth, Located, Scope, number_in, truth_in, place_in, place_of_host, port_of_hop, number_in_table, flag_in, named, assigned, is_port, ports_among, sent_out}
+use Rattle.maple_base.specs.Ports.{is_port}
+use Rattle.policy_lang.specs.Values.{Datum, Numeral, Truth, Located, Scope, number_in, truth_in, place_in, place_of_host, port_of_hop, number_in_table, flag_in, named, assigned, ports_among, sent_out}
 
 -- a packet that came to a switch: what the environment has in each cell, the switch's datapath id, and the packet's key
 pub record Arrival : Type 0 where

@@ -1,31 +1,19 @@
 -- What is wrong with a policy: names, types, nesting and the number of its nodes.
 --
 -- Each statement, binding head and expression is a node. Nodes are numbered from 1 in the order of the text; of two nodes that begin with one word the outer one comes first.
-use Rattle.std.specs.Prelude.{◌≡◌, ℕ, zero, suc, ◌+◌, ◌*◌, Bool, true, false, not, ◌&&◌, ◌||◌, ◌==◌, nat_lt, nat_le, if◌then◌else◌, List, [], ◌∷◌, ◌++◌, Option, Some, None, is_some, is_none}
+use Rattle.std.specs.Prelude.{◌≡◌, ℕ, ◌+◌, ◌*◌, Bool, true, false, not, ◌&&◌, ◌||◌, ◌==◌, nat_lt, nat_le, if◌then◌else◌, List, [], ◌∷◌, ◌++◌, Option, Some, None, is_some, is_none}
 use Rattle.std.specs.List.{list_any}
 use Rattle.std.specs.Str.{bytes_eq}
+use Rattle.maple_base.specs.declared.policy_fault.PolicyFault.{PolicyFault}
+use Rattle.maple_base.specs.declared.policy_fault.PolicyFault.TheVariants.{UnknownName, Twice, TypeMismatch, Nesting, Nodes}
+use Rattle.maple_base.specs.PolicyFaults.{number_of}
+use Rattle.maple_base.specs.PolicyLimits.{most_nodes, deepest}
 use Rattle.policy_lang.specs.declared.Expr.{Expr}
 use Rattle.policy_lang.specs.declared.Expr.TheVariants.{Number, Var, SwitchOf, PortOf, PacketSwitch, Packet, Up', At', Is', Not', And', Or', Add', Sub', Equal', NotEqual', Less', LessEqual'}
 use Rattle.policy_lang.specs.declared.Head.{Head}
 use Rattle.policy_lang.specs.declared.Head.TheVariants.{Host, Hop, Lookup, Test}
 use Rattle.policy_lang.specs.declared.Statement.TheOpen.{Statement-F, Block-F, Drop as drop_, Flood as flood, Out as out, Route as route, Let as let_, Assign as assign, If as if_, While as while_}
 use Rattle.policy_lang.specs.declared.Block.{Block, fold-Block}
-
--- the rules that a policy may break
-pub data Rule : Type 0 where
-  UnknownName : Rule
-  Twice : Rule
-  TypeMismatch : Rule
-  Nesting : Rule
-  Nodes : Rule
-
--- the number by which a rule is told
-abbrev pub number_of : Rule → ℕ
-number_of UnknownName = 4
-number_of Twice = 5
-number_of TypeMismatch = 6
-number_of Nesting = 8
-number_of Nodes = 9
 
 -- where a fault lies: at the name of a table; at the first word of a node; at the first word of an expression, with the parentheses round it; at the name that a `let` declares; at the name that a head binds. A node whose first word is that of a part has the part's number beside its own, a head the number of its last node
 pub data Site : Type 0 where
@@ -52,14 +40,14 @@ position (AtDeclared node) = 2 * node + 1
 position (AtBound node last) = 2 * last + 1
 
 pub record Fault : Type 0 where
-  pub rule : Rule
+  pub kind : PolicyFault
   pub site : Site
 
 -- limits are tested ahead of names and types
-abbrev pub is_limit : Rule → Bool
+abbrev pub is_limit : PolicyFault → Bool
 is_limit Nesting = true
 is_limit Nodes = true
-is_limit rule = false
+is_limit kind = false
 
 -- ---- sizes
 
@@ -153,9 +141,9 @@ type_of (LessEqual' p l q r) names = Some TruthType
 
 -- ---- names and types that are wrong
 
-abbrev pub unless_so : Bool → Rule → Site → List Fault
-unless_so true rule site = []
-unless_so false rule site = record { rule = rule; site = site } ∷ []
+abbrev pub unless_so : Bool → PolicyFault → Site → List Fault
+unless_so true kind site = []
+unless_so false kind site = record { kind = kind; site = site } ∷ []
 
 abbrev pub suits : Option Type_ → Type_ → Bool
 suits None wanted = true
@@ -249,7 +237,7 @@ assigned_faults (Some (Variable (Some t))) e names n = operand_faults t e names 
 
 -- a node of this number, first word and depth is more than 32 deep, or is the 4,097th
 abbrev pub limit_faults : ℕ → ℕ → ℕ → List Fault
-limit_faults n first depth = unless_so (nat_le depth 32) Nesting (AtNode n first) ++ unless_so (not (n == 4097)) Nodes (AtNode n first)
+limit_faults n first depth = unless_so (nat_le depth deepest) Nesting (AtNode n first) ++ unless_so (not (n == most_nodes + 1)) Nodes (AtNode n first)
 
 abbrev pub expr_limits : Expr → ℕ → ℕ → List Fault
 expr_limits (Up' p l q r) n depth = limit_faults n n depth ++ expr_limits l (n + 1) (depth + 1) ++ expr_limits r (n + 1 + size_of l) (depth + 1)
@@ -420,14 +408,14 @@ IsWellFormed tables body = policy_faults tables body ≡ []
 -- ---- the first fault
 
 abbrev pub pass_of : Fault → ℕ
-pass_of f = if is_limit f.rule then 0 else 1
+pass_of f = if is_limit f.kind then 0 else 1
 
--- by the pass, the place of the site, the rule's number, and then the node's
+-- by the pass, the place of the site, the kind's number, and then the node's
 abbrev pub is_before_by : (Site → ℕ) → Fault → Fault → Bool
 is_before_by place f g =
     nat_lt (pass_of f) (pass_of g) || (pass_of f == pass_of g
     && (nat_lt (place f.site) (place g.site) || (place f.site == place g.site
-    && (nat_lt (number_of f.rule) (number_of g.rule) || (number_of f.rule == number_of g.rule
+    && (nat_lt (number_of f.kind) (number_of g.kind) || (number_of f.kind == number_of g.kind
     && nat_lt (node_of f.site) (node_of g.site))))))
 
 abbrev pub sooner_by : (Site → ℕ) → Fault → Option Fault → Fault

@@ -10,6 +10,7 @@ use Rattle.maple_base.specs.declared.decision.Outcome.{Outcome}
 use Rattle.maple_base.specs.declared.decision.Outcome.TheVariants.{Decided}
 use Rattle.maple_base.specs.Keys.{valid_key}
 use Rattle.maple_base.specs.Questions.{meets, clash, within_domain, asks_once}
+use Rattle.maple_base.specs.PolicyLimits.{most_nodes}
 use Rattle.policy_lang.specs.declared.Block.{Block}
 use Rattle.policy_lang.specs.declared.Policy.{Policy}
 use Rattle.policy_lang.specs.Faults.{checked, IsWellFormed}
@@ -73,4 +74,4 @@ ReadsNothingElse =
 
 -- a well formed body has at most 4,096 nodes
 abbrev pub FewNodes : Type 0
-FewNodes = (tables : List (List ℕ)) (body : Block) → IsWellFormed tables body → (checked body).size ≤ 4096
+FewNodes = (tables : List (List ℕ)) (body : Block) → IsWellFormed tables body → (checked body).size ≤ most_nodes

@@ -13,7 +13,8 @@ use Rattle.policy_lang.specs.declared.Head.TheVariants.{Host, Hop, Lookup, Test}
 use Rattle.policy_lang.specs.declared.Statement.TheOpen.{Statement-F, Block-F, Drop as drop_, Flood as flood, Out as out, Route as route, Let as let_, Assign as assign, If as if_, While as while_}
 use Rattle.policy_lang.specs.declared.Block.{Block, fold-Block}
 use Rattle.policy_lang.specs.declared.Policy.{Policy}
-use Rattle.policy_lang.specs.Values.{Datum, Scope, number_in, truth_in, place_in, is_port}
+use Rattle.maple_base.specs.Ports.{is_port}
+use Rattle.policy_lang.specs.Values.{Datum, Scope, number_in, truth_in, place_in}
 use Rattle.policy_lang.specs.Evaluation.{Arrival, Given, Running, Ending, Spends, Decides, Goes, Held, Unasked, Fails, Holds, value_of, head_of, by_truth, by_statement, and_then, leaving}
 
 -- the cells that are read behind an expression that gave something

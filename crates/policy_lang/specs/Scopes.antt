@@ -1,5 +1,6 @@
 -- What the names in force stand for, as they are kept.
 use Rattle.std.specs.Prelude.{ℕ, List, [], ◌∷◌, Option, Some, None}
+use Rattle.policy_lang.specs.declared.names.Scope.{Scope}
 use Rattle.policy_lang.specs.declared.names.ValueType.{ValueType as Kept}
 use Rattle.policy_lang.specs.declared.names.ValueType.TheVariants as types
 use Rattle.policy_lang.specs.declared.names.Meaning.{Meaning as KeptMeaning}
@@ -27,3 +28,7 @@ meaning_known (Some m) = Some (meaning_of_value m)
 abbrev pub in_force : List (List ℕ × KeptMeaning) → Names
 in_force [] = []
 in_force (e ∷ es) = (e.0, meaning_of_value e.1) ∷ in_force es
+
+-- the names in force of a scope
+abbrev pub names_of : Scope → Names
+names_of scope = in_force scope.names.entries

@@ -1,6 +1,7 @@
 -- What expressions give, what names stand for, and which ports an `out` names.
-use Rattle.std.specs.Prelude.{ℕ, Bool, false, not, ◌&&◌, ◌==◌, nat_le, filter, if◌then◌else◌, List, [], ◌∷◌, Option, Some, None}
+use Rattle.std.specs.Prelude.{ℕ, Bool, false, not, ◌==◌, filter, if◌then◌else◌, List, [], ◌∷◌, Option, Some, None}
 use Rattle.std.specs.Str.{bytes_eq}
+use Rattle.maple_base.specs.Ports.{is_port}
 use Rattle.maple_base.specs.declared.cells.Place.{Place}
 use Rattle.maple_base.specs.declared.cells.Value.{Value}
 use Rattle.maple_base.specs.declared.cells.Value.TheVariants.{At, Number as Counted, Flag}
@@ -61,10 +62,6 @@ named x ((y, d) ∷ scope) = if bytes_eq y x then d else named x scope
 abbrev pub assigned : List ℕ → Datum → Scope → Scope
 assigned x d [] = []
 assigned x d ((y, e) ∷ scope) = if bytes_eq y x then (y, d) ∷ scope else (y, e) ∷ assigned x d scope
-
--- a port that packets leave by (OpenFlow Switch Specification 1.0.0, 5.2.1: physical ports)
-abbrev pub is_port : ℕ → Bool
-is_port n = nat_le 1 n && nat_le n 65280
 
 -- the ports among these numbers, without repeats
 abbrev pub ports_among : List ℕ → List ℕ

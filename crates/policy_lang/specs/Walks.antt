@@ -1,18 +1,9 @@
 -- What the values of the walks stand for.
-use Rattle.std.specs.Prelude.{ℕ, List, Option, Some, None}
-use Rattle.policy_lang.specs.declared.faults.Rule.{Rule as CodeRule}
-use Rattle.policy_lang.specs.declared.faults.Rule.TheVariants as rules
+use Rattle.std.specs.Prelude.{ℕ, Option, Some, None}
 use Rattle.policy_lang.specs.declared.faults.Site.{Site as CodeSite}
 use Rattle.policy_lang.specs.declared.faults.Site.TheVariants as sites
 use Rattle.policy_lang.specs.declared.faults.Fault.{Fault as CodeFault}
-use Rattle.policy_lang.specs.Faults.{Rule, UnknownName, Twice, TypeMismatch, Nesting, Nodes, Site, AtTable, AtNode, AtWhole, AtDeclared, AtBound, Fault, position, sooner_by}
-
-abbrev pub rule_of : CodeRule → Rule
-rule_of rules.UnknownName = UnknownName
-rule_of rules.Twice = Twice
-rule_of rules.TypeMismatch = TypeMismatch
-rule_of rules.Nesting = Nesting
-rule_of rules.Nodes = Nodes
+use Rattle.policy_lang.specs.Faults.{Site, AtTable, AtNode, AtWhole, AtDeclared, AtBound, Fault, position, sooner_by}
 
 abbrev pub site_of : CodeSite → Site
 site_of sites.AtTable = AtTable
@@ -22,7 +13,7 @@ site_of (sites.AtDeclared n) = AtDeclared n
 site_of (sites.AtBound n last) = AtBound n last
 
 abbrev pub fault_of : CodeFault → Fault
-fault_of f = record { rule = rule_of f.rule; site = site_of f.site }
+fault_of f = record { kind = f.kind; site = site_of f.site }
 
 abbrev pub told : Option CodeFault → Option Fault
 told None = None

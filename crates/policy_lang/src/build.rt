@@ -1,12 +1,13 @@
 // Policies that are well formed.
 ghost use Rattle.std.specs.Prelude.{◌≡◌, ◌≤◌, [], length, IfOk, OnOk, IfErr};
+ghost use Rattle.maple_base.specs.PolicyLimits.{most_tables};
 ghost use Rattle.policy_lang.specs.declared.build.BuildError.TheVariants.{NoMemory as no_memory};
 ghost use Rattle.policy_lang.specs.Built.{IsErrorOf};
 ghost use Rattle.policy_lang.specs.Faults.{IsWellFormed, checked};
 
 use crate::limits::walk_body;
 use crate::name_fault::first_name_fault;
-use crate::places::TreeOrder;
+use crate::site_order::TreeOrder;
 use crate::{Block, Policy};
 use maple_base::{Name, Names, NoMemory};
 use std::alloc::Global;
@@ -15,7 +16,7 @@ use std::alloc::Global;
 #[derive(Clone, Copy, Debug, PartialEq, Eq)]
 pub enum BuildError {
     /// The first fault: the node, by its number in the order of the text from 1, or 0 for a table
-    /// that is named twice; and the rule that it breaks: 4 an unknown name, 5 a name declared while
+    /// that is named twice; and the number of its kind: 4 an unknown name, 5 a name declared while
     /// it is in force, 6 a type that is not the one that is wanted, 8 a node more than 32 deep, 9
     /// the 4,097th node.
     Fault { node: u32, kind: u8 },
@@ -45,7 +46,7 @@ impl Policy {
         learning: bool,
         body: Block,
     ) -> Result<Policy, BuildError>
-        requires { length tables.items ≤ 16 }
+        requires { length tables.items ≤ most_tables }
         ensures tables { IfOk result (λ policy. policy.tables ≡ tables.items) }
         ensures learning { IfOk result (λ policy. policy.learning ≡ learning) }
         ensures body { IfOk result (λ policy. policy.body ≡ body) }
@@ -68,7 +69,7 @@ fn check_parts(alloc: Global, tables: &[Name], body: &Block) -> Result<(), Build
         Ok(_) => check_names(alloc, tables, body),
         Err(limit) => Err(BuildError::Fault {
             node: limit.node,
-            kind: limit.rule.number(),
+            kind: limit.kind.number(),
         }),
     }
 }
@@ -84,7 +85,7 @@ fn check_names(alloc: Global, tables: &[Name], body: &Block) -> Result<(), Build
         None => Ok(()),
         Some(fault) => Err(BuildError::Fault {
             node: fault.site.node(),
-            kind: fault.rule.number(),
+            kind: fault.kind.number(),
         }),
     }
 }

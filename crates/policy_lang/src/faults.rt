@@ -1,24 +1,10 @@
 // What may be wrong with a policy, and which of two faults comes first.
 ghost use Rattle.std.specs.Prelude.{◌≡◌, if◌then◌else◌};
-ghost use Rattle.policy_lang.specs.Faults.{number_of, is_limit, node_of, is_before_by, pass_of};
-ghost use Rattle.policy_lang.specs.Walks.{rule_of, site_of, fault_of, told, merged_by};
+ghost use Rattle.policy_lang.specs.Faults.{is_limit, node_of, is_before_by, pass_of};
+ghost use Rattle.policy_lang.specs.Walks.{site_of, fault_of, told, merged_by};
 
-use crate::places::Places;
-
-/// A rule that a policy may break.
-#[derive(Clone, Copy)]
-pub enum Rule {
-    /// A name is not in force.
-    UnknownName,
-    /// A name is declared while it is in force.
-    Twice,
-    /// An expression or a name has another type than is wanted.
-    TypeMismatch,
-    /// A node is more than 32 deep.
-    Nesting,
-    /// A node is the 4,097th.
-    Nodes,
-}
+use crate::site_order::SiteOrder;
+use maple_base::PolicyFault;
 
 /// Where a fault lies. Nodes are numbered from 1 in the order of the text.
 #[derive(Clone, Copy)]
@@ -35,36 +21,27 @@ pub enum Site {
     AtBound(u32, u32),
 }
 
-/// A rule that is broken, and where.
+/// What is wrong, and where.
 #[derive(Clone, Copy)]
 pub struct Fault {
-    pub rule: Rule,
+    pub kind: PolicyFault,
     pub site: Site,
 }
 
-impl Rule {
-    /// The number by which the rule is told: 4, 5, 6, 8 and 9.
-    pub fn number(self) -> u8
-        ensures { result ≡ number_of (rule_of self) }
-    {
-        match self {
-            Rule::UnknownName => 4,
-            Rule::Twice => 5,
-            Rule::TypeMismatch => 6,
-            Rule::Nesting => 8,
-            Rule::Nodes => 9,
-        }
+// Limits are tested ahead of names and types.
+fn is_limit(kind: PolicyFault) -> bool
+    ensures { result ≡ is_limit kind }
+{
+    match kind {
+        PolicyFault::Nesting | PolicyFault::Nodes => true,
+        _ => false,
     }
+}
 
-    // Limits are tested ahead of names and types.
-    fn pass(self) -> u8
-        ensures { result ≡ (if is_limit (rule_of self) then 0 else 1) }
-    {
-        match self {
-            Rule::UnknownName | Rule::Twice | Rule::TypeMismatch => 1,
-            Rule::Nesting | Rule::Nodes => 0,
-        }
-    }
+fn pass(kind: PolicyFault) -> u8
+    ensures { result ≡ (if is_limit kind then 0 else 1) }
+{
+    if is_limit(kind) { 0 } else { 1 }
 }
 
 impl Site {
@@ -83,19 +60,19 @@ impl Site {
 }
 
 impl Fault {
-    fn is_before<P: Places>(self, other: Fault, places: &P) -> bool
-        ensures { result ≡ is_before_by (P.place_of places.now) (fault_of self) (fault_of other) }
+    fn is_before<P: SiteOrder>(self, other: Fault, order: &P) -> bool
+        ensures { result ≡ is_before_by (P.place_of order.now) (fault_of self) (fault_of other) }
     {
         let key = (
-            self.rule.pass(),
-            places.place(self.site),
-            self.rule.number(),
+            pass(self.kind),
+            order.index(self.site),
+            self.kind.number(),
             self.site.node(),
         );
         let other_key = (
-            other.rule.pass(),
-            places.place(other.site),
-            other.rule.number(),
+            pass(other.kind),
+            order.index(other.site),
+            other.kind.number(),
             other.site.node(),
         );
         key < other_key
@@ -103,16 +80,16 @@ impl Fault {
 }
 
 // The first of two faults; of two that neither is before the other, the first given.
-pub(crate) fn earlier<P: Places>(
+pub(crate) fn earlier<P: SiteOrder>(
     fault: Option<Fault>,
     other: Option<Fault>,
-    places: &P,
+    order: &P,
 ) -> Option<Fault>
-    ensures { told result ≡ merged_by (P.place_of places.now) (told fault) (told other) }
+    ensures { told result ≡ merged_by (P.place_of order.now) (told fault) (told other) }
 {
     match (fault, other) {
         (Some(fault), Some(other)) => {
-            if other.is_before(fault, places) {
+            if other.is_before(fault, order) {
                 Some(other)
             } else {
                 Some(fault)

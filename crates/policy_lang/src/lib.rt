@@ -2,6 +2,7 @@
 #![tactic(auto)]
 
 ghost use Rattle.std.specs.Prelude.{◌≡◌, ◌≤◌, List, length};
+ghost use Rattle.maple_base.specs.PolicyLimits.{most_tables};
 ghost use Rattle.policy_lang.specs.Blocks.{statements_of, IsOutList};
 ghost use Rattle.policy_lang.specs.Faults.{IsWellFormed};
 
@@ -11,17 +12,16 @@ pub mod laws;
 mod limits;
 pub mod name_fault;
 mod names;
-pub mod places;
 pub mod plain;
-#[cfg(test)]
-mod tests;
+pub mod site_order;
 mod types;
 
 pub use build::BuildError;
-pub use faults::{Fault, Rule, Site};
+pub use faults::{Fault, Site};
+pub use maple_base::PolicyFault;
 use maple_base::{Field, Name, Names};
 pub use name_fault::first_name_fault;
-pub use places::{Places, TreeOrder};
+pub use site_order::{SiteOrder, TreeOrder};
 use std::marker::Model;
 
 /// An expression. It gives a number, a truth or a place.
@@ -124,6 +124,7 @@ impl Model for Exprs {
 
     ghost view = { λ a. a.list.items };
 
+    ghost use Rattle.maple_base.specs.PolicyLimits.{most_tables};
     ghost use Rattle.policy_lang.specs.Blocks.{IsOutList};
 
     ghost invariant = { λ a. IsOutList a.list.items };
@@ -170,14 +171,14 @@ pub struct Policy {
     tables: Names,
     learning: bool,
     body: Block,
-    ghost few: { length tables ≤ 16 },
+    ghost few: { length tables ≤ most_tables },
     ghost formed: { IsWellFormed tables body },
 }
 
 impl Policy {
     // A policy of at most 16 tables and of parts that are well formed.
     pub(crate) fn new(tables: Names, learning: bool, body: Block) -> Policy
-        requires few { length tables ≤ 16 }
+        requires few { length tables ≤ most_tables }
         requires formed { IsWellFormed tables body }
         ensures tables { result.tables ≡ tables }
         ensures learning { result.learning ≡ learning }
@@ -193,7 +194,7 @@ impl Policy {
     /// The names of its tables, at most 16, in the order in which they are declared.
     pub fn tables(&self) -> &Names
         ensures tables { result.now ≡ self.now.tables }
-        ensures few { length self.now.tables ≤ 16 }
+        ensures few { length self.now.tables ≤ most_tables }
     {
         &self.tables
     }

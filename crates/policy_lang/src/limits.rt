@@ -1,29 +1,25 @@
 // Nodes that are nested too deep, and the node that is one too many.
 ghost use Rattle.std.specs.Prelude.{◌≡◌, ◌+◌, ◌≤◌, ◌++◌, map};
 ghost use Rattle.std.specs.Option.{option_map};
+ghost use Rattle.maple_base.specs.PolicyLimits.{most_nodes, deepest};
 ghost use Rattle.policy_lang.specs.Faults.{size_of, sizes_of, size_of_head, limit_faults, expr_limits, numbers_limits, head_limits, limits_otherwise, size_otherwise, limits_in, sizes_in, checked};
-ghost use Rattle.policy_lang.specs.Limits.{IsBegun, IsWalked, deep_word, statement_checked};
+ghost use Rattle.policy_lang.specs.Limits.{IsBegun, IsWalked, AreTwoWalked, IsIfWalked, IsWhileWalked, deep_word, statement_checked};
 
-use crate::faults::Rule;
 use crate::{Block, Expr, Head, Statement};
-
-/// How deep a node may be.
-const DEEPEST: u32 = 32;
-
-/// How many nodes a policy may have.
-const MOST_NODES: u32 = 4096;
+use maple_base::PolicyFault;
+use maple_base::policy_limit::{DEEPEST, MOST_NODES};
 
 /// The first node that passes a limit, and the limit.
 #[derive(Clone, Copy)]
 pub struct Limit {
-    pub rule: Rule,
+    pub kind: PolicyFault,
     pub node: u32,
 }
 
 // The first node that is nested too deep among those that begin with an expression's first word.
 fn deep_word(expr: &Expr, node: u32, depth: u32) -> Option<u32>
-    requires numbered { node ≤ 4097 + depth }
-    requires nested { depth ≤ 33 }
+    requires numbered { node ≤ most_nodes + 1 + depth }
+    requires nested { depth ≤ deepest + 1 }
     ensures { result ≡ deep_word expr.now node depth }
 {
     if depth > DEEPEST {
@@ -44,18 +40,18 @@ fn deep_word(expr: &Expr, node: u32, depth: u32) -> Option<u32>
 
 // The number behind a node whose first word is its own.
 fn walk_node(node: u32, depth: u32) -> Result<u32, Limit>
-    requires numbered { node ≤ 4097 }
-    requires nested { depth ≤ 33 }
+    requires numbered { node ≤ most_nodes + 1 }
+    requires nested { depth ≤ deepest + 1 }
     ensures { IsBegun result (limit_faults node node depth) (node + 1) node depth }
 {
     if depth > DEEPEST {
         Err(Limit {
-            rule: Rule::Nesting,
+            kind: PolicyFault::Nesting,
             node,
         })
     } else if node > MOST_NODES {
         Err(Limit {
-            rule: Rule::Nodes,
+            kind: PolicyFault::Nodes,
             node,
         })
     } else {
@@ -67,8 +63,8 @@ fn walk_node(node: u32, depth: u32) -> Result<u32, Limit>
 // is nested too deep decides over the one that is too many.
 #[tactic(auto, using(crate::proofs::FirstWord::nesting_told, crate::proofs::FirstWord::nodes_told))]
 fn walk_first(expr: &Expr, node: u32, depth: u32) -> Result<u32, Limit>
-    requires numbered { node ≤ 4097 }
-    requires nested { depth ≤ 33 }
+    requires numbered { node ≤ most_nodes + 1 }
+    requires nested { depth ≤ deepest + 1 }
     ensures { IsBegun result (expr_limits expr.now node depth) (node + size_of expr.now) node depth }
 {
     if node <= MOST_NODES && depth <= DEEPEST {
@@ -76,11 +72,11 @@ fn walk_first(expr: &Expr, node: u32, depth: u32) -> Result<u32, Limit>
     }
     match deep_word(expr, node, depth) {
         Some(node) => Err(Limit {
-            rule: Rule::Nesting,
+            kind: PolicyFault::Nesting,
             node,
         }),
         None => Err(Limit {
-            rule: Rule::Nodes,
+            kind: PolicyFault::Nodes,
             node,
         }),
     }
@@ -88,8 +84,8 @@ fn walk_first(expr: &Expr, node: u32, depth: u32) -> Result<u32, Limit>
 
 #[cycle(exprs)]
 fn walk_expr(expr: &Expr, node: u32, depth: u32) -> Result<u32, Limit>
-    requires numbered { node ≤ 4097 }
-    requires nested { depth ≤ 33 }
+    requires numbered { node ≤ most_nodes + 1 }
+    requires nested { depth ≤ deepest + 1 }
     ensures { IsWalked result (expr_limits expr.now node depth) (node + size_of expr.now) }
 {
     let next = walk_first(expr, node, depth)?;
@@ -112,18 +108,18 @@ fn walk_expr(expr: &Expr, node: u32, depth: u32) -> Result<u32, Limit>
 #[cycle(exprs)]
 #[tactic(auto, using(crate::proofs::Walked::expr_stops))]
 fn walk_two(left: &Expr, right: &Expr, node: u32, depth: u32) -> Result<u32, Limit>
-    requires numbered { node ≤ 4097 }
-    requires nested { depth ≤ 33 }
-    ensures { IsWalked result (expr_limits left.now node depth ++ expr_limits right.now (node + size_of left.now) depth) (node + size_of left.now + size_of right.now) }
+    requires numbered { node ≤ most_nodes + 1 }
+    requires nested { depth ≤ deepest + 1 }
+    ensures { AreTwoWalked result left.now right.now node depth }
 {
     let next = walk_expr(left, node, depth)?;
     walk_expr(right, next, depth)
 }
 
-#[tactic(auto, using(crate::proofs::Walked::numbers_begin, crate::proofs::Walked::numbers_go_on, crate::proofs::Walked::numbers_stop, crate::proofs::Walked::numbers_end))]
+#[tactic(auto, using(crate::proofs::Walked::exprs_begin, crate::proofs::Walked::exprs_on, crate::proofs::Walked::exprs_stop, crate::proofs::Walked::exprs_end))]
 fn walk_numbers(exprs: &[Expr], node: u32, depth: u32) -> Result<u32, Limit>
-    requires numbered { node ≤ 4097 }
-    requires nested { depth ≤ 33 }
+    requires numbered { node ≤ most_nodes + 1 }
+    requires nested { depth ≤ deepest + 1 }
     ensures { IsWalked result (numbers_limits exprs.now node depth) (node + sizes_of exprs.now) }
 {
     let mut next = node;
@@ -135,8 +131,8 @@ fn walk_numbers(exprs: &[Expr], node: u32, depth: u32) -> Result<u32, Limit>
 
 #[tactic(auto, using(crate::proofs::Walked::expr_stops))]
 fn walk_head(head: &Head, node: u32, depth: u32) -> Result<u32, Limit>
-    requires numbered { node ≤ 4097 }
-    requires nested { depth ≤ 33 }
+    requires numbered { node ≤ most_nodes + 1 }
+    requires nested { depth ≤ deepest + 1 }
     ensures { IsWalked result (head_limits head.now node depth) (node + size_of_head head.now) }
 {
     match head {
@@ -151,8 +147,8 @@ fn walk_head(head: &Head, node: u32, depth: u32) -> Result<u32, Limit>
 #[cycle(limits)]
 #[tactic(auto, using(crate::proofs::Walked::own_stops))]
 fn walk_statement(statement: &Statement, node: u32, depth: u32) -> Result<u32, Limit>
-    requires numbered { node ≤ 4097 }
-    requires nested { depth ≤ 33 }
+    requires numbered { node ≤ most_nodes + 1 }
+    requires nested { depth ≤ deepest + 1 }
     ensures { IsWalked result ((statement_checked statement.now).limits node depth) (node + (statement_checked statement.now).size) }
 {
     let next = walk_node(node, depth)?;
@@ -176,9 +172,9 @@ fn walk_if(
     node: u32,
     depth: u32,
 ) -> Result<u32, Limit>
-    requires numbered { node ≤ 4097 }
-    requires nested { depth ≤ 33 }
-    ensures { IsWalked result (head_limits head.now node depth ++ (checked block.now).limits (node + size_of_head head.now) depth ++ limits_otherwise (option_map checked other.now) (node + size_of_head head.now + (checked block.now).size) depth) (node + size_of_head head.now + (checked block.now).size + size_otherwise (option_map checked other.now)) }
+    requires numbered { node ≤ most_nodes + 1 }
+    requires nested { depth ≤ deepest + 1 }
+    ensures { IsIfWalked result head.now block.now other.now node depth }
 {
     let next = walk_head(head, node, depth)?;
     let next = walk_block(block.items(), next, depth)?;
@@ -188,9 +184,9 @@ fn walk_if(
 #[cycle(limits)]
 #[tactic(auto, using(crate::proofs::Walked::block_stops))]
 fn walk_while(expr: &Expr, block: &Block, node: u32, depth: u32) -> Result<u32, Limit>
-    requires numbered { node ≤ 4097 }
-    requires nested { depth ≤ 33 }
-    ensures { IsWalked result (expr_limits expr.now node depth ++ (checked block.now).limits (node + size_of expr.now) depth) (node + size_of expr.now + (checked block.now).size) }
+    requires numbered { node ≤ most_nodes + 1 }
+    requires nested { depth ≤ deepest + 1 }
+    ensures { IsWhileWalked result expr.now block.now node depth }
 {
     let next = walk_expr(expr, node, depth)?;
     walk_block(block.items(), next, depth)
@@ -198,8 +194,8 @@ fn walk_while(expr: &Expr, block: &Block, node: u32, depth: u32) -> Result<u32, 
 
 #[cycle(limits)]
 fn walk_other(other: &Option<Block>, node: u32, depth: u32) -> Result<u32, Limit>
-    requires numbered { node ≤ 4097 }
-    requires nested { depth ≤ 33 }
+    requires numbered { node ≤ most_nodes + 1 }
+    requires nested { depth ≤ deepest + 1 }
     ensures { IsWalked result (limits_otherwise (option_map checked other.now) node depth) (node + size_otherwise (option_map checked other.now)) }
 {
     match other {
@@ -211,8 +207,8 @@ fn walk_other(other: &Option<Block>, node: u32, depth: u32) -> Result<u32, Limit
 #[cycle(limits)]
 #[tactic(auto, using(crate::proofs::Walked::all_begin, crate::proofs::Walked::all_go_on, crate::proofs::Walked::all_stop, crate::proofs::Walked::all_end, crate::proofs::Walked::one_within))]
 fn walk_block(statements: &[Statement], node: u32, depth: u32) -> Result<u32, Limit>
-    requires numbered { node ≤ 4097 }
-    requires nested { depth ≤ 33 }
+    requires numbered { node ≤ most_nodes + 1 }
+    requires nested { depth ≤ deepest + 1 }
     ensures { IsWalked result (limits_in (map statement_checked statements.now) node depth) (node + sizes_in (map statement_checked statements.now)) }
 {
     let mut next = node;

@@ -2,7 +2,7 @@
 ghost use Rattle.std.specs.Prelude.{◌≡◌, length, take, IfOk, OnOk};
 ghost use Rattle.std.specs.Str.{bytes_eq};
 ghost use Rattle.policy_lang.specs.Faults.{suits, same_type, meaning_of, with_name, table_names};
-ghost use Rattle.policy_lang.specs.Scopes.{type_of_value, type_known, meaning_of_value, meaning_known, in_force};
+ghost use Rattle.policy_lang.specs.Scopes.{type_of_value, type_known, meaning_of_value, meaning_known, names_of};
 
 use indexmap::IndexMap;
 use maple_base::{Name, NoMemory};
@@ -63,7 +63,7 @@ pub fn is_same(name: &Name, other: &Name) -> bool
 impl Scope {
     /// The tables of a policy.
     pub fn of_tables(alloc: Global, tables: &[Name]) -> Result<Scope, NoMemory>
-        ensures { IfOk result (λ scope. in_force scope.names.entries ≡ table_names tables.now) }
+        ensures { IfOk result (λ scope. names_of scope ≡ table_names tables.now) }
     {
         let mut scope = Scope {
             names: IndexMap::new(alloc),
@@ -76,14 +76,14 @@ impl Scope {
 
     /// What a name stands for, if it is in force.
     pub fn meaning(&self, name: &Name) -> Option<Meaning>
-        ensures { meaning_known result ≡ meaning_of name.now (in_force self.now.names.entries) }
+        ensures { meaning_known result ≡ meaning_of name.now (names_of self.now) }
     {
         self.names.get(name).copied()
     }
 
     /// Declares a name, unless it is in force.
     pub fn declare(&mut self, name: &Name, meaning: Meaning) -> Result<(), NoMemory>
-        ensures { OnOk result (in_force self.new.names.entries ≡ with_name name.now (meaning_of_value meaning) (in_force self.old.names.entries)) }
+        ensures { OnOk result (names_of self.new ≡ with_name name.now (meaning_of_value meaning) (names_of self.old)) }
     {
         if !self.names.contains_key(name) {
             self.names.insert(*name, meaning)?;
@@ -94,7 +94,7 @@ impl Scope {
     #[tactic(auto, using(crate::proofs::Scopes::length_in_force))]
     /// How many names are in force.
     pub fn len(&self) -> usize
-        ensures { result ≡ length (in_force self.now.names.entries) }
+        ensures { result ≡ length (names_of self.now) }
     {
         self.names.len()
     }
@@ -102,7 +102,7 @@ impl Scope {
     #[tactic(auto, using(crate::proofs::Scopes::in_force_front))]
     /// Only so many names stay in force, those that were declared first.
     pub fn leave(&mut self, count: usize)
-        ensures { in_force self.new.names.entries ≡ take count (in_force self.old.names.entries) }
+        ensures { names_of self.new ≡ take count (names_of self.old) }
     {
         self.names.truncate(count);
     }

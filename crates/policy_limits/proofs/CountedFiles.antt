@@ -4,7 +4,7 @@ use Rattle.policy_tokens.specs.declared.token.Token.{Token}
 use Rattle.policy_tokens.specs.declared.token.Token.TheVariants.{Keyword as keyword, Sign as sign}
 use Rattle.policy_tokens.specs.declared.token.Keyword.TheVariants as word
 use Rattle.policy_tokens.specs.declared.token.Sign.TheVariants as mark
-use Rattle.policy_grammar.specs.declared.place.Place.TheVariants as at
+use Rattle.policy_grammar.specs.declared.stage.Stage.TheVariants as at
 use Rattle.policy_grammar.specs.Grammar.{in_braces, statements_tokens, AreStatements, File, tables_tokens, learning_tokens, file_tokens}
 use Rattle.policy_grammar.specs.Automaton.{start}
 use Rattle.policy_grammar.proofs.Statements.{standing}

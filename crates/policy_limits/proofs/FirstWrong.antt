@@ -3,7 +3,7 @@ use Rattle.std.proofs.Common.{◌≡◌, ℕ, suc, ◌<◌, ◌≤◌, List, ◌
 use Rattle.std.proofs.Math.Seq.{take-length}
 use Rattle.std.specs.Option.{option_and_then}
 use Rattle.policy_tokens.specs.declared.token.Token.{Token}
-use Rattle.policy_grammar.specs.declared.place.Place.TheVariants as at
+use Rattle.policy_grammar.specs.declared.stage.Stage.TheVariants as at
 use Rattle.policy_grammar.specs.Grammar.{IsText, Begins}
 use Rattle.policy_grammar.specs.Automaton.{State, run, start, end}
 use Rattle.policy_grammar.proofs.Runs.{run_append}
@@ -30,14 +30,14 @@ begins_not ts h b =
 pub text_read : (ts : List Token) → IsText ts → run start ts ≡ Some end
 text_read ts t = ap (run start) t.same ∙ complete t.file t.body
 
-pub text_not : (ts : List Token) (s : State) → run start ts ≡ Some s → ¬ (s.place ≡ at.End) → ¬ (IsText ts)
+pub text_not : (ts : List Token) (s : State) → run start ts ≡ Some s → ¬ (s.stage ≡ at.End) → ¬ (IsText ts)
 text_not ts s h away t =
     let e : Some s ≡ Some end = sym h ∙ text_read ts t in
     let same : s ≡ end = cc in
-    away (ap (λ (x : State). x.place) same)
+    away (ap (λ (x : State). x.stage) same)
 
 pub first_wrong : (tokens : List Token) (i : ℕ) (s : State) → i ≤ length tokens → run start (take i tokens) ≡ Some s
-    → (i < length tokens → run start (take (suc i) tokens) ≡ None) → (i ≡ length tokens → ¬ (s.place ≡ at.End)) → IsFirstWrong tokens i
+    → (i < length tokens → run start (take (suc i) tokens) ≡ None) → (i ≡ length tokens → ¬ (s.stage ≡ at.End)) → IsFirstWrong tokens i
 first_wrong tokens i s le h next whole =
     record {
       within = le;

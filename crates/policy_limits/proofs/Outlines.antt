@@ -1,5 +1,5 @@
 -- What is read and counted tells what is wrong with tokens.
-use Rattle.std.proofs.Common.{◌≡◌, ℕ, suc, ◌+◌, ◌<◌, ◌⊎◌, true, false, List, ◌++◌, length, take, Option, Some, None, refl, sym, ap, subst, ◌∙◌, arith, inl, inr}
+use Rattle.std.proofs.Common.{◌≡◌, ℕ, suc, ◌+◌, ◌<◌, true, false, List, ◌++◌, length, take, Option, Some, None, sym, ap, subst, ◌∙◌, arith, inl, inr}
 use Rattle.std.specs.Option.{option_and_then}
 use Rattle.std.proofs.lemmas.Bool.{false≢true}
 use Rattle.std.proofs.lemmas.List.{length-take-le}
@@ -13,16 +13,16 @@ use Rattle.policy_grammar.proofs.Sound.{sound}
 use Rattle.policy_grammar.proofs.Finishing.{finishes_plainly}
 use Rattle.policy_grammar.proofs.Traces.{traced}
 use Rattle.policy_grammar.proofs.Progress.{stops_behind}
-use Rattle.policy_limits.specs.declared.fault.FaultKind.{FaultKind}
-use Rattle.policy_limits.specs.declared.fault.FaultKind.TheVariants.{Syntax, Nesting, Nodes, TooLong}
+use Rattle.maple_base.specs.declared.policy_fault.PolicyFault.{PolicyFault}
+use Rattle.maple_base.specs.declared.policy_fault.PolicyFault.TheVariants.{Syntax, Nesting, Nodes, TooLong}
 use Rattle.policy_limits.specs.Counts.{Count, file_counts}
 use Rattle.policy_limits.specs.Counting.{Counter, nothing_counted, counted_from}
-use Rattle.policy_limits.specs.Limits.{Passed, first_passed, first_limit, IsFirstWrong, IsBegunBy, PassesWhole, PassesAhead, IsFault, IsOutline}
+use Rattle.policy_limits.specs.Limits.{Passed, first_passed, first_limit, IsFirstWrong, IsBegunBy, PassesLimit, IsFault, IsOutline}
 use Rattle.policy_limits.proofs.FirstWrong.{first_wrong}
 use Rattle.policy_limits.proofs.Growing.{Onto}
 use Rattle.policy_limits.proofs.Moving.{from_onto, from_count, from_append}
 use Rattle.policy_limits.proofs.CountedFiles.{file_counted}
-use Rattle.policy_limits.proofs.Passing.{passed_within, passed_limit, passed_each, passed_same, passed_none}
+use Rattle.policy_limits.proofs.Passing.{is_limit, passed_within, passed_limit, passed_each, passed_same, passed_none}
 
 abbrev pub counts_of : List Token → List Count
 counts_of ts = (counted_from start nothing_counted ts).counts
@@ -61,14 +61,11 @@ finished ts s h =
 
 -- ---- faults
 
-limit_fault : (tokens : List Token) (i : ℕ) (k : FaultKind) → ¬ (k ≡ Syntax) → PassesWhole tokens i k ⊎ PassesAhead tokens i k → IsFault tokens i k
-limit_fault tokens i Syntax h p = absurd (h refl)
+limit_fault : (tokens : List Token) (i : ℕ) (k : PolicyFault) → is_limit k ≡ true → PassesLimit tokens i k → IsFault tokens i k
 limit_fault tokens i Nesting h p = p
 limit_fault tokens i Nodes h p = p
 limit_fault tokens i TooLong h p = p
-
-no_syntax : (ts : List Token) (j : ℕ) (k : FaultKind) → first_passed 0 0 0 (counts_of ts) ≡ Some (j, k) → ¬ (k ≡ Syntax)
-no_syntax ts j k h e = passed_limit (counts_of ts) 0 0 0 j (h ∙ ap (λ l. Some (j, l)) e)
+limit_fault tokens i k h p = absurd (false≢true h)
 
 no_next : (tokens : List Token) (i : ℕ) → StopsAt tokens i → i < length tokens → run start (take (suc i) tokens) ≡ None
 no_next tokens i h lt =
@@ -84,12 +81,12 @@ counts_length tokens i h =
     omega (arith, e, length-take-le i tokens h.within)
 
 -- a limit is passed ahead of the wrong token
-ahead_fault : (tokens : List Token) (i j : ℕ) (k : FaultKind) → StopsAt tokens i → first_passed 0 0 0 (counts_of (take i tokens)) ≡ Some (j, k) → IsFault tokens j k
+ahead_fault : (tokens : List Token) (i j : ℕ) (k : PolicyFault) → StopsAt tokens i → first_passed 0 0 0 (counts_of (take i tokens)) ≡ Some (j, k) → IsFault tokens j k
 ahead_fault tokens i j k h e =
     let ts = take i tokens in
     let f = finished ts h.state h.run in
     let lt = (passed_within (counts_of ts) 0 0 0 j k e).1 in
-    limit_fault tokens j k (no_syntax ts j k e)
+    limit_fault tokens j k (passed_limit (counts_of ts) 0 0 0 j k e)
     (inr (record {
       wrong = i;
       is_wrong = stops_wrong tokens i h;
@@ -103,10 +100,10 @@ ahead_fault tokens i j k h e =
 limit_whole : (tokens : List Token) (t : IsText tokens) → first_passed 0 0 0 (counts_of tokens) ≡ first_limit t.file
 limit_whole tokens t = ap (first_passed 0 0 0) (ap counts_of t.same ∙ file_counted t.file t.body)
 
-whole_fault : (tokens : List Token) (j : ℕ) (k : FaultKind) → RunsToEnd tokens → first_passed 0 0 0 (counts_of tokens) ≡ Some (j, k) → IsFault tokens j k
+whole_fault : (tokens : List Token) (j : ℕ) (k : PolicyFault) → RunsToEnd tokens → first_passed 0 0 0 (counts_of tokens) ≡ Some (j, k) → IsFault tokens j k
 whole_fault tokens j k h e =
     let t = sound tokens h.state h.run h.ended in
-    limit_fault tokens j k (no_syntax tokens j k e) (inl (record { file = t.file; body = t.body; same = t.same; first = sym (limit_whole tokens t) ∙ e }))
+    limit_fault tokens j k (passed_limit (counts_of tokens) 0 0 0 j k e) (inl (record { file = t.file; body = t.body; same = t.same; first = sym (limit_whole tokens t) ∙ e }))
 
 -- ---- what the reader answers
 
@@ -117,7 +114,7 @@ passed_told tokens wrong read c cs p r d e f =
     sym (f ∙ ap (first_passed 0 0 0) (e ∙ ap (λ (x : Counter). x.counts) (d ∙ ap (counted_from start nothing_counted) r)))
 
 -- a limit is passed at the tokens that were read
-pub limit_told : (tokens : List Token) (wrong : Option ℕ) (j : ℕ) (k : FaultKind) → Runs tokens wrong → first_passed 0 0 0 (counts_of (ahead_of wrong tokens)) ≡ Some (j, k) → IsFault tokens j k
+pub limit_told : (tokens : List Token) (wrong : Option ℕ) (j : ℕ) (k : PolicyFault) → Runs tokens wrong → first_passed 0 0 0 (counts_of (ahead_of wrong tokens)) ≡ Some (j, k) → IsFault tokens j k
 limit_told tokens None j k h e = whole_fault tokens j k h e
 limit_told tokens (Some i) j k h e = ahead_fault tokens i j k h e
 

@@ -5,17 +5,17 @@ use Rattle.policy_tokens.specs.declared.token.Token.{Token}
 use Rattle.policy_tokens.specs.declared.token.Token.TheVariants.{Name as name}
 use Rattle.policy_tokens.specs.declared.token.Keyword.TheVariants as word
 use Rattle.policy_tokens.specs.declared.token.Sign.TheVariants as mark
-use Rattle.policy_grammar.specs.declared.operator.Operator.{Operator}
+use Rattle.maple_base.specs.declared.operator.Operator.{Operator}
 use Rattle.policy_grammar.specs.declared.event.Event.{Event}
 use Rattle.policy_grammar.specs.declared.event.Event.TheVariants as event
-use Rattle.policy_grammar.specs.declared.place.Around.{Around}
-use Rattle.policy_grammar.specs.declared.place.Around.TheVariants as around
-use Rattle.policy_grammar.specs.declared.place.Base.{Base}
-use Rattle.policy_grammar.specs.declared.place.Base.TheVariants as base
-use Rattle.policy_grammar.specs.declared.place.Block.{Block}
-use Rattle.policy_grammar.specs.declared.place.Block.TheVariants as block
-use Rattle.policy_grammar.specs.declared.place.Place.{Place}
-use Rattle.policy_grammar.specs.declared.place.Place.TheVariants as at
+use Rattle.policy_grammar.specs.declared.stage.Around.{Around}
+use Rattle.policy_grammar.specs.declared.stage.Around.TheVariants as around
+use Rattle.policy_grammar.specs.declared.stage.Base.{Base}
+use Rattle.policy_grammar.specs.declared.stage.Base.TheVariants as base
+use Rattle.policy_grammar.specs.declared.stage.Block.{Block}
+use Rattle.policy_grammar.specs.declared.stage.Block.TheVariants as block
+use Rattle.policy_grammar.specs.declared.stage.Stage.{Stage}
+use Rattle.policy_grammar.specs.declared.stage.Stage.TheVariants as at
 use Rattle.policy_grammar.specs.Automaton.{State, least, pull, settle, operator_in, is_keyword, is_sign}
 use Rattle.policy_grammar.specs.Events.{ended, endings, operator_event, closing, finished, opening, behind_events, ahead_events, closed_events, name_events, table_events, statement_events, question_first, events_at, events}
 
@@ -117,7 +117,7 @@ statement_plain bs t =
 question_plain : (t : Token) → Plain (question_first t)
 question_plain t = choice (is_keyword word.Host t) (one_added event.Begin refl) (choice (is_keyword word.Hop t) (one_added event.Begin refl) (ahead_plain t))
 
-plain_at : (p : Place) (as_ : List Around) (bs : List Block) (t : Token) → operator_in t ≡ None → ArePlain (events_at p as_ bs t)
+plain_at : (p : Stage) (as_ : List Around) (bs : List Block) (t : Token) → operator_in t ≡ None → ArePlain (events_at p as_ bs t)
 plain_at at.Table as_ bs t h = (table_plain t).plain
 plain_at at.Policy as_ bs t h = (choice (is_keyword word.Learning t) (one_added event.Learning refl) none_added).plain
 plain_at at.Statement as_ bs t h = (statement_plain bs t).plain
@@ -134,4 +134,4 @@ plain_at at.ElseBlock as_ bs t h = (refl, tt)
 plain_at p as_ bs t h = tt
 
 pub events_plain : (s : State) (t : Token) → operator_in t ≡ None → ArePlain (events s t)
-events_plain s t h = plain_at s.place s.around s.blocks t h
+events_plain s t h = plain_at s.stage s.around s.blocks t h

@@ -1,33 +1,27 @@
 -- The limits on a policy's nodes, parentheses and tables, and what is wrong with tokens.
 use Rattle.std.specs.Prelude.{◌≡◌, ℕ, suc, ◌+◌, ◌-◌, ◌<◌, ◌≤◌, ◌⊎◌, ◌||◌, nat_lt, if◌then◌else◌, List, [], ◌∷◌, ◌++◌, length, take, Option, Some, None}
+use Rattle.maple_base.specs.PolicyLimits.{most_tables, most_nodes, deepest, most_parentheses}
 use Rattle.policy_tokens.specs.declared.token.Token.{Token}
 use Rattle.policy_grammar.specs.Grammar.{File, AreStatements, file_tokens, IsText, Begins}
 use Rattle.policy_grammar.specs.Events.{file_events}
 use Rattle.policy_grammar.specs.declared.event.Event.{Event}
 use Rattle.policy_limits.specs.Counts.{Count, file_counts}
-use Rattle.policy_limits.specs.declared.fault.FaultKind.{FaultKind}
-use Rattle.policy_limits.specs.declared.fault.FaultKind.TheVariants.{Syntax, Nesting, Nodes, TooLong}
+use Rattle.maple_base.specs.declared.policy_fault.PolicyFault.{PolicyFault}
+use Rattle.maple_base.specs.declared.policy_fault.PolicyFault.TheVariants.{Syntax, Nesting, Nodes, TooLong}
 use Rattle.policy_limits.specs.declared.fault.OutlineError.{OutlineError}
 use Rattle.policy_limits.specs.declared.fault.OutlineError.TheVariants.{Fault, NoMemory}
 
--- the number by which a fault is told
-abbrev pub number_of : FaultKind → ℕ
-number_of Syntax = 3
-number_of Nesting = 8
-number_of Nodes = 9
-number_of TooLong = 10
-
 -- the limit that is passed at a token with so many nodes begun and ended ahead of it, the one of least number: more than 32 nodes are begun there and not ended, a parenthesis opens inside 64, 4,097 nodes are begun, 17 tables are named
-abbrev pub limit_at : ℕ → ℕ → Count → Option FaultKind
+abbrev pub limit_at : ℕ → ℕ → Count → Option PolicyFault
 limit_at begun ended c =
-    if nat_lt 32 (begun + c.begun - ended) || nat_lt 64 c.parentheses then Some Nesting else (
-    if nat_lt 4096 (begun + c.begun) then Some Nodes else (if nat_lt 16 c.tables then Some TooLong else None))
+    if nat_lt deepest (begun + c.begun - ended) || nat_lt most_parentheses c.parentheses then Some Nesting else (
+    if nat_lt most_nodes (begun + c.begun) then Some Nodes else (if nat_lt most_tables c.tables then Some TooLong else None))
 
 -- a token, by the number of those ahead of it, and the limit that is passed there
 abbrev pub Passed : Type 0
-Passed = Option (ℕ × FaultKind)
+Passed = Option (ℕ × PolicyFault)
 
-abbrev pub passed_or : ℕ → Option FaultKind → Passed → Passed
+abbrev pub passed_or : ℕ → Option PolicyFault → Passed → Passed
 passed_or i (Some kind) rest = Some (i, kind)
 passed_or i None rest = rest
 
@@ -61,14 +55,14 @@ IsPassedBy i None = ⊥
 IsPassedBy i (Some p) = p.0 ≤ i
 
 -- the tokens are those of a file, which passes this limit first
-pub record PassesWhole (tokens : List Token) (i : ℕ) (kind : FaultKind) : Type 0 where
+pub record PassesWhole (tokens : List Token) (i : ℕ) (kind : PolicyFault) : Type 0 where
   pub file : File
   pub body : AreStatements file.body
   pub same : tokens ≡ file_tokens file
   pub first : first_limit file ≡ Some (i, kind)
 
 -- each file that begins with the tokens ahead of the first wrong one passes a limit there or earlier, and for some file it is the first
-pub record PassesAhead (tokens : List Token) (i : ℕ) (kind : FaultKind) : Type 0 where
+pub record PassesAhead (tokens : List Token) (i : ℕ) (kind : PolicyFault) : Type 0 where
   pub wrong : ℕ
   pub is_wrong : IsFirstWrong tokens wrong
   pub ahead : i < wrong
@@ -84,10 +78,17 @@ pub record IsSyntax (tokens : List Token) (i : ℕ) : Type 0 where
   pub begun : IsBegunBy (take i tokens) file
   pub free : (j : ℕ) → j < i → ¬ (IsPassedBy j (first_limit file))
 
+-- a limit is passed first
+abbrev pub PassesLimit : List Token → ℕ → PolicyFault → Type 0
+PassesLimit tokens i kind = PassesWhole tokens i kind ⊎ PassesAhead tokens i kind
+
 -- the first fault of tokens
-abbrev pub IsFault : List Token → ℕ → FaultKind → Type 0
+abbrev pub IsFault : List Token → ℕ → PolicyFault → Type 0
 IsFault tokens i Syntax = IsSyntax tokens i
-IsFault tokens i kind = PassesWhole tokens i kind ⊎ PassesAhead tokens i kind
+IsFault tokens i Nesting = PassesLimit tokens i Nesting
+IsFault tokens i Nodes = PassesLimit tokens i Nodes
+IsFault tokens i TooLong = PassesLimit tokens i TooLong
+IsFault tokens i kind = ⊥
 
 abbrev pub IsErrorOf : List Token → OutlineError → Type 0
 IsErrorOf tokens (Fault i kind) = IsFault tokens i kind

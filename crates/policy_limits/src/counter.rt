@@ -28,7 +28,14 @@ impl Model for Counter {
 
     ghost Value = { CounterState };
 
-    ghost view = { λ a. record { counts = a.counts.items; current = a.current; operand = a.operand; firsts = a.firsts; parentheses = a.parentheses; tables = a.tables } };
+    ghost view = { λ a. record {
+      counts = a.counts.items;
+      current = a.current;
+      operand = a.operand;
+      firsts = a.firsts;
+      parentheses = a.parentheses;
+      tables = a.tables;
+    } };
 }
 
 // One more node ends with the last token.

@@ -7,9 +7,7 @@ mod counting;
 pub mod fault;
 mod limits;
 pub mod outline;
-#[cfg(test)]
-mod tests;
 
 pub use count::Count;
-pub use fault::{FaultKind, OutlineError};
+pub use fault::OutlineError;
 pub use outline::{Outline, read_outline};

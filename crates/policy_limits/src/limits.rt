@@ -2,29 +2,21 @@
 ghost use Rattle.std.specs.Prelude.{◌≡◌, ℕ, ◌+◌, IfOk};
 ghost use Rattle.policy_limits.specs.Limits.{limit_at, first_passed};
 
-use crate::FaultKind;
 use crate::count::Count;
-use maple_base::NoMemory;
-
-const DEEPEST: usize = 32;
-
-const MOST_PARENTHESES: usize = 64;
-
-const MOST_NODES: usize = 4096;
-
-const MOST_TABLES: usize = 16;
+use maple_base::policy_limit::{DEEPEST, MOST_NODES, MOST_PARENTHESES, MOST_TABLES};
+use maple_base::{NoMemory, PolicyFault};
 
 // The limit that is passed at a token, behind which so many nodes are begun, and ahead of which so
 // many are ended.
-fn limit_at(begun: usize, ended: usize, count: Count) -> Option<FaultKind>
+fn limit_at(begun: usize, ended: usize, count: Count) -> Option<PolicyFault>
     ensures { (ahead : ℕ) → begun ≡ ahead + count.begun → result ≡ limit_at ahead ended count }
 {
-    if begun.saturating_sub(ended) > DEEPEST || count.parentheses() > MOST_PARENTHESES {
-        Some(FaultKind::Nesting)
-    } else if begun > MOST_NODES {
-        Some(FaultKind::Nodes)
+    if begun.saturating_sub(ended) > DEEPEST as usize || count.parentheses() > MOST_PARENTHESES {
+        Some(PolicyFault::Nesting)
+    } else if begun > MOST_NODES as usize {
+        Some(PolicyFault::Nodes)
     } else if count.tables() > MOST_TABLES {
-        Some(FaultKind::TooLong)
+        Some(PolicyFault::TooLong)
     } else {
         None
     }
@@ -38,7 +30,7 @@ fn sum(left: usize, right: usize) -> Result<usize, NoMemory>
 }
 
 /// The first limit that is passed, and the number of tokens ahead.
-pub fn first_passed(counts: &[Count]) -> Result<Option<(usize, FaultKind)>, NoMemory>
+pub fn first_passed(counts: &[Count]) -> Result<Option<(usize, PolicyFault)>, NoMemory>
     ensures { IfOk result (λ passed. passed ≡ first_passed 0 0 0 counts.now) }
 {
     let mut begun = 0;

@@ -3,10 +3,11 @@ ghost use Rattle.std.specs.Prelude.{◌≡◌, ◌≤◌, length, map, IfOk, IfE
 ghost use Rattle.policy_grammar.specs.Reading.{plain, ahead_of};
 ghost use Rattle.policy_limits.specs.Limits.{IsOutline, IsErrorOf};
 
+use crate::OutlineError;
 use crate::count::Count;
 use crate::counting::count_nodes;
 use crate::limits::first_passed;
-use crate::{FaultKind, OutlineError};
+use maple_base::PolicyFault;
 use policy_grammar::{Event, read_events};
 use policy_tokens::PlacedToken;
 use std::alloc::Global;
@@ -51,7 +52,7 @@ pub fn read_outline(alloc: Global, tokens: &[PlacedToken]) -> Result<Outline, Ou
     match reading.wrong {
         Some(token) => Err(OutlineError::Fault {
             token,
-            kind: FaultKind::Syntax,
+            kind: PolicyFault::Syntax,
         }),
         None => Ok(Outline {
             events: reading.events,

@@ -3,7 +3,7 @@ use Rattle.std.proofs.Common.{◌≡◌, ℕ, suc, ◌+◌, Bool, true, false, L
 use Rattle.policy_tokens.specs.declared.token.Token.{Token}
 use Rattle.policy_tokens.specs.declared.token.Token.TheVariants.{Keyword as keyword}
 use Rattle.policy_tokens.specs.declared.token.Keyword.TheVariants as word
-use Rattle.policy_grammar.specs.declared.operator.Operator.{Operator}
+use Rattle.maple_base.specs.declared.operator.Operator.{Operator}
 use Rattle.policy_grammar.specs.Grammar.{Callee, Phrase, Single, Call, Group, Negation, Test, Pair, phrase_tokens, Question, Host, Hop, Lookup, Holds, question_tokens, Action, Drop, Flood, Out, Route, Let, Assign, more_tokens, action_tokens, in_braces, if_tokens, while_tokens, Statements, Nothing, Plain, If, IfElse, While, statements_tokens, File, tables_tokens, learning_tokens}
 use Rattle.policy_limits.specs.Counts.{phrase_counts, more_counts, question_counts, action_counts, statements_counts, tables_counts, learning_counts, file_counts}
 use Rattle.policy_limits.proofs.CountedPhrases.{phrase_some}

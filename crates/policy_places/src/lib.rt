@@ -3,7 +3,5 @@
 
 mod nodes;
 pub mod places;
-#[cfg(test)]
-mod tests;
 
-pub use places::TextPlaces;
+pub use places::TextOrder;

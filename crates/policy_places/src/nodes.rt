@@ -9,7 +9,7 @@ use std::alloc::{AllocError, Global};
 
 /// Where a node lies, by the numbers of the tokens ahead.
 #[derive(Clone, Copy, Debug, PartialEq, Eq)]
-pub struct NodePlace {
+pub struct NodeTokens {
     /// Its first token.
     pub first: usize,
     /// The first of the parentheses that stand round it alone, or its first token again.
@@ -19,11 +19,11 @@ pub struct NodePlace {
 }
 
 // A node whose first token has this number.
-fn node_at(whole: usize, first: usize) -> NodePlace
+fn node_at(whole: usize, first: usize) -> NodeTokens
     requires { first + 1 < 2 ^ 64 }
     ensures { result ≡ node_at whole first }
 {
-    NodePlace {
+    NodeTokens {
         first,
         whole,
         second: first + 1,
@@ -31,7 +31,7 @@ fn node_at(whole: usize, first: usize) -> NodePlace
 }
 
 // A number of nodes with no parentheses of their own.
-fn push_bare(nodes: &mut Vec<NodePlace>, token: usize, count: usize) -> Result<(), AllocError>
+fn push_bare(nodes: &mut Vec<NodeTokens>, token: usize, count: usize) -> Result<(), AllocError>
     requires { token + 1 < 2 ^ 64 }
     ensures { OnOk result (nodes.new.items ≡ nodes.old.items ++ bares token count) }
 {
@@ -45,7 +45,7 @@ fn push_bare(nodes: &mut Vec<NodePlace>, token: usize, count: usize) -> Result<(
 
 // The nodes that begin with a token, the outermost of them first.
 fn push_nodes(
-    nodes: &mut Vec<NodePlace>,
+    nodes: &mut Vec<NodeTokens>,
     whole: usize,
     token: usize,
     count: usize,
@@ -75,7 +75,7 @@ fn whole_behind(whole: usize, token: usize, count: Count) -> usize
 }
 
 /// The nodes of a text with these counts, in its order.
-pub fn nodes_of(alloc: Global, counts: &[Count]) -> Result<Vec<NodePlace>, NoMemory>
+pub fn nodes_of(alloc: Global, counts: &[Count]) -> Result<Vec<NodeTokens>, NoMemory>
     ensures { IfOk result (λ nodes. nodes.items ≡ scanned 0 0 counts.now) }
 {
     let mut nodes = Vec::new(alloc);

@@ -1,49 +1,50 @@
-// The places of a text.
+// Where the parts of a policy stand in its text.
 ghost use Rattle.std.specs.Prelude.{◌≡◌, ◌≤◌, [], length, map, IfOk};
 ghost use Rattle.std.specs.List.{list_any};
 ghost use Rattle.std.specs.Str.{bytes_eq};
+ghost use Rattle.maple_base.specs.PolicyLimits.{most_tables};
 ghost use Rattle.policy_places.specs.Places.{is_as, numbered, name_behind, bound_names, repeated_table};
 ghost use Rattle.policy_places.specs.Scanning.{ArePlaces};
 
-use crate::nodes::{NodePlace, nodes_of};
+use crate::nodes::{NodeTokens, nodes_of};
 use maple_base::{Name, NoMemory};
-use policy_lang::{Places, Site};
+use policy_lang::{Site, SiteOrder};
 use policy_limits::Count;
 use policy_tokens::{Keyword, PlacedToken, Token};
 use std::alloc::Global;
 use std::marker::Model;
 
-/// Where the nodes and the names of a policy's text lie. A place is the number of tokens ahead.
+/// Where the nodes and the names of a policy's text stand, by the numbers of tokens ahead.
 #[derive(Drop)]
-pub struct TextPlaces {
-    nodes: Vec<NodePlace>,
+pub struct TextOrder {
+    nodes: Vec<NodeTokens>,
     // The names that heads bind.
     bound: Vec<usize>,
     // The name of the first table that is named twice.
     table: usize,
 }
 
-impl Model for TextPlaces {
-    ghost use Rattle.policy_places.specs.Places.{TextPlaces as PlacesOf};
+impl Model for TextOrder {
+    ghost use Rattle.policy_places.specs.Places.{TextOrder as OrderOf};
 
-    ghost Value = { PlacesOf };
+    ghost Value = { OrderOf };
 
     ghost view = { λ a. record { nodes = a.nodes.items; bound = a.bound.items; table = a.table } };
 }
 
-impl TextPlaces {
-    /// The places of a text with these tokens and tables, of whose nodes so many begin and end with
+impl TextOrder {
+    /// The order of a text with these tokens and tables, of whose nodes so many begin and end with
     /// each token. The one error is want of memory.
     pub fn new(
         alloc: Global,
         counts: &[Count],
         tokens: &[PlacedToken],
         tables: &[Name],
-    ) -> Result<TextPlaces, NoMemory>
-        requires { length tables.now ≤ 16 }
+    ) -> Result<TextOrder, NoMemory>
+        requires { length tables.now ≤ most_tables }
         ensures { IfOk result (ArePlaces counts.now (map (λ p. p.token) tokens.now) tables.now) }
     {
-        Ok(TextPlaces {
+        Ok(TextOrder {
             nodes: nodes_of(alloc, counts)?,
             bound: bound_names(alloc, tokens)?,
             table: repeated_table(tables),
@@ -51,13 +52,13 @@ impl TextPlaces {
     }
 
     // The node of a number, from 1 on.
-    fn numbered(&self, node: u32) -> NodePlace
+    fn numbered(&self, node: u32) -> NodeTokens
         ensures { result ≡ numbered node self.now.nodes }
     {
         let index = (node as usize).saturating_sub(1);
         match self.nodes.get(index) {
-            Some(place) => *place,
-            None => NodePlace {
+            Some(tokens) => *tokens,
+            None => NodeTokens {
                 first: 0,
                 whole: 0,
                 second: 1,
@@ -78,12 +79,12 @@ impl TextPlaces {
     }
 }
 
-impl Places for TextPlaces {
+impl SiteOrder for TextOrder {
     ghost use Rattle.policy_places.specs.Places.{place_in};
 
     ghost place_of = { place_in };
 
-    fn place(&self, site: Site) -> u64 {
+    fn index(&self, site: Site) -> u64 {
         let token = match site {
             Site::AtTable => self.table,
             Site::AtNode(node, _) => self.numbered(node).first,
@@ -128,7 +129,7 @@ fn is_same(name: &Name, other: &Name) -> bool
 
 // The name of the first table that is named twice.
 fn repeated_table(tables: &[Name]) -> usize
-    requires { length tables.now ≤ 16 }
+    requires { length tables.now ≤ most_tables }
     ensures { result ≡ repeated_table [] tables.now }
 {
     for (index, table) in tables.iter().enumerate() {

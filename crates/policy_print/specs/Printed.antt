@@ -3,7 +3,10 @@ use Rattle.std.specs.Prelude.{ℕ, zero, suc, Bool, true, false, nat_lt, if◌th
 use Rattle.std.specs.Fmt.{decimal}
 use Rattle.std.specs.List.{flat_map}
 use Rattle.maple_base.specs.FieldNames.{name_of}
+use Rattle.maple_base.specs.Operators.{level_of as operator_level, left_level, right_level}
 use Rattle.maple_base.specs.declared.key.Field.{Field}
+use Rattle.maple_base.specs.declared.operator.Operator.{Operator}
+use Rattle.maple_base.specs.declared.operator.Operator.TheVariants.{Or, And, Equal, NotEqual, Less, LessEqual, Add, Sub}
 use Rattle.policy_lang.specs.declared.Expr.{Expr}
 use Rattle.policy_lang.specs.declared.Expr.TheVariants.{Number, Var, SwitchOf, PortOf, PacketSwitch, Packet, Up', At', Is', Not', And', Or', Add', Sub', Equal', NotEqual', Less', LessEqual'}
 use Rattle.policy_lang.specs.declared.Head.{Head}
@@ -19,18 +22,18 @@ a & b = a ++ b
 
 -- ---- expressions
 
--- the level of an expression: 0 where its last operator is `or`, 1 `and`, 2 `not`, 3 a comparison or a test, 4 a sum or a difference, and 5 of all others
+-- the level of an expression: that of its last operator, 2 of a negation, 3 of a test of a field, and 5 of all others
 abbrev pub level_of : Expr → ℕ
-level_of (Or' p l q r) = 0
-level_of (And' p l q r) = 1
+level_of (Or' p l q r) = operator_level Or
+level_of (And' p l q r) = operator_level And
 level_of (Not' p e) = 2
 level_of (Is' f p e) = 3
-level_of (Equal' p l q r) = 3
-level_of (NotEqual' p l q r) = 3
-level_of (Less' p l q r) = 3
-level_of (LessEqual' p l q r) = 3
-level_of (Add' p l q r) = 4
-level_of (Sub' p l q r) = 4
+level_of (Equal' p l q r) = operator_level Equal
+level_of (NotEqual' p l q r) = operator_level NotEqual
+level_of (Less' p l q r) = operator_level Less
+level_of (LessEqual' p l q r) = operator_level LessEqual
+level_of (Add' p l q r) = operator_level Add
+level_of (Sub' p l q r) = operator_level Sub
 level_of e = 5
 
 -- where a part of at least a level may stand, one of a lesser level stands in parentheses
@@ -44,6 +47,20 @@ field_text f = codes "pkt." & name_of f
 -- two parts with an operator between
 abbrev pub around : List ℕ → List ℕ → List ℕ → List ℕ
 around sign left right = left & codes " " & sign & codes " " & right
+
+abbrev pub sign_of : Operator → List ℕ
+sign_of Or = codes "or"
+sign_of And = codes "and"
+sign_of Equal = codes "=="
+sign_of NotEqual = codes "!="
+sign_of Less = codes "<"
+sign_of LessEqual = codes "<="
+sign_of Add = codes "+"
+sign_of Sub = codes "-"
+
+-- two parts, each with its level, and their operator between
+abbrev pub joined : Operator → ℕ → List ℕ → ℕ → List ℕ → List ℕ
+joined o k left m right = around (sign_of o) (in_place (left_level o) k left) (in_place (right_level o) m right)
 
 -- a call of two parts
 abbrev pub call_text : List ℕ → List ℕ → List ℕ → List ℕ
@@ -61,14 +78,14 @@ expr_text (Up' p l q r) = call_text (codes "up") (expr_text l) (expr_text r)
 expr_text (At' p l q r) = call_text (codes "at") (expr_text l) (expr_text r)
 expr_text (Is' f p e) = around (codes "is") (field_text f) (in_place 4 (level_of e) (expr_text e))
 expr_text (Not' p e) = codes "not " & in_place 2 (level_of e) (expr_text e)
-expr_text (And' p l q r) = around (codes "and") (in_place 1 (level_of l) (expr_text l)) (in_place 2 (level_of r) (expr_text r))
-expr_text (Or' p l q r) = around (codes "or") (expr_text l) (in_place 1 (level_of r) (expr_text r))
-expr_text (Add' p l q r) = around (codes "+") (in_place 4 (level_of l) (expr_text l)) (in_place 5 (level_of r) (expr_text r))
-expr_text (Sub' p l q r) = around (codes "-") (in_place 4 (level_of l) (expr_text l)) (in_place 5 (level_of r) (expr_text r))
-expr_text (Equal' p l q r) = around (codes "==") (in_place 4 (level_of l) (expr_text l)) (in_place 4 (level_of r) (expr_text r))
-expr_text (NotEqual' p l q r) = around (codes "!=") (in_place 4 (level_of l) (expr_text l)) (in_place 4 (level_of r) (expr_text r))
-expr_text (Less' p l q r) = around (codes "<") (in_place 4 (level_of l) (expr_text l)) (in_place 4 (level_of r) (expr_text r))
-expr_text (LessEqual' p l q r) = around (codes "<=") (in_place 4 (level_of l) (expr_text l)) (in_place 4 (level_of r) (expr_text r))
+expr_text (And' p l q r) = joined And (level_of l) (expr_text l) (level_of r) (expr_text r)
+expr_text (Or' p l q r) = joined Or (level_of l) (expr_text l) (level_of r) (expr_text r)
+expr_text (Add' p l q r) = joined Add (level_of l) (expr_text l) (level_of r) (expr_text r)
+expr_text (Sub' p l q r) = joined Sub (level_of l) (expr_text l) (level_of r) (expr_text r)
+expr_text (Equal' p l q r) = joined Equal (level_of l) (expr_text l) (level_of r) (expr_text r)
+expr_text (NotEqual' p l q r) = joined NotEqual (level_of l) (expr_text l) (level_of r) (expr_text r)
+expr_text (Less' p l q r) = joined Less (level_of l) (expr_text l) (level_of r) (expr_text r)
+expr_text (LessEqual' p l q r) = joined LessEqual (level_of l) (expr_text l) (level_of r) (expr_text r)
 
 -- ---- statements
 
@@ -105,6 +122,13 @@ abbrev pub else_text : Option Lines → Lines
 else_text None blocks = line blocks (codes "}")
 else_text (Some second) blocks = line blocks (codes "} else {") & second (suc blocks) & line blocks (codes "}")
 
+-- an `if`: its line, its block, and the block of its `else` or the closing brace
+abbrev pub if_text : Head → Lines → Option Lines → Lines
+if_text h first second blocks = line blocks (codes "if " & head_text h & codes " {") & first (suc blocks) & else_text second blocks
+
+abbrev pub while_text : Expr → Lines → Lines
+while_text e body blocks = line blocks (codes "while " & expr_text e & codes " {") & body (suc blocks) & line blocks (codes "}")
+
 abbrev pub statement_text : Statement-F Lines Lines → Lines
 statement_text drop blocks = line blocks (codes "drop;")
 statement_text flood blocks = line blocks (codes "flood;")
@@ -112,8 +136,8 @@ statement_text (out es) blocks = line blocks (codes "out " & exprs_text es & cod
 statement_text (route e) blocks = line blocks (codes "route " & expr_text e & codes ";")
 statement_text (let_ x e) blocks = line blocks (codes "let " & x & codes " = " & expr_text e & codes ";")
 statement_text (assign x e) blocks = line blocks (x & codes " = " & expr_text e & codes ";")
-statement_text (if_ h first second) blocks = line blocks (codes "if " & head_text h & codes " {") & first (suc blocks) & else_text second blocks
-statement_text (while_ e body) blocks = line blocks (codes "while " & expr_text e & codes " {") & body (suc blocks) & line blocks (codes "}")
+statement_text (if_ h first second) blocks = if_text h first second blocks
+statement_text (while_ e body) blocks = while_text e body blocks
 
 abbrev pub one_after_another : List Lines → Lines
 one_after_another [] blocks = []

@@ -1,62 +1,24 @@
 // The text of expressions.
 ghost use Rattle.std.specs.Prelude.{◌≡◌, ◌++◌, nat_lt, decimal, OnOk, codes};
-ghost use Rattle.policy_print.specs.Printed.{◌&◌, level_of, field_text, call_text, expr_text, more_text, exprs_text};
-ghost use Rattle.policy_print.specs.Operators.{sign_of, left_level, right_level, part_text, operation_text};
+ghost use Rattle.policy_print.specs.Printed.{◌&◌, level_of, sign_of, field_text, call_text, expr_text, more_text, exprs_text};
+ghost use Rattle.policy_print.specs.Operators.{part_text, operation_text};
 
-use maple_base::Field;
+use maple_base::{Field, Operator};
 use policy_lang::Expr;
 use std::alloc::AllocError;
 
-// An operator between two parts.
-#[derive(Clone, Copy)]
-enum Operator {
-    Or,
-    And,
-    Equal,
-    NotEqual,
-    Less,
-    LessEqual,
-    Add,
-    Sub,
-}
-
-impl Operator {
-    fn sign(self) -> &'static [u8]
-        ensures { result.now ≡ sign_of self }
-    {
-        match self {
-            Operator::Or => b"or",
-            Operator::And => b"and",
-            Operator::Equal => b"==",
-            Operator::NotEqual => b"!=",
-            Operator::Less => b"<",
-            Operator::LessEqual => b"<=",
-            Operator::Add => b"+",
-            Operator::Sub => b"-",
-        }
-    }
-
-    // The least level at which the left part needs no parentheses.
-    fn left_level(self) -> u8
-        ensures { result ≡ left_level self }
-    {
-        match self {
-            Operator::Or => 0,
-            Operator::And => 1,
-            _ => 4,
-        }
-    }
-
-    // The same of the right part.
-    fn right_level(self) -> u8
-        ensures { result ≡ right_level self }
-    {
-        match self {
-            Operator::Or => 1,
-            Operator::And => 2,
-            Operator::Add | Operator::Sub => 5,
-            _ => 4,
-        }
+fn sign_of(operator: Operator) -> &'static [u8]
+    ensures { result.now ≡ sign_of operator }
+{
+    match operator {
+        Operator::Or => b"or",
+        Operator::And => b"and",
+        Operator::Equal => b"==",
+        Operator::NotEqual => b"!=",
+        Operator::Less => b"<",
+        Operator::LessEqual => b"<=",
+        Operator::Add => b"+",
+        Operator::Sub => b"-",
     }
 }
 
@@ -65,15 +27,16 @@ fn level_of(expr: &Expr) -> u8
     ensures { result ≡ level_of expr.now }
 {
     match expr {
-        Expr::Or(_, _) => 0,
-        Expr::And(_, _) => 1,
+        Expr::Or(_, _) => Operator::Or.level(),
+        Expr::And(_, _) => Operator::And.level(),
+        Expr::Equal(_, _) => Operator::Equal.level(),
+        Expr::NotEqual(_, _) => Operator::NotEqual.level(),
+        Expr::Less(_, _) => Operator::Less.level(),
+        Expr::LessEqual(_, _) => Operator::LessEqual.level(),
+        Expr::Add(_, _) => Operator::Add.level(),
+        Expr::Sub(_, _) => Operator::Sub.level(),
         Expr::Not(_) => 2,
-        Expr::Is(_, _)
-        | Expr::Equal(_, _)
-        | Expr::NotEqual(_, _)
-        | Expr::Less(_, _)
-        | Expr::LessEqual(_, _) => 3,
-        Expr::Add(_, _) | Expr::Sub(_, _) => 4,
+        Expr::Is(_, _) => 3,
         _ => 5,
     }
 }
@@ -179,7 +142,7 @@ fn push_field(text: &mut Vec<u8>, field: Field) -> Result<(), AllocError>
     ensures { OnOk result (text.new.items ≡ text.old.items ++ field_text field) }
 {
     text.extend_from_slice(b"pkt.")?;
-    text.extend_from_slice(field.name())
+    text.extend_from_slice(field.name().as_bytes())
 }
 
 // Appends a test of a field, up to the value.
@@ -194,7 +157,7 @@ fn push_operator(text: &mut Vec<u8>, operator: Operator) -> Result<(), AllocErro
     ensures { OnOk result (text.new.items ≡ text.old.items ++ (codes " " & sign_of operator & codes " ")) }
 {
     text.extend_from_slice(b" ")?;
-    text.extend_from_slice(operator.sign())?;
+    text.extend_from_slice(sign_of(operator))?;
     text.extend_from_slice(b" ")
 }
 

@@ -4,7 +4,5 @@
 mod expressions;
 mod policies;
 mod statements;
-#[cfg(test)]
-mod tests;
 
 pub use policies::print_policy;

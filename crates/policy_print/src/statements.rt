@@ -1,9 +1,10 @@
 // The text of statements.
 ghost use Rattle.std.specs.Prelude.{◌≡◌, ◌+◌, ◌≤◌, ◌++◌, suc, map, OnOk, codes};
 ghost use Rattle.std.specs.Option.{option_map};
+ghost use Rattle.maple_base.specs.PolicyLimits.{most_nodes};
 ghost use Rattle.policy_lang.specs.Faults.{checked, size_otherwise, sizes_in};
 ghost use Rattle.policy_lang.specs.Limits.{statement_checked};
-ghost use Rattle.policy_print.specs.Printed.{◌&◌, expr_text, exprs_text, head_text, indent, line, else_text, block_text};
+ghost use Rattle.policy_print.specs.Printed.{◌&◌, expr_text, exprs_text, head_text, indent, line, else_text, if_text, while_text, block_text};
 ghost use Rattle.policy_print.specs.Statements.{statement_lines, lines_of};
 
 use crate::expressions::{push_expr, push_exprs};
@@ -19,7 +20,7 @@ pub fn push_statements(
     blocks: u32,
     statements: &[Statement],
 ) -> Result<(), AllocError>
-    requires { blocks + sizes_in (map statement_checked statements.now) ≤ 4097 }
+    requires { blocks + sizes_in (map statement_checked statements.now) ≤ most_nodes + 1 }
     ensures { OnOk result (text.new.items ≡ text.old.items ++ lines_of statements.now blocks) }
 {
     for statement in statements {
@@ -30,7 +31,7 @@ pub fn push_statements(
 
 #[cycle(statements)]
 fn push_statement(text: &mut Vec<u8>, blocks: u32, statement: &Statement) -> Result<(), AllocError>
-    requires { blocks + (statement_checked statement.now).size ≤ 4097 }
+    requires { blocks + (statement_checked statement.now).size ≤ most_nodes + 1 }
     ensures { OnOk result (text.new.items ≡ text.old.items ++ statement_lines statement.now blocks) }
 {
     match statement {
@@ -53,8 +54,8 @@ fn push_if(
     first: &Block,
     second: &Option<Block>,
 ) -> Result<(), AllocError>
-    requires { suc blocks + ((checked first.now).size + size_otherwise (option_map checked second.now)) ≤ 4097 }
-    ensures { OnOk result (text.new.items ≡ text.old.items ++ (line blocks (codes "if " & head_text head.now & codes " {") & block_text first.now (suc blocks) & else_text (option_map block_text second.now) blocks)) }
+    requires { suc blocks + ((checked first.now).size + size_otherwise (option_map checked second.now)) ≤ most_nodes + 1 }
+    ensures { OnOk result (text.new.items ≡ text.old.items ++ if_text head.now (block_text first.now) (option_map block_text second.now) blocks) }
 {
     push_if_line(text, blocks, head)?;
     push_statements(text, blocks + 1, first.items())?;
@@ -64,7 +65,7 @@ fn push_if(
 // Appends the block of an `else`, if there is one, and the closing brace.
 #[cycle(statements)]
 fn push_else(text: &mut Vec<u8>, blocks: u32, second: &Option<Block>) -> Result<(), AllocError>
-    requires { suc blocks + size_otherwise (option_map checked second.now) ≤ 4097 }
+    requires { suc blocks + size_otherwise (option_map checked second.now) ≤ most_nodes + 1 }
     ensures { OnOk result (text.new.items ≡ text.old.items ++ else_text (option_map block_text second.now) blocks) }
 {
     if let Some(second) = second {
@@ -76,8 +77,8 @@ fn push_else(text: &mut Vec<u8>, blocks: u32, second: &Option<Block>) -> Result<
 
 #[cycle(statements)]
 fn push_while(text: &mut Vec<u8>, blocks: u32, test: &Expr, body: &Block) -> Result<(), AllocError>
-    requires { suc blocks + (checked body.now).size ≤ 4097 }
-    ensures { OnOk result (text.new.items ≡ text.old.items ++ (line blocks (codes "while " & expr_text test.now & codes " {") & block_text body.now (suc blocks) & line blocks (codes "}"))) }
+    requires { suc blocks + (checked body.now).size ≤ most_nodes + 1 }
+    ensures { OnOk result (text.new.items ≡ text.old.items ++ while_text test.now (block_text body.now) blocks) }
 {
     push_while_line(text, blocks, test)?;
     push_statements(text, blocks + 1, body.items())?;

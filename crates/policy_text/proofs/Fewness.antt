@@ -3,7 +3,7 @@ use Rattle.std.proofs.Common.{◌≡◌, ℕ, suc, ◌+◌, ◌≤◌, Bool, tru
 use Rattle.std.specs.Prelude.{nat_lt}
 use Rattle.std.proofs.lemmas.Bool.Decides.{nat_tests}
 use Rattle.policy_grammar.specs.Grammar.{File}
-use Rattle.policy_limits.specs.declared.fault.FaultKind.TheVariants.{TooLong}
+use Rattle.maple_base.specs.declared.policy_fault.PolicyFault.TheVariants.{TooLong}
 use Rattle.policy_limits.specs.Counts.{Count, of_none, tables_counts, learning_counts, statements_counts}
 use Rattle.policy_limits.specs.Limits.{Passed, passed_or, first_passed, first_limit}
 

@@ -4,9 +4,10 @@ use Rattle.std.specs.Prelude.{IfOk}
 use Rattle.policy_lang.specs.declared.Policy.{Policy}
 use Rattle.policy_lang.specs.declared.faults.Fault.{Fault as CodeFault}
 use Rattle.policy_lang.specs.Blocks.{statements_of}
-use Rattle.policy_lang.specs.Faults.{Site, Fault, number_of, checked, name_faults, first_by, IsWellFormed}
-use Rattle.policy_lang.specs.Walks.{rule_of, site_of, told}
-use Rattle.policy_tokens.specs.declared.token.Place.{Place}
+use Rattle.maple_base.specs.PolicyFaults.{number_of}
+use Rattle.policy_lang.specs.Faults.{Site, Fault, checked, name_faults, first_by, IsWellFormed}
+use Rattle.policy_lang.specs.Walks.{site_of, told}
+use Rattle.policy_tokens.specs.declared.token.Position.{Position}
 use Rattle.policy_tokens.specs.declared.token.Token.{Token}
 use Rattle.policy_tokens.specs.Tokens.{TokenList}
 use Rattle.policy_grammar.specs.declared.event.Event.{Event}
@@ -15,11 +16,11 @@ use Rattle.policy_limits.specs.Limits.{IsOutline}
 use Rattle.policy_tree.specs.declared.building.Parts.{Parts}
 use Rattle.policy_tree.specs.Building.{ArePartsOf, Made, IsMade}
 use Rattle.policy_tree.specs.Trees.{AreTrees}
-use Rattle.policy_places.specs.Places.{TextPlaces, places_of, place_in, place_of}
+use Rattle.policy_places.specs.Places.{TextOrder, places_of, place_in, place_of}
 use Rattle.tree_laws.proofs.Passed.{none_is_passed}
 use Rattle.policy_text.specs.declared.reading.ReadError.{ReadError}
 use Rattle.policy_text.specs.declared.reading.ReadError.TheVariants.{Refused}
-use Rattle.policy_text.specs.Texts.{plain, token_place, IsFileOf, IsPolicyOf, IsWrong}
+use Rattle.policy_text.specs.Texts.{plain, token_position, IsFileOf, IsPolicyOf, IsWrong}
 use Rattle.policy_text.proofs.Fewness.{few_tables}
 use Rattle.policy_text.proofs.Telling.{well_formed}
 
@@ -62,19 +63,19 @@ module _ (tokens : List Token) (events : List Event) (counts : List Count) (o : 
       }
   policy_built parts p named (Err e) t l b = tt
 
--- the first fault of names and types is told at its place
-pub named_wrong : (list : TokenList) (events : List Event) (counts : List Count) (o : IsOutline (plain list) events counts) (parts : Parts) (places : TextPlaces) (names : List (List ℕ)) (f : CodeFault) (place : Place) (kind : ℕ)
+-- the first fault of names and types is told at its position
+pub named_wrong : (list : TokenList) (events : List Event) (counts : List Count) (o : IsOutline (plain list) events counts) (parts : Parts) (places : TextOrder) (names : List (List ℕ)) (f : CodeFault) (position : Position) (kind : ℕ)
     → ArePartsOf o.file parts → places ≡ places_of o.file → names ≡ parts.tables.items → told (Some f) ≡ first_by (place_in places) (name_faults names parts.body)
-    → place ≡ token_place list (place_in places (site_of f.site)) → kind ≡ number_of (rule_of f.rule) → IsWrong list (Refused place.line place.column kind)
-named_wrong list events counts o parts places names f place kind p is n e l k =
+    → position ≡ token_position list (place_in places (site_of f.site)) → kind ≡ number_of f.kind → IsWrong list (Refused position.line position.column kind)
+named_wrong list events counts o parts places names f position kind p is n e l k =
     inr (record {
       file = o.file;
       is_file = is_file (plain list) events counts o;
       body = parts.body;
       tree = p.body;
-      fault = record { rule = rule_of f.rule; site = site_of f.site };
+      fault = record { kind = f.kind; site = site_of f.site };
       first =
           sym (e ∙ ap (λ t. first_by (place_in t) (name_faults names parts.body)) is ∙ ap (λ ns. first_by (place_of o.file) (name_faults ns parts.body)) (n ∙ p.tables));
-      lies = l ∙ ap (λ t. token_place list (place_in t (site_of f.site))) is;
+      lies = l ∙ ap (λ t. token_position list (place_in t (site_of f.site))) is;
       number = k;
     })

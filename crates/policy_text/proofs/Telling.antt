@@ -8,15 +8,14 @@ use Rattle.policy_lang.specs.declared.Policy.{Policy}
 use Rattle.policy_lang.specs.Blocks.{statements_of}
 use Rattle.policy_lang.specs.Faults.{Fault, Checked, checked, tables_faults, table_names, name_faults, first_by, IsWellFormed}
 use Rattle.policy_tokens.specs.declared.token.Token.{Token}
-use Rattle.policy_tokens.specs.declared.token.Place.{Place}
-use Rattle.policy_tokens.specs.declared.fault.FaultKind.{FaultKind as TokenFault}
+use Rattle.policy_tokens.specs.declared.token.Position.{Position}
 use Rattle.policy_tokens.specs.declared.fault.TokensError.TheVariants.{Fault as token_fault}
 use Rattle.policy_tokens.specs.Faults.{faults, earliest, told, IsErrorOf}
 use Rattle.policy_tokens.specs.Tokens.{TokenList, tokens_of}
 use Rattle.policy_grammar.specs.Grammar.{File, Begins}
 use Rattle.policy_grammar.proofs.OneFile.{one_file}
-use Rattle.policy_limits.specs.declared.fault.FaultKind.{FaultKind}
-use Rattle.policy_limits.specs.declared.fault.FaultKind.TheVariants.{Syntax, Nesting, Nodes, TooLong}
+use Rattle.maple_base.specs.declared.policy_fault.PolicyFault.{PolicyFault}
+use Rattle.maple_base.specs.declared.policy_fault.PolicyFault.TheVariants.{Syntax, Nesting, Nodes, TooLong}
 use Rattle.policy_limits.specs.Limits.{first_limit, IsFirstWrong, IsPassedBy, PassesWhole, PassesAhead, IsFault}
 use Rattle.policy_tree.specs.Trees.{AreTrees}
 use Rattle.tree_laws.specs.Laws.{NoneIsPassed, CheckedAlike}
@@ -33,8 +32,8 @@ same_file tokens f g h k = one_file f g h.body k.body (sym h.same ∙ k.same)
 
 -- ---- the first pass
 
-no_token_fault : (text : List ℕ) (place : Place) (kind : TokenFault) → IsErrorOf text (token_fault place kind) → faults text ≡ [] → ⊥
-no_token_fault text place kind h none =
+no_token_fault : (text : List ℕ) (position : Position) (kind : PolicyFault) → IsErrorOf text (token_fault position kind) → faults text ≡ [] → ⊥
+no_token_fault text position kind h none =
     let first : option_map (told text) (earliest (faults text)) ≡ None = ap (λ fs. option_map (told text) (earliest fs)) none in
     let both = sym first ∙ h in cc
 
@@ -55,32 +54,33 @@ no_wrong tokens f i h w = by_place (cases_lt_or_same i (length tokens) w.within)
     by_place (inl lt) = w.next lt (begun tokens f (suc i) h)
     by_place (inr same) = w.whole same (record { file = f; body = h.body; same = h.same })
 
-no_whole : (tokens : List Token) (f : File) (i : ℕ) (kind : FaultKind) → IsFileOf f tokens → PassesWhole tokens i kind → ⊥
+no_whole : (tokens : List Token) (f : File) (i : ℕ) (kind : PolicyFault) → IsFileOf f tokens → PassesWhole tokens i kind → ⊥
 no_whole tokens f i kind h p =
     let same : p.file ≡ f = one_file p.file f p.body h.body (sym p.same ∙ h.same) in
     let both = sym h.free ∙ sym (ap first_limit same) ∙ p.first in cc
 
-no_ahead : (tokens : List Token) (f : File) (i : ℕ) (kind : FaultKind) → IsFileOf f tokens → PassesAhead tokens i kind → ⊥
+no_ahead : (tokens : List Token) (f : File) (i : ℕ) (kind : PolicyFault) → IsFileOf f tokens → PassesAhead tokens i kind → ⊥
 no_ahead tokens f i kind h p =
     subst (IsPassedBy i) h.free (p.each f (record { body = h.body; rest = drop p.wrong tokens; same = sym h.same ∙ sym (take-append-drop p.wrong tokens) }))
 
-no_limit : (tokens : List Token) (f : File) (i : ℕ) (kind : FaultKind) → IsFileOf f tokens → PassesWhole tokens i kind ⊎ PassesAhead tokens i kind → ⊥
+no_limit : (tokens : List Token) (f : File) (i : ℕ) (kind : PolicyFault) → IsFileOf f tokens → PassesWhole tokens i kind ⊎ PassesAhead tokens i kind → ⊥
 no_limit tokens f i kind h (inl p) = no_whole tokens f i kind h p
 no_limit tokens f i kind h (inr p) = no_ahead tokens f i kind h p
 
-no_fault : (tokens : List Token) (f : File) (i : ℕ) (kind : FaultKind) → IsFileOf f tokens → IsFault tokens i kind → ⊥
+no_fault : (tokens : List Token) (f : File) (i : ℕ) (kind : PolicyFault) → IsFileOf f tokens → IsFault tokens i kind → ⊥
 no_fault tokens f i Syntax h p = no_wrong tokens f i h p.is_wrong
 no_fault tokens f i Nesting h p = no_limit tokens f i Nesting h p
 no_fault tokens f i Nodes h p = no_limit tokens f i Nodes h p
 no_fault tokens f i TooLong h p = no_limit tokens f i TooLong h p
+no_fault tokens f i kind h p = absurd p
 
 -- ---- the third pass
 
 abbrev names_of : List (List ℕ) → Checked → List Fault
 names_of tables c = tables_faults [] tables ++ c.wrong (table_names tables) 1
 
-no_name_fault : CheckedAlike → (list : TokenList) (policy : Policy) (place : Place) (kind : ℕ) → IsPolicyOf policy (plain list) → IsNameFault list place kind → ⊥
-no_name_fault alike list policy place kind h w =
+no_name_fault : CheckedAlike → (list : TokenList) (policy : Policy) (position : Position) (kind : ℕ) → IsPolicyOf policy (plain list) → IsNameFault list position kind → ⊥
+no_name_fault alike list policy position kind h w =
     let same : w.file ≡ h.file = same_file (plain list) w.file h.file w.is_file h.is_file in
     let tree : AreTrees h.file.body (statements_of w.body) = subst (λ (f : File). AreTrees f.body (statements_of w.body)) same w.tree in
     let is : checked w.body ≡ checked policy.body = alike h.file.body w.body policy.body tree h.body in
@@ -90,10 +90,10 @@ no_name_fault alike list policy place kind h w =
 
 -- ---- what is told is told of no text of a policy
 
-no_told : CheckedAlike → (text : List ℕ) (place : Place) (kind : ℕ) → IsTold text place kind → HasNoPolicy text
-no_told alike text place kind (inl t) policy h = no_token_fault text place t.fault t.first h.faultless
-no_told alike text place kind (inr (none, inl t)) policy h = no_fault (plain (tokens_of text)) h.is_policy.file t.token t.fault h.is_policy.is_file t.first
-no_told alike text place kind (inr (none, inr t)) policy h = no_name_fault alike (tokens_of text) policy place kind h.is_policy t
+no_told : CheckedAlike → (text : List ℕ) (position : Position) (kind : ℕ) → IsTold text position kind → HasNoPolicy text
+no_told alike text position kind (inl t) policy h = no_token_fault text position t.fault t.first h.faultless
+no_told alike text position kind (inr (none, inl t)) policy h = no_fault (plain (tokens_of text)) h.is_policy.file t.token t.fault h.is_policy.is_file t.first
+no_told alike text position kind (inr (none, inr t)) policy h = no_name_fault alike (tokens_of text) policy position kind h.is_policy t
 
 pub refused : CheckedAlike → (text : List ℕ) (line column kind : ℕ) → IsTold text (record { line = line; column = column }) kind → IsRefused text (Refused line column kind)
 refused alike text line column kind t = (no_told alike text (record { line = line; column = column }) kind t, t)

@@ -4,6 +4,7 @@ use Rattle.maple_base.specs.declared.key.Key.{Key}
 use Rattle.maple_base.specs.declared.cells.Cell.{Cell}
 use Rattle.maple_base.specs.declared.cells.Value.{Value}
 use Rattle.maple_base.specs.declared.decision.Outcome.TheVariants.{Spent}
+use Rattle.maple_base.specs.PolicyLimits.{most_nodes}
 use Rattle.policy_lang.specs.declared.Policy.{Policy}
 use Rattle.policy_lang.specs.Evaluation.{block_ending, eval_of}
 use Rattle.policy_lang.specs.Plain.{is_plain}
@@ -43,4 +44,4 @@ NodesSuffice = (policy : Policy) (env : Cell → Value) (switch : ℕ) (k : Key)
 
 -- with 4,096 steps no plain policy that has a text runs out of steps, at any key
 abbrev pub NeverSpent : Type 0
-NeverSpent = (text : List ℕ) (policy : Policy) → IsTextOf policy text → is_plain policy ≡ true → (env : Cell → Value) (switch : ℕ) (k : Key) → eval_of policy 4096 env switch k ≡ Spent → ⊥
+NeverSpent = (text : List ℕ) (policy : Policy) → IsTextOf policy text → is_plain policy ≡ true → (env : Cell → Value) (switch : ℕ) (k : Key) → eval_of policy most_nodes env switch k ≡ Spent → ⊥

@@ -1,21 +1,20 @@
--- Which policy a text is of, and what is told of a text that is of none. A text is tested in three passes: over its bytes, words and signs; over its grammar and its limits; over its names and types. The first pass that finds a fault decides, by the least place, and there by the least number.
+-- Which policy a text is of, and what is told of a text that is of none. A text is tested in three passes: over its bytes, words and signs; over its grammar and its limits; over its names and types. The first pass that finds a fault decides, by the first position, and there by the least number.
 use Rattle.std.specs.Prelude.{◌≡◌, ◌⊎◌, ℕ, map, List, [], Some, None, unwrap_or}
 use Rattle.std.specs.List.{slice_get}
 use Rattle.std.specs.Option.{option_map}
 use Rattle.policy_lang.specs.declared.Block.{Block}
 use Rattle.policy_lang.specs.declared.Policy.{Policy}
 use Rattle.policy_lang.specs.Blocks.{statements_of}
-use Rattle.policy_lang.specs.Faults.{Fault, number_of, name_faults, first_by}
+use Rattle.maple_base.specs.declared.policy_fault.PolicyFault.{PolicyFault}
+use Rattle.maple_base.specs.PolicyFaults.{number_of}
+use Rattle.policy_lang.specs.Faults.{Fault, name_faults, first_by}
 use Rattle.policy_tokens.specs.declared.token.Token.{Token}
-use Rattle.policy_tokens.specs.declared.token.Place.{Place}
-use Rattle.policy_tokens.specs.declared.fault.FaultKind.{FaultKind as TokenFault}
+use Rattle.policy_tokens.specs.declared.token.Position.{Position}
 use Rattle.policy_tokens.specs.declared.fault.TokensError.TheVariants.{Fault as token_fault}
 use Rattle.policy_tokens.specs.Faults.{faults, IsErrorOf}
-use Rattle.policy_tokens.specs.Kinds.{number_of as number_of_token}
 use Rattle.policy_tokens.specs.Tokens.{TokenList, tokens_of}
 use Rattle.policy_grammar.specs.Grammar.{File, AreStatements, file_tokens}
-use Rattle.policy_limits.specs.declared.fault.FaultKind.{FaultKind as OutlineFault}
-use Rattle.policy_limits.specs.Limits.{number_of as number_of_outline, first_limit, IsFault}
+use Rattle.policy_limits.specs.Limits.{first_limit, IsFault}
 use Rattle.policy_tree.specs.Trees.{AreTrees}
 use Rattle.policy_places.specs.Places.{place_of}
 use Rattle.policy_text.specs.declared.reading.ReadError.{ReadError}
@@ -48,39 +47,39 @@ pub record IsTextOf (policy : Policy) (text : List ℕ) : Type 0 where
 
 -- ---- what is told of other texts
 
--- the place of the token that has so many ahead of it, and that of the end where all are ahead
-abbrev pub token_place : TokenList → ℕ → Place
-token_place list i = unwrap_or (option_map (λ t. t.place) (slice_get list.tokens i)) list.end
+-- the position of the token that has so many ahead of it, and that of the end where all are ahead
+abbrev pub token_position : TokenList → ℕ → Position
+token_position list i = unwrap_or (option_map (λ t. t.position) (slice_get list.tokens i)) list.end
 
 -- the first pass finds this fault
-pub record IsTokenFault (text : List ℕ) (place : Place) (kind : ℕ) : Type 0 where
-  pub fault : TokenFault
-  pub first : IsErrorOf text (token_fault place fault)
-  pub number : kind ≡ number_of_token fault
+pub record IsTokenFault (text : List ℕ) (position : Position) (kind : ℕ) : Type 0 where
+  pub fault : PolicyFault
+  pub first : IsErrorOf text (token_fault position fault)
+  pub number : kind ≡ number_of fault
 
 -- the second pass finds it
-pub record IsOutlineFault (list : TokenList) (place : Place) (kind : ℕ) : Type 0 where
+pub record IsOutlineFault (list : TokenList) (position : Position) (kind : ℕ) : Type 0 where
   pub token : ℕ
-  pub fault : OutlineFault
+  pub fault : PolicyFault
   pub first : IsFault (plain list) token fault
-  pub lies : place ≡ token_place list token
-  pub number : kind ≡ number_of_outline fault
+  pub lies : position ≡ token_position list token
+  pub number : kind ≡ number_of fault
 
 -- the third pass finds it: in a syntax tree of the text
-pub record IsNameFault (list : TokenList) (place : Place) (kind : ℕ) : Type 0 where
+pub record IsNameFault (list : TokenList) (position : Position) (kind : ℕ) : Type 0 where
   pub file : File
   pub is_file : IsFileOf file (plain list)
   pub body : Block
   pub tree : AreTrees file.body (statements_of body)
   pub fault : Fault
   pub first : first_by (place_of file) (name_faults file.tables body) ≡ Some fault
-  pub lies : place ≡ token_place list (place_of file fault.site)
-  pub number : kind ≡ number_of fault.rule
+  pub lies : position ≡ token_position list (place_of file fault.site)
+  pub number : kind ≡ number_of fault.kind
 
 -- one pass finds it, and the passes ahead find nothing
-abbrev pub IsTold : List ℕ → Place → ℕ → Type 0
-IsTold text place kind =
-    IsTokenFault text place kind ⊎ ((faults text ≡ []) × (IsOutlineFault (tokens_of text) place kind ⊎ IsNameFault (tokens_of text) place kind))
+abbrev pub IsTold : List ℕ → Position → ℕ → Type 0
+IsTold text position kind =
+    IsTokenFault text position kind ⊎ ((faults text ≡ []) × (IsOutlineFault (tokens_of text) position kind ⊎ IsNameFault (tokens_of text) position kind))
 
 abbrev pub HasNoPolicy : List ℕ → Type 0
 HasNoPolicy text = (policy : Policy) → ¬ (IsTextOf policy text)

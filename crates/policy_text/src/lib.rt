@@ -4,8 +4,6 @@
 pub mod basic;
 pub mod laws;
 pub mod reading;
-#[cfg(test)]
-mod tests;
 
 pub use basic::is_basic;
 pub use laws::{one_policy, steps_law};

@@ -1,15 +1,16 @@
 // Reads the text of a policy.
 ghost use Rattle.std.specs.Prelude.{◌≡◌, ◌≤◌, length, IfOk, IfErr};
+ghost use Rattle.maple_base.specs.PolicyLimits.{most_tables};
 ghost use Rattle.policy_lang.specs.Faults.{IsWellFormed};
 ghost use Rattle.policy_limits.specs.Limits.{IsOutline};
 ghost use Rattle.policy_text.specs.declared.reading.ReadError.TheVariants.{Refused, NoMemory as no_memory};
-ghost use Rattle.policy_text.specs.Texts.{plain, token_place, IsTextOf, IsRefused, IsPolicyOf, IsWrong};
+ghost use Rattle.policy_text.specs.Texts.{plain, token_position, IsTextOf, IsRefused, IsPolicyOf, IsWrong};
 
 use maple_base::NoMemory;
-use policy_lang::{BuildError, Places, Policy, first_name_fault};
+use policy_lang::{BuildError, Policy, SiteOrder, first_name_fault};
 use policy_limits::{Outline, OutlineError, read_outline};
-use policy_places::TextPlaces;
-use policy_tokens::{Place, Tokens, TokensError, read_tokens};
+use policy_places::TextOrder;
+use policy_tokens::{Position, Tokens, TokensError, read_tokens};
 use policy_tree::{Parts, build};
 use std::alloc::Global;
 
@@ -43,34 +44,34 @@ impl From<NoMemory> for ReadError {
 /// The first fault of the text. It is tested in three passes, of which the first that finds a fault
 /// decides: over its bytes, words and signs (kinds 1, 2, 7 and the bytes of 10); over its grammar and
 /// its limits (3, 8, 9 and the tables of 10); over its names and types (4, 5, 6). In a pass the
-/// least place comes first, and at one place the least kind.
+/// first position decides, and at one position the least kind.
 pub fn read_policy(alloc: Global, text: &[u8]) -> Result<Policy, ReadError>
     ensures policy { IfOk result (λ policy. IsTextOf policy text.now) }
     ensures refused { IfErr result (IsRefused text.now) }
 {
     match read_tokens(alloc, text) {
         Ok(tokens) => policy_of(alloc, &tokens),
-        Err(TokensError::Fault { place, kind }) => Err(refused(place, kind.number())),
+        Err(TokensError::Fault { position, kind }) => Err(refused(position, kind.number())),
         Err(TokensError::NoMemory) => Err(ReadError::NoMemory),
     }
 }
 
-fn refused(place: Place, kind: u8) -> ReadError
-    ensures { result ≡ Refused place.line place.column kind }
+fn refused(position: Position, kind: u8) -> ReadError
+    ensures { result ≡ Refused position.line position.column kind }
 {
     ReadError::Refused {
-        line: place.line,
-        column: place.column,
+        line: position.line,
+        column: position.column,
         kind,
     }
 }
 
-// The place of the token that has so many ahead of it, or of the end.
-fn token_place(tokens: &Tokens, index: u64) -> Place
-    ensures { result ≡ token_place tokens.now index }
+// The position of the token that has so many ahead of it, or of the end.
+fn token_position(tokens: &Tokens, index: u64) -> Position
+    ensures { result ≡ token_position tokens.now index }
 {
     match tokens.items().get(index as usize) {
-        Some(token) => token.place,
+        Some(token) => token.position,
         None => tokens.end(),
     }
 }
@@ -83,7 +84,7 @@ fn policy_of(alloc: Global, tokens: &Tokens) -> Result<Policy, ReadError>
     match read_outline(alloc, tokens.items()) {
         Ok(outline) => outlined_policy(alloc, tokens, &outline),
         Err(OutlineError::Fault { token, kind }) => {
-            Err(refused(token_place(tokens, token as u64), kind.number()))
+            Err(refused(token_position(tokens, token as u64), kind.number()))
         }
         Err(OutlineError::NoMemory) => Err(ReadError::NoMemory),
     }
@@ -99,11 +100,11 @@ fn outlined_policy(alloc: Global, tokens: &Tokens, outline: &Outline) -> Result<
     let Some(parts) = build(alloc, &outline.events)? else {
         return Err(ReadError::NoMemory);
     };
-    let places = TextPlaces::new(alloc, &outline.counts, tokens.items(), &parts.tables)?;
-    match first_name_fault(alloc, &parts.tables, &parts.body, &places)? {
+    let order = TextOrder::new(alloc, &outline.counts, tokens.items(), &parts.tables)?;
+    match first_name_fault(alloc, &parts.tables, &parts.body, &order)? {
         Some(fault) => {
-            let place = token_place(tokens, places.place(fault.site));
-            Err(refused(place, fault.rule.number()))
+            let position = token_position(tokens, order.index(fault.site));
+            Err(refused(position, fault.kind.number()))
         }
         None => built_policy(alloc, parts),
     }
@@ -111,7 +112,7 @@ fn outlined_policy(alloc: Global, tokens: &Tokens, outline: &Outline) -> Result<
 
 // The policy of parts that are well formed; `build` finds nothing wrong with them again.
 fn built_policy(alloc: Global, parts: Parts) -> Result<Policy, ReadError>
-    requires few { length parts.tables.items ≤ 16 }
+    requires few { length parts.tables.items ≤ most_tables }
     requires formed { IsWellFormed parts.tables.items parts.body }
     ensures tables { IfOk result (λ policy. policy.tables ≡ parts.tables.items) }
     ensures learning { IfOk result (λ policy. policy.learning ≡ parts.learning) }

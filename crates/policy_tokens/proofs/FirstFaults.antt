@@ -5,16 +5,16 @@ use Rattle.std.specs.Result.{result_err}
 use Rattle.std.specs.List.{filter_map, cons_option}
 use Rattle.std.proofs.lemmas.Bool.{cond_both, cases_Bool, le-ltb, or_from, and_right, lt-ltb, or_left, or_right, and_from, eq-eqb, cases_lt}
 use Rattle.policy_tokens.specs.declared.token.Token.{Token}
-use Rattle.policy_tokens.specs.declared.token.Place.{Place}
-use Rattle.policy_tokens.specs.declared.fault.FaultKind.{FaultKind}
-use Rattle.policy_tokens.specs.declared.fault.FaultKind.TheVariants.{NotAscii, Token as no_token, NumberRange, TooLong}
+use Rattle.policy_tokens.specs.declared.token.Position.{Position}
+use Rattle.maple_base.specs.declared.policy_fault.PolicyFault.{PolicyFault}
+use Rattle.maple_base.specs.declared.policy_fault.PolicyFault.TheVariants.{NotAscii, Token as no_token, Syntax, UnknownName, Twice, TypeMismatch, NumberRange, Nesting, Nodes, TooLong}
 use Rattle.policy_tokens.specs.declared.fault.TokensError.TheVariants.{Fault as fault}
 use Rattle.policy_tokens.specs.Bytes.{is_text_byte}
-use Rattle.policy_tokens.specs.Kinds.{number_of}
+use Rattle.maple_base.specs.PolicyFaults.{number_of}
 use Rattle.policy_tokens.specs.Lexemes.{Lexeme, lexeme, begun, past_behind, lexemes_from}
-use Rattle.policy_tokens.specs.Places.{place_at}
+use Rattle.policy_tokens.specs.Positions.{position_at}
 use Rattle.policy_tokens.specs.Words.{token_of}
-use Rattle.policy_tokens.specs.Faults.{Fault, fault_at, strange_bytes, too_long, lexeme_fault, faults, is_before, earliest, told}
+use Rattle.policy_tokens.specs.Faults.{Fault, fault_at, strange_bytes, too_long, lexeme_fault, faults, is_before, earliest, told, is_of_tokens}
 use Rattle.policy_tokens.specs.Reading.{some_token, token_begun, front_token}
 use Rattle.policy_tokens.proofs.Firsts.{From, NoneBefore, BeforeAll, From-weaker, NoneBefore-from_later, BeforeAll-from_later, NoneBefore-append, earliest_head, earliest_behind}
 use Rattle.policy_tokens.proofs.Steps.{word_faults, faults_from, faults_step}
@@ -27,7 +27,7 @@ strange_from offset (b ∷ bs) =
     let later = From-weaker offset (offset + 1) rest (omega arith) (strange_from (offset + 1) bs) in
     cond_both (is_text_byte b) rest (fault_at offset NotAscii ∷ rest) (From offset) (λ _. later) (λ _. (omega arith, later))
 
-result_from : (offset : ℕ) (r : Result Token FaultKind) (fs : List Fault) → From offset fs → From offset (cons_option (option_map (fault_at offset) (result_err r)) fs)
+result_from : (offset : ℕ) (r : Result Token PolicyFault) (fs : List Fault) → From offset fs → From offset (cons_option (option_map (fault_at offset) (result_err r)) fs)
 result_from offset (Ok x) fs h = h
 result_from offset (Err k) fs h = (omega arith, h)
 
@@ -44,10 +44,16 @@ words_from past offset (b ∷ bs) =
     (From-weaker offset (offset + 1) (word_faults next (offset + 1) bs) (omega arith) (words_from next (offset + 1) bs))
 
 -- no kind has a lesser number than a byte that may not stand in a text
-number_above : (k : FaultKind) → 1 ≤ number_of k
+number_above : (k : PolicyFault) → 1 ≤ number_of k
 number_above NotAscii = omega arith
 number_above no_token = omega arith
+number_above Syntax = omega arith
+number_above UnknownName = omega arith
+number_above Twice = omega arith
+number_above TypeMismatch = omega arith
 number_above NumberRange = omega arith
+number_above Nesting = omega arith
+number_above Nodes = omega arith
 number_above TooLong = omega arith
 
 strange_none : (offset : ℕ) (fs : List Fault) → From offset fs → NoneBefore (fault_at offset NotAscii) fs
@@ -60,7 +66,7 @@ long_from offset text le =
     cond_both (ltb 65536 (length text)) (fault_at 65536 TooLong ∷ []) [] (From offset) (λ _. (le, tt)) (λ _. tt)
 
 -- a fault of a word or a sign comes before the text is too long
-long_behind : (offset : ℕ) (k : FaultKind) (text : List ℕ) → offset ≤ 65536 → number_of k < 10 → BeforeAll (fault_at offset k) (too_long text)
+long_behind : (offset : ℕ) (k : PolicyFault) (text : List ℕ) → offset ≤ 65536 → number_of k < 10 → BeforeAll (fault_at offset k) (too_long text)
 long_behind offset k text le few =
     let first : is_before (fault_at offset k) (fault_at 65536 TooLong) ≡ true =
     ⊎_elim
@@ -81,20 +87,20 @@ strange_first text past offset b bs f le =
     (strange_none offset (too_long text) (long_from offset text le))
     (strange_none offset words (words_from past offset (b ∷ bs)))))
 
-record IsNoToken (o : Option (List ℕ)) (k : FaultKind) : Type 0 where
+record IsNoToken (o : Option (List ℕ)) (k : PolicyFault) : Type 0 where
   bytes : List ℕ
   begins : o ≡ Some bytes
   fails : token_of bytes ≡ Err k
 
-failed : (r : Result Token FaultKind) (k : FaultKind) → some_token r ≡ Err k → r ≡ Err k
+failed : (r : Result Token PolicyFault) (k : PolicyFault) → some_token r ≡ Err k → r ≡ Err k
 failed (Ok x) k h = absurd (cc)
 failed (Err j) k h = cc
 
-no_token_begun : (o : Option (List ℕ)) (k : FaultKind) → token_begun o ≡ Err k → IsNoToken o k
+no_token_begun : (o : Option (List ℕ)) (k : PolicyFault) → token_begun o ≡ Err k → IsNoToken o k
 no_token_begun None k h = absurd (cc)
 no_token_begun (Some w) k h = record { bytes = w; begins = refl; fails = failed (token_of w) k h }
 
-word_first : (text : List ℕ) (past offset b : ℕ) (bs : List ℕ) (k : FaultKind) → is_text_byte b ≡ true → token_begun (begun past (b ∷ bs)) ≡ Err k → offset ≤ 65536
+word_first : (text : List ℕ) (past offset b : ℕ) (bs : List ℕ) (k : PolicyFault) → is_text_byte b ≡ true → token_begun (begun past (b ∷ bs)) ≡ Err k → offset ≤ 65536
     → earliest (faults_from text past offset (b ∷ bs)) ≡ Some (fault_at offset k)
 word_first text past offset b bs k t e le =
     let h = no_token_begun (begun past (b ∷ bs)) k e in
@@ -107,14 +113,14 @@ word_first text past offset b bs k t e le =
     ∙ earliest_behind rest (fault_at offset k) (too_long text ++ (fault_at offset k ∷ words))
     (BeforeAll-from_later (fault_at offset k) rest (strange_from (offset + 1) bs))
     (earliest_behind (too_long text) (fault_at offset k) (fault_at offset k ∷ words)
-    (long_behind offset k text le (kind_of_words h.bytes k h.fails))
+    (long_behind offset k text le (kind_of_words h.bytes k h.fails).0)
     (earliest_head (fault_at offset k) words (NoneBefore-from_later (fault_at offset k) words (words_from next (offset + 1) bs))))
 
-front_first : (text : List ℕ) (past offset b : ℕ) (bs : List ℕ) (k : FaultKind) → front_token past b bs ≡ Err k → offset ≤ 65536
+front_first : (text : List ℕ) (past offset b : ℕ) (bs : List ℕ) (k : PolicyFault) → front_token past b bs ≡ Err k → offset ≤ 65536
     → earliest (faults_from text past offset (b ∷ bs)) ≡ Some (fault_at offset k)
 front_first text past offset b bs k e le =
     let r = token_begun (begun past (b ∷ bs)) in
-    let strange : Result (Option Token) FaultKind = Err NotAscii in
+    let strange : Result (Option Token) PolicyFault = Err NotAscii in
     ⊎_elim
     (λ t. word_first text past offset b bs k t (sym (ap (λ v. cond v r strange) t) ∙ e) le)
     (λ f.
@@ -124,7 +130,7 @@ front_first text past offset b bs k e le =
     (cases_Bool (is_text_byte b))
 
 -- what is wrong at a byte is the first fault from there on
-pub error_first : (text : List ℕ) (past offset : ℕ) (rest : List ℕ) (k : FaultKind) → 0 < length rest → offset ≤ 65536 → front_token past (get_or rest 0 0) (drop 1 rest) ≡ Err k
+pub error_first : (text : List ℕ) (past offset : ℕ) (rest : List ℕ) (k : PolicyFault) → 0 < length rest → offset ≤ 65536 → front_token past (get_or rest 0 0) (drop 1 rest) ≡ Err k
     → earliest (faults_from text past offset rest) ≡ Some (fault_at offset k)
 error_first text past offset [] k l le e = absurd (omega arith)
 error_first text past offset (b ∷ bs) k l le e = front_first text past offset b bs k e le
@@ -143,12 +149,25 @@ too_long_first text past rest token l long e =
     (BeforeAll-from_later (fault_at 65536 TooLong) strange (strange_from (65536 + 1) bs))
     (earliest_head (fault_at 65536 TooLong) words (NoneBefore-from_later (fault_at 65536 TooLong) words (words_from next (65536 + 1) bs)))
 
--- the error with the fault's kind and place tells it
-pub error_told : (text : List ℕ) (fs : List Fault) (offset : ℕ) (kind : FaultKind) (place : Place) → place ≡ place_at text offset → fs ≡ faults text → earliest fs ≡ Some (fault_at offset kind)
-    → option_map (told text) (earliest (faults text)) ≡ Some (fault place kind)
-error_told text fs offset kind place p same e =
+-- the error with the fault's kind and position tells it
+pub error_told : (text : List ℕ) (fs : List Fault) (offset : ℕ) (kind : PolicyFault) (position : Position) → position ≡ position_at text offset → fs ≡ faults text → earliest fs ≡ Some (fault_at offset kind)
+    → option_map (told text) (earliest (faults text)) ≡ Some (fault position kind)
+error_told text fs offset kind position p same e =
     ap (λ x. option_map (told text) (earliest x)) (sym same) ∙ ap (option_map (told text)) e ∙ ap (λ q. Some (fault q kind)) (sym p)
 
 -- a text of at most 65,536 bytes is not too long
 pub not_long : (text : List ℕ) → length text ≤ 65536 → too_long text ≡ []
 not_long text le = ap (λ v. cond v (fault_at 65536 TooLong ∷ []) []) (le-ltb 65536 (length text) le)
+
+-- what is wrong at a byte is of a kind that bytes, words and signs have
+pub front_kind : (past b : ℕ) (bs : List ℕ) (k : PolicyFault) → front_token past b bs ≡ Err k → is_of_tokens k ≡ true
+front_kind past b bs k e =
+    let r = token_begun (begun past (b ∷ bs)) in
+    let strange : Result (Option Token) PolicyFault = Err NotAscii in
+    ⊎_elim
+    (λ t. let h = no_token_begun (begun past (b ∷ bs)) k (sym (ap (λ v. cond v r strange) t) ∙ e) in (kind_of_words h.bytes k h.fails).1)
+    (λ f.
+    let same : strange ≡ Err k = sym (ap (λ v. cond v r strange) f) ∙ e in
+    let kind : NotAscii ≡ k = cc in
+    ap is_of_tokens (sym kind))
+    (cases_Bool (is_text_byte b))

@@ -9,16 +9,16 @@ use Rattle.std.proofs.lemmas.List.{drop-drop}
 use Rattle.std.proofs.lemmas.List.Elements.{All-nil, All-cons}
 use Rattle.std.proofs.lemmas.List.Folds.{prefix_len-append}
 use Rattle.policy_tokens.specs.declared.token.Token.{Token}
-use Rattle.policy_tokens.specs.declared.token.Place.{Place}
+use Rattle.policy_tokens.specs.declared.token.Position.{Position}
 use Rattle.policy_tokens.specs.declared.token.PlacedToken.{PlacedToken}
-use Rattle.policy_tokens.specs.declared.fault.FaultKind.{FaultKind}
-use Rattle.policy_tokens.specs.declared.fault.FaultKind.TheVariants.{NotAscii}
+use Rattle.maple_base.specs.declared.policy_fault.PolicyFault.{PolicyFault}
+use Rattle.maple_base.specs.declared.policy_fault.PolicyFault.TheVariants.{NotAscii}
 use Rattle.policy_tokens.specs.Bytes.{is_word_byte, is_blank, is_text_byte, begins_lexeme, begins_comment, begins_equal, may_pair, ends_line}
 use Rattle.policy_tokens.specs.Lexemes.{Lexeme, lexeme, more, begun, past_behind, lexemes_from, lexemes_of}
 use Rattle.policy_tokens.specs.Laws.{words_of, goes_on, EndsAt, LexemesAreRead, BlanksAddNothing, CommentsAddNothing, LastCommentsAddNothing, LexemesStandThere, WordsDecide, IsFaultless}
 use Rattle.policy_tokens.specs.Words.{token_of}
 use Rattle.policy_tokens.specs.Faults.{Fault, fault_at, strange_bytes, lexeme_fault}
-use Rattle.policy_tokens.specs.Places.{place_at}
+use Rattle.policy_tokens.specs.Positions.{position_at}
 use Rattle.policy_tokens.specs.Tokens.{placed, placed_at}
 use Rattle.policy_tokens.proofs.FirstFaults.{not_long}
 
@@ -157,7 +157,7 @@ stands_from text past offset (b ∷ bs) e =
 pub stand_there : LexemesStandThere
 stand_there text = stands_from text 0 0 text refl
 
-put_token : (p : Place) (r : Result Token FaultKind) (ts : List PlacedToken) (us : List Token) → map (λ t. t.token) ts ≡ us
+put_token : (p : Position) (r : Result Token PolicyFault) (ts : List PlacedToken) (us : List Token) → map (λ t. t.token) ts ≡ us
     → map (λ t. t.token) (cons_option (option_map (placed_at p) (result_ok r)) ts) ≡ cons_option (result_ok r) us
 put_token p (Ok t) ts us h = ap (λ ws. t ∷ ws) h
 put_token p (Err k) ts us h = h
@@ -166,7 +166,7 @@ begun_token : (text : List ℕ) (offset : ℕ) (o : Option (List ℕ)) (ls : Lis
     → map (λ t. t.token) (filter_map (placed text) ls) ≡ filter_map (λ w. result_ok (token_of w)) (map (λ l. l.bytes) ls)
     → map (λ t. t.token) (filter_map (placed text) (cons_option (option_map (lexeme offset) o) ls)) ≡ filter_map (λ w. result_ok (token_of w)) (map (λ l. l.bytes) (cons_option (option_map (lexeme offset) o) ls))
 begun_token text offset None ls h = h
-begun_token text offset (Some w) ls h = put_token (place_at text offset) (token_of w) (filter_map (placed text) ls) (filter_map (λ w. result_ok (token_of w)) (map (λ l. l.bytes) ls)) h
+begun_token text offset (Some w) ls h = put_token (position_at text offset) (token_of w) (filter_map (placed text) ls) (filter_map (λ w. result_ok (token_of w)) (map (λ l. l.bytes) ls)) h
 
 tokens_at : (text : List ℕ) (past offset : ℕ) (rest : List ℕ)
     → map (λ t. t.token) (filter_map (placed text) (lexemes_from past offset rest)) ≡ filter_map (λ w. result_ok (token_of w)) (words_at past offset rest)
@@ -184,7 +184,7 @@ no_strange offset (b ∷ bs) h =
     let both = and_parts (is_text_byte b) (list_all is_text_byte bs) h in
     ap (λ v. cond v (strange_bytes (offset + 1) bs) (fault_at offset NotAscii ∷ strange_bytes (offset + 1) bs)) both.0 ∙ no_strange (offset + 1) bs both.1
 
-right_word : (offset : ℕ) (r : Result Token FaultKind) (fs : List Fault) → is_ok r ≡ true → cons_option (option_map (fault_at offset) (result_err r)) fs ≡ fs
+right_word : (offset : ℕ) (r : Result Token PolicyFault) (fs : List Fault) → is_ok r ≡ true → cons_option (option_map (fault_at offset) (result_err r)) fs ≡ fs
 right_word offset (Ok t) fs h = refl
 right_word offset (Err k) fs h = absurd (cc)
 

@@ -1,11 +1,12 @@
 -- Words of names and of parts.
-use Rattle.std.proofs.Common.{◌≡◌, ℕ, eqb, cond, true, false, List, [], ◌∷◌, Some, None, refl, sym, ap}
+use Rattle.std.proofs.Common.{◌≡◌, ℕ, eqb, cond, false, List, [], ◌∷◌, Some, None, refl, sym, ap}
 use Rattle.std.specs.Prelude.{◌↔◌, IsSome, IsTrue, codes}
 use Rattle.std.specs.Option.{option_map}
-use Rattle.std.specs.List.{find, slice_split, onto_first}
+use Rattle.std.specs.List.{find, slice_split}
 use Rattle.std.specs.Str.{bytes_eq}
 use Rattle.std.proofs.lemmas.Bool.{false_from_ne_true, false≢true}
 use Rattle.maple_base.specs.Names.{is_name}
+use Rattle.maple_text.proofs.PartsOf.{some_part}
 use Rattle.policy_tokens.specs.declared.token.Token.TheVariants.{Keyword as keyword_token, Name as name_token}
 use Rattle.policy_tokens.specs.Spellings.{keyword_text, keywords}
 use Rattle.policy_tokens.specs.Words.{plain_token, packet_token, place_token, parts_token}
@@ -21,25 +22,6 @@ pub other_parts : (front part : List ℕ) (parts : List (List ℕ)) → parts �
     → cond (is_name front) (place_token front part) None ≡ parts_token parts
 other_parts front part parts e f = rw e (sym (ap (λ t. cond t (packet_token part) (cond (is_name front) (place_token front part) None)) f))
 
--- a text has a part
-record HasPart (parts : List (List ℕ)) : Type 0 where
-  first : List ℕ
-  others : List (List ℕ)
-  is : parts ≡ first ∷ others
-
-onto_part : (b : ℕ) (parts : List (List ℕ)) → HasPart (onto_first b parts)
-onto_part b [] = record { first = b ∷ []; others = []; is = refl }
-onto_part b (p ∷ ps) = record { first = b ∷ p; others = ps; is = refl }
-
-some_part : (text : List ℕ) → HasPart (slice_split (λ b. eqb b 46) text)
-some_part [] = record { first = []; others = []; is = refl }
-some_part (b ∷ bs) =
-    let parts = slice_split (λ b. eqb b 46) bs in
-    elim (eqb b 46) as (λ t. HasPart (cond t ([] ∷ parts) (onto_first b parts))) [
-      | true ↦ record { first = []; others = parts; is = refl }
-      | false ↦ onto_part b parts
-    ]
-
 -- no token has three parts
 pub three_parts : (front part : List ℕ) (text : List ℕ) → parts_token (front ∷ part ∷ slice_split (λ b. eqb b 46) text) ≡ None
-three_parts front part text = let h = some_part text in rw h.is refl
+three_parts front part text = let h = some_part 46 text in rw h.is refl

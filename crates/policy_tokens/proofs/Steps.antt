@@ -4,13 +4,13 @@ use Rattle.std.specs.Option.{option_map, option_to_list}
 use Rattle.std.specs.Result.{result_ok, result_err}
 use Rattle.std.specs.List.{filter_map, cons_option}
 use Rattle.policy_tokens.specs.declared.token.Token.{Token}
-use Rattle.policy_tokens.specs.declared.token.Place.{Place}
+use Rattle.policy_tokens.specs.declared.token.Position.{Position}
 use Rattle.policy_tokens.specs.declared.token.PlacedToken.{PlacedToken}
-use Rattle.policy_tokens.specs.declared.fault.FaultKind.{FaultKind}
-use Rattle.policy_tokens.specs.declared.fault.FaultKind.TheVariants.{NotAscii}
+use Rattle.maple_base.specs.declared.policy_fault.PolicyFault.{PolicyFault}
+use Rattle.maple_base.specs.declared.policy_fault.PolicyFault.TheVariants.{NotAscii}
 use Rattle.policy_tokens.specs.Bytes.{is_text_byte}
 use Rattle.policy_tokens.specs.Lexemes.{Lexeme, lexeme, begun, past_behind, lexemes_from}
-use Rattle.policy_tokens.specs.Places.{place_at}
+use Rattle.policy_tokens.specs.Positions.{position_at}
 use Rattle.policy_tokens.specs.Words.{token_of}
 use Rattle.policy_tokens.specs.Faults.{Fault, fault_at, strange_bytes, too_long, lexeme_fault, faults}
 use Rattle.policy_tokens.specs.Tokens.{placed, placed_at}
@@ -42,7 +42,7 @@ read past b bs token e =
     ]) is in
     at (is_text_byte b) refl e
 
-faultless : (offset : ℕ) (r : Result Token FaultKind) (t : Option Token) (fs : List Fault) → some_token r ≡ Ok t → cons_option (option_map (fault_at offset) (result_err r)) fs ≡ fs
+faultless : (offset : ℕ) (r : Result Token PolicyFault) (t : Option Token) (fs : List Fault) → some_token r ≡ Ok t → cons_option (option_map (fault_at offset) (result_err r)) fs ≡ fs
 faultless offset (Ok x) t fs h = refl
 faultless offset (Err k) t fs h = absurd (cc)
 
@@ -51,15 +51,15 @@ begun_faultless : (offset : ℕ) (o : Option (List ℕ)) (t : Option Token) (ls 
 begun_faultless offset None t ls h = refl
 begun_faultless offset (Some w) t ls h = faultless offset (token_of w) t (filter_map lexeme_fault ls) h
 
-put : (p : Place) (r : Result Token FaultKind) (t : Option Token) (ts : List PlacedToken) → some_token r ≡ Ok t
+put : (p : Position) (r : Result Token PolicyFault) (t : Option Token) (ts : List PlacedToken) → some_token r ≡ Ok t
     → cons_option (option_map (placed_at p) (result_ok r)) ts ≡ option_to_list (option_map (placed_at p) t) ++ ts
 put p (Ok x) t ts h = let e : Some x ≡ t = cc in ap (λ o. option_to_list (option_map (placed_at p) o) ++ ts) e
 put p (Err k) t ts h = absurd (cc)
 
 begun_put : (text : List ℕ) (offset : ℕ) (o : Option (List ℕ)) (t : Option Token) (ls : List Lexeme) → token_begun o ≡ Ok t
-    → filter_map (placed text) (cons_option (option_map (lexeme offset) o) ls) ≡ option_to_list (option_map (placed_at (place_at text offset)) t) ++ filter_map (placed text) ls
-begun_put text offset None t ls h = let e : None ≡ t = cc in ap (λ o. option_to_list (option_map (placed_at (place_at text offset)) o) ++ filter_map (placed text) ls) e
-begun_put text offset (Some w) t ls h = put (place_at text offset) (token_of w) t (filter_map (placed text) ls) h
+    → filter_map (placed text) (cons_option (option_map (lexeme offset) o) ls) ≡ option_to_list (option_map (placed_at (position_at text offset)) t) ++ filter_map (placed text) ls
+begun_put text offset None t ls h = let e : None ≡ t = cc in ap (λ o. option_to_list (option_map (placed_at (position_at text offset)) o) ++ filter_map (placed text) ls) e
+begun_put text offset (Some w) t ls h = put (position_at text offset) (token_of w) t (filter_map (placed text) ls) h
 
 -- a byte that is right leaves the faults to those behind it
 pub faults_step : (text : List ℕ) (past offset : ℕ) (rest : List ℕ) (token : Option Token) → 0 < length rest → front_token past (get_or rest 0 0) (drop 1 rest) ≡ Ok token
@@ -73,7 +73,7 @@ faults_step text past offset (b ∷ bs) token l e =
 -- and puts its token ahead of those behind it
 pub tokens_step : (text : List ℕ) (past offset : ℕ) (rest : List ℕ) (token : Option Token) → 0 < length rest → front_token past (get_or rest 0 0) (drop 1 rest) ≡ Ok token
     → filter_map (placed text) (lexemes_from past offset rest)
-    ≡ option_to_list (option_map (placed_at (place_at text offset)) token) ++ filter_map (placed text) (lexemes_from (past_behind past (get_or rest 0 0) (drop 1 rest)) (offset + 1) (drop 1 rest))
+    ≡ option_to_list (option_map (placed_at (position_at text offset)) token) ++ filter_map (placed text) (lexemes_from (past_behind past (get_or rest 0 0) (drop 1 rest)) (offset + 1) (drop 1 rest))
 tokens_step text past offset [] token l e = absurd (omega arith)
 tokens_step text past offset (b ∷ bs) token l e =
     let h = read past b bs token e in

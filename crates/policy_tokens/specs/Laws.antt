@@ -5,6 +5,7 @@ use Rattle.std.specs.List.{filter_map, list_all}
 use Rattle.maple_base.specs.FieldNames.{name_of}
 use Rattle.maple_base.specs.Names.{is_name}
 use Rattle.maple_base.specs.declared.key.Field.{Field}
+use Rattle.maple_base.specs.PolicyLimits.{most_bytes}
 use Rattle.policy_tokens.specs.declared.token.Keyword.{Keyword}
 use Rattle.policy_tokens.specs.declared.token.Sign.{Sign}
 use Rattle.policy_tokens.specs.declared.token.Token.TheVariants.{Keyword as keyword_token, Name as name_token, Field as field_token, PacketSwitch, SwitchOf, PortOf, Sign as sign_token}
@@ -15,7 +16,7 @@ use Rattle.policy_tokens.specs.Faults.{faults}
 use Rattle.policy_tokens.specs.Tokens.{tokens_of}
 use Rattle.policy_tokens.specs.Spellings.{keyword_text, sign_text}
 
--- the words and signs of a text, without their places
+-- the words and signs of a text, without their positions
 abbrev pub words_of : List ℕ → List (List ℕ)
 words_of text = map (λ l. l.bytes) (lexemes_of text)
 
@@ -55,14 +56,14 @@ LastCommentsAddNothing = (comment : List ℕ) → list_all (λ b. not (ends_line
 abbrev pub LexemesStandThere : Type 0
 LexemesStandThere = (text : List ℕ) → All (λ l. take (length l.bytes) (drop l.offset text) ≡ l.bytes) (lexemes_of text)
 
--- the words and signs of a text decide its tokens, but for their places
+-- the words and signs of a text decide its tokens, but for their positions
 abbrev pub WordsDecide : Type 0
 WordsDecide = (text : List ℕ) → map (λ t. t.token) (tokens_of text).tokens ≡ filter_map (λ w. result_ok (token_of w)) (words_of text)
 
 -- a text has no fault where it is not too long, each byte may stand in it, and each word and sign is a token
 abbrev pub IsFaultless : Type 0
 IsFaultless =
-    (text : List ℕ) → list_all is_text_byte text ≡ true → length text ≤ 65536 → list_all (λ w. is_ok (token_of w)) (words_of text) ≡ true → faults text ≡ []
+    (text : List ℕ) → list_all is_text_byte text ≡ true → length text ≤ most_bytes → list_all (λ w. is_ok (token_of w)) (words_of text) ≡ true → faults text ≡ []
 
 -- each token but the numbers, of which each has many spellings, is read from its spelling
 abbrev pub KeywordsAreRead : Type 0

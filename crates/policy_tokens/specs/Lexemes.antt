@@ -28,7 +28,7 @@ past_behind (suc past) b bs = past
 abbrev pub lexeme : ℕ → List ℕ → Lexeme
 lexeme offset bytes = record { offset = offset; bytes = bytes }
 
--- the words and signs from a place in the text on, of whose bytes so many belong to what began before
+-- the words and signs from a position in the text on, of whose bytes so many belong to what began before
 abbrev pub lexemes_from : ℕ → ℕ → List ℕ → List Lexeme
 lexemes_from past offset [] = []
 lexemes_from past offset (b ∷ bs) = cons_option (option_map (lexeme offset) (begun past (b ∷ bs))) (lexemes_from (past_behind past b bs) (offset + 1) bs)

@@ -9,7 +9,7 @@ pub fn layout_laws()
     ensures blanks { BlanksAddNothing }
     ensures comments { CommentsAddNothing }
     ensures last_comment { LastCommentsAddNothing }
-    ensures places { LexemesStandThere }
+    ensures positions { LexemesStandThere }
     ensures tokens { WordsDecide }
     ensures faultless { IsFaultless }
 {}

@@ -71,20 +71,20 @@ pub enum Token {
     Sign(Sign),
 }
 
-/// A place in a text. Places are ordered as they stand in the text.
+/// A line and a column of a text. Positions are ordered as they stand in the text.
 #[derive(Clone, Copy, Debug, PartialEq, Eq, PartialOrd, Ord)]
-pub struct Place {
+pub struct Position {
     /// The line, from 1.
     pub line: u32,
     /// The column, from 1, counted in bytes.
     pub column: u32,
 }
 
-/// A token, and the place of its first byte.
+/// A token, and the position of its first byte.
 #[derive(Clone, Copy, Debug, PartialEq, Eq)]
 pub struct PlacedToken {
     pub token: Token,
-    pub place: Place,
+    pub position: Position,
 }
 
 impl Keyword {

@@ -2,14 +2,14 @@
 ghost use Rattle.std.specs.Prelude.{◌≡◌};
 ghost use Rattle.policy_tokens.specs.Tokens.{TokenList};
 
-use crate::{Place, PlacedToken};
+use crate::{PlacedToken, Position};
 use std::marker::Model;
 
-/// The tokens of a text in order, and the place of its end.
+/// The tokens of a text in order, and the position of its end.
 #[derive(Drop)]
 pub struct Tokens {
     list: Vec<PlacedToken>,
-    end: Place,
+    end: Position,
 }
 
 impl Model for Tokens {
@@ -21,8 +21,8 @@ impl Model for Tokens {
 }
 
 impl Tokens {
-    // These tokens, and this place of the end.
-    pub(crate) fn new(list: Vec<PlacedToken>, end: Place) -> Tokens
+    // These tokens, and this end.
+    pub(crate) fn new(list: Vec<PlacedToken>, end: Position) -> Tokens
         ensures tokens { result.tokens ≡ list.items }
         ensures end { result.end ≡ end }
     {
@@ -36,8 +36,8 @@ impl Tokens {
         &self.list
     }
 
-    /// The place behind the text.
-    pub fn end(&self) -> Place
+    /// The position behind the text.
+    pub fn end(&self) -> Position
         ensures { result ≡ self.now.end }
     {
         self.end

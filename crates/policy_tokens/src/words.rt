@@ -3,13 +3,14 @@ ghost use Rattle.std.specs.Prelude.{◌≡◌, ◌==◌, ◌∷◌, [], ◌<◌,
 ghost use Rattle.std.specs.List.{find, slice_split};
 ghost use Rattle.std.specs.Str.{bytes_eq};
 ghost use Rattle.maple_base.specs.Names.{is_name};
-ghost use Rattle.maple_base.specs.Numbers.{numeral_of};
+ghost use Rattle.maple_text.specs.Numbers.{numeral_of};
 ghost use Rattle.policy_tokens.specs.Spellings.{keyword_text, keywords, sign_text, signs};
 ghost use Rattle.policy_tokens.specs.Words.{plain_token, packet_token, place_token, parts_token, numeral_token, token_or, word_token, sign_of, begins_word, token_of};
 
 use crate::bytes::is_word_byte;
-use crate::{FaultKind, Keyword, Sign, Token};
-use maple_base::{Field, Name, Numeral, cut, numeral_of};
+use crate::{Keyword, Sign, Token};
+use maple_base::{Field, Name, PolicyFault};
+use maple_text::{Numeral, cut, numeral_of};
 
 const KEYWORDS: [Keyword; 22] = [
     Keyword::Table,
@@ -55,7 +56,7 @@ const SIGNS: [Sign; 15] = [
 ];
 
 /// The token that a word or a sign is.
-pub fn token_of(bytes: &[u8]) -> Result<Token, FaultKind>
+pub fn token_of(bytes: &[u8]) -> Result<Token, PolicyFault>
     ensures { result ≡ token_of bytes.now }
 {
     if begins_word(bytes) {
@@ -74,7 +75,7 @@ fn begins_word(bytes: &[u8]) -> bool
     }
 }
 
-fn word_token(word: &[u8]) -> Result<Token, FaultKind>
+fn word_token(word: &[u8]) -> Result<Token, PolicyFault>
     ensures { result ≡ word_token word.now }
 {
     if let Some(token) = plain_token(word) {
@@ -160,22 +161,22 @@ fn place_token(name: Name, part: &[u8]) -> Option<Token>
     }
 }
 
-fn numeral_token(word: &[u8]) -> Result<Token, FaultKind>
+fn numeral_token(word: &[u8]) -> Result<Token, PolicyFault>
     ensures { result ≡ numeral_token (numeral_of word.now) }
 {
     match numeral_of(word) {
         Some(Numeral::Number(number)) => Ok(Token::Number(number)),
-        Some(Numeral::TooGreat) => Err(FaultKind::NumberRange),
-        None => Err(FaultKind::Token),
+        Some(Numeral::TooGreat) => Err(PolicyFault::NumberRange),
+        None => Err(PolicyFault::Token),
     }
 }
 
-fn sign_of(bytes: &[u8]) -> Result<Token, FaultKind>
+fn sign_of(bytes: &[u8]) -> Result<Token, PolicyFault>
     ensures { result ≡ sign_of bytes.now }
 {
     match find_sign(&SIGNS, bytes) {
         Some(sign) => Ok(Token::Sign(sign)),
-        None => Err(FaultKind::Token),
+        None => Err(PolicyFault::Token),
     }
 }
 

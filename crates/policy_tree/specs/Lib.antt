@@ -1,3 +1,5 @@
+-- A reader must believe: Building (what `build` gives), Trees (the syntax tree of what is written).
+-- Machine, Piles and Stands serve private contracts and proofs alone.
 pub mod Building
 pub mod Machine
 pub mod Piles

@@ -109,9 +109,13 @@ abbrev pub out : List Phrase → State → Option State
 out [] w = None
 out (a ∷ more) w = act (written.Out a more) w
 
+-- the most expressions of an `out`
+abbrev pub most_exprs : ℕ
+most_exprs = 16
+
 -- so many expressions of these many make an `out`
 abbrev pub is_out : ℕ → ℕ → Bool
-is_out n count = nat_le 1 n && (nat_le n 16 && nat_le n count)
+is_out n count = nat_le 1 n && (nat_le n most_exprs && nat_le n count)
 
 -- an `out` of the last so many expressions
 abbrev pub outs : ℕ → State → Option State

@@ -3,8 +3,8 @@ use Rattle.std.specs.Prelude.{◌≡◌, List, [], ◌∷◌, Option, Some, None
 use Rattle.maple_base.specs.declared.key.Field.{Field}
 use Rattle.policy_tokens.specs.declared.token.Token.{Token}
 use Rattle.policy_tokens.specs.declared.token.Token.TheVariants.{Keyword as keyword, Name as name, Field as field, PacketSwitch as packet_switch, SwitchOf as switch_of, PortOf as port_of, Number as number, Sign as sign}
-use Rattle.policy_grammar.specs.declared.operator.Operator.{Operator}
-use Rattle.policy_grammar.specs.declared.operator.Operator.TheVariants as operator
+use Rattle.maple_base.specs.declared.operator.Operator.{Operator}
+use Rattle.maple_base.specs.declared.operator.Operator.TheVariants as operator
 use Rattle.policy_grammar.specs.Grammar as written
 use Rattle.policy_grammar.specs.Grammar.{Callee, Up, At, Phrase, Single, Call, Group, Negation, Test, Pair, Question, Action, Statements, Nothing, Plain, If, IfElse, While, File}
 use Rattle.policy_lang.specs.declared.Expr.{Expr}
@@ -37,8 +37,8 @@ parts_of operator.Equal (Equal' p l q r) = Some (l, r)
 parts_of operator.NotEqual (NotEqual' p l q r) = Some (l, r)
 parts_of operator.Less (Less' p l q r) = Some (l, r)
 parts_of operator.LessEqual (LessEqual' p l q r) = Some (l, r)
-parts_of operator.Plus (Add' p l q r) = Some (l, r)
-parts_of operator.Minus (Sub' p l q r) = Some (l, r)
+parts_of operator.Add (Add' p l q r) = Some (l, r)
+parts_of operator.Sub (Sub' p l q r) = Some (l, r)
 parts_of o e = None
 
 abbrev pub call_parts : Callee → Expr → Option (Expr × Expr)

@@ -62,8 +62,8 @@ fn pair_of(alloc: Global, operator: Operator, left: Expr, right: Expr) -> Result
         Operator::NotEqual => Expr::NotEqual(left, right),
         Operator::Less => Expr::Less(left, right),
         Operator::LessEqual => Expr::LessEqual(left, right),
-        Operator::Plus => Expr::Add(left, right),
-        Operator::Minus => Expr::Sub(left, right),
+        Operator::Add => Expr::Add(left, right),
+        Operator::Sub => Expr::Sub(left, right),
     })
 }
 

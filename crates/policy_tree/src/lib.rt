@@ -7,7 +7,5 @@ mod heads;
 mod pile;
 mod state;
 mod statements;
-#[cfg(test)]
-mod tests;
 
 pub use building::{Parts, build};

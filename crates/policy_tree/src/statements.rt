@@ -10,11 +10,14 @@ use policy_lang::{Block, Exprs, Statement};
 use std::alloc::Global;
 use std::mem;
 
+// The most expressions of an `out`.
+const MOST_EXPRS: usize = 16;
+
 // Whether so many expressions, of those that there are, make an `out`.
 fn is_out(count: usize, len: usize) -> bool
     ensures { result ≡ is_out count len }
 {
-    count >= 1 && count <= 16 && count <= len
+    count >= 1 && count <= MOST_EXPRS && count <= len
 }
 
 impl Builder {

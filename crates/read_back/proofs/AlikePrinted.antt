@@ -1,7 +1,7 @@
 -- Two trees of the same statements are printed alike.
 use Rattle.std.proofs.Common.{◌≡◌, ℕ, suc, List, [], ◌∷◌, codes, refl, sym, ap, ◌∙◌}
-use Rattle.policy_grammar.specs.declared.operator.Operator.{Operator}
-use Rattle.policy_grammar.specs.declared.operator.Operator.TheVariants as operator
+use Rattle.maple_base.specs.declared.operator.Operator.{Operator}
+use Rattle.maple_base.specs.declared.operator.Operator.TheVariants as operator
 use Rattle.policy_grammar.specs.Grammar.{Callee, Up, At, Phrase, Statements}
 use Rattle.policy_lang.specs.declared.Expr.{Expr}
 use Rattle.policy_lang.specs.declared.Block.{Block}
@@ -29,14 +29,14 @@ call_spelled Up l r = (5, call_text (codes "up") l.1 r.1)
 call_spelled At l r = (5, call_text (codes "at") l.1 r.1)
 
 abbrev pair_spelled : Operator → Spelled → Spelled → Spelled
-pair_spelled operator.Or l r = (0, around (codes "or") l.1 (put 1 r))
+pair_spelled operator.Or l r = (0, around (codes "or") (put 0 l) (put 1 r))
 pair_spelled operator.And l r = (1, around (codes "and") (put 1 l) (put 2 r))
 pair_spelled operator.Equal l r = (3, around (codes "==") (put 4 l) (put 4 r))
 pair_spelled operator.NotEqual l r = (3, around (codes "!=") (put 4 l) (put 4 r))
 pair_spelled operator.Less l r = (3, around (codes "<") (put 4 l) (put 4 r))
 pair_spelled operator.LessEqual l r = (3, around (codes "<=") (put 4 l) (put 4 r))
-pair_spelled operator.Plus l r = (4, around (codes "+") (put 4 l) (put 5 r))
-pair_spelled operator.Minus l r = (4, around (codes "-") (put 4 l) (put 5 r))
+pair_spelled operator.Add l r = (4, around (codes "+") (put 4 l) (put 5 r))
+pair_spelled operator.Sub l r = (4, around (codes "-") (put 4 l) (put 5 r))
 
 calls_spelled : (c : Callee) (p : Boxed) (l : Expr) (q : Boxed) (r : Expr) → spelled (called c p l q r) ≡ call_spelled c (spelled l) (spelled r)
 calls_spelled Up p l q r = refl

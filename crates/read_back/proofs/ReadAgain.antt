@@ -4,7 +4,7 @@ use Rattle.std.specs.Prelude.{Bool, if◌then◌else◌, codes}
 use Rattle.std.specs.List.{flat_map, filter_map}
 use Rattle.std.proofs.lemmas.Bool.{lt-ltb, cases_lt}
 use Rattle.policy_lang.specs.declared.Policy.{Policy}
-use Rattle.policy_tokens.specs.declared.fault.FaultKind.TheVariants.{TooLong}
+use Rattle.maple_base.specs.declared.policy_fault.PolicyFault.TheVariants.{TooLong}
 use Rattle.policy_tokens.specs.Faults.{fault_at, strange_bytes, too_long, lexeme_fault, faults}
 use Rattle.policy_tokens.specs.Lexemes.{lexemes_of}
 use Rattle.policy_print.specs.Printed.{◌&◌, table_text, opening, Lines, block_text, policy_text}

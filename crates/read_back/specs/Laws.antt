@@ -1,5 +1,6 @@
 -- What is printed of a policy is read back.
 use Rattle.std.specs.Prelude.{◌≡◌, ℕ, ◌≤◌, ◌<◌, List, length}
+use Rattle.maple_base.specs.PolicyLimits.{most_bytes}
 use Rattle.policy_lang.specs.declared.Policy.{Policy}
 use Rattle.policy_lang.specs.Courses.{block_course}
 use Rattle.policy_lang.specs.Evaluation.{block_ending}
@@ -13,7 +14,7 @@ use Rattle.policy_text.specs.declared.reading.ReadError.TheVariants.{Refused, No
 
 -- where the printed form of a policy has at most 65,536 bytes, that form is a text of the policy itself
 abbrev pub IsReadBack : Policy → Type 0
-IsReadBack p = length (policy_text p) ≤ 65536 → IsTextOf p (policy_text p)
+IsReadBack p = length (policy_text p) ≤ most_bytes → IsTextOf p (policy_text p)
 
 -- two policies mean the same and are printed the same; as values they may differ, by the addresses of their boxes and vectors
 pub record IsSame (p q : Policy) : Type 0 where
@@ -35,5 +36,5 @@ OneForm = (text : List ℕ) (p q : Policy) → IsTextOf p text → IsTextOf q te
 
 -- a printed form is refused for its length alone, as a text of its length is, or memory ran out
 abbrev pub IsTooLong : Policy → ReadError → Type 0
-IsTooLong p (Refused line column kind) = (65536 < length (policy_text p)) × IsRefused (policy_text p) (Refused line column kind)
+IsTooLong p (Refused line column kind) = (most_bytes < length (policy_text p)) × IsRefused (policy_text p) (Refused line column kind)
 IsTooLong p NoMemory = Unit {0}

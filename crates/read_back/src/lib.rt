@@ -2,10 +2,9 @@
 #![tactic(auto)]
 
 mod sound;
-#[cfg(test)]
-mod tests;
 
 ghost use Rattle.std.specs.Prelude.{◌≡◌, ◌≤◌, length, IfOk, OnOk, IfErr};
+ghost use Rattle.maple_base.specs.PolicyLimits.{most_bytes};
 ghost use Rattle.policy_print.specs.Printed.{policy_text};
 ghost use Rattle.policy_text.specs.Texts.{IsTextOf};
 ghost use Rattle.read_back.specs.Laws.{IsReadBack, IsSame, IsTooLong, OneForm};
@@ -50,7 +49,7 @@ fn printed(alloc: Global, policy: &Policy) -> Result<Vec<u8>, NoMemory>
 pub fn reread(alloc: Global, policy: &Policy) -> Result<Policy, ReadError>
     ensures same { IfOk result (λ again. IsSame policy.now again) }
     ensures text { IfOk result (λ again. IsTextOf again (policy_text policy.now)) }
-    ensures short { OnOk result (length (policy_text policy.now) ≤ 65536) }
+    ensures short { OnOk result (length (policy_text policy.now) ≤ most_bytes) }
     ensures refused { IfErr result (λ error. IsTooLong policy.now error) }
 {
     reads_back(policy);

@@ -9,21 +9,23 @@ use Rattle.maple_base.specs.declared.decision.Decision.TheVariants.{Path}
 use Rattle.maple_base.specs.declared.key.Field.{Field}
 use Rattle.maple_base.specs.declared.key.Field.TheVariants.{DlSrc, DlDst, DlType, NwSrc, NwDst}
 use Rattle.maple_base.specs.declared.key.Match.{Match}
+use Rattle.maple_base.specs.declared.update_refused.UpdateRefused.{UpdateRefused}
+use Rattle.maple_base.specs.declared.update_refused.UpdateRefused.TheVariants.{UnknownTable, UnknownSwitch, PortRange, Full as full}
 use Rattle.maple_base.specs.Decisions.{actions_at}
 use Rattle.maple_base.specs.FieldNames.{name_of, all_fields}
 use Rattle.maple_base.specs.Keys.{fixed_of}
+use Rattle.maple_base.specs.PolicyFaults.{fault_name}
+use Rattle.maple_base.specs.Ports.{flood_port, controller_port}
 use Rattle.report_text.specs.declared.line.Line.{Line}
 use Rattle.report_text.specs.declared.line.Line.TheVariants.{Open, Closed, Ready, State, RefusedUpdate, RefusedPolicy, RefusedScript, Error, Quiet, Malformed, TooBig, Overload, Answer, Spent, Stale, Hit, Miss, Turned, Settled, Unsettled, Absent, Gone, Present, Rule, Rules, End}
 use Rattle.report_text.specs.declared.line.Why.{Why}
 use Rattle.report_text.specs.declared.line.Why.TheVariants.{Bad, Version, Twice, Full, Clear, Early, Xids, Link, Fault}
 use Rattle.report_text.specs.declared.line.Learnt.{Learnt}
 use Rattle.report_text.specs.declared.line.Learnt.TheVariants.{Learned, Known, Levels, Rows, Quiet as quiet}
-use Rattle.report_text.specs.declared.line.UpdateRefusal.{UpdateRefusal}
-use Rattle.report_text.specs.declared.line.UpdateRefusal.TheVariants.{UnknownTable, UnknownSwitch, PortRange, Full as full}
 use Rattle.report_text.specs.declared.line.PolicyRefusal.{PolicyRefusal}
-use Rattle.report_text.specs.declared.line.PolicyRefusal.TheVariants.{NotAscii, Token, Syntax, UnknownName, Twice as twice, TypeMismatch, NumberRange, Nesting, Nodes, TooLong, Later}
+use Rattle.report_text.specs.declared.line.PolicyRefusal.TheVariants.{Fault as policy_fault, Later}
 use Rattle.report_text.specs.declared.line.ScriptRefusal.{ScriptRefusal}
-use Rattle.report_text.specs.declared.line.ScriptRefusal.TheVariants.{Grammar, TooLong as too_long, Switch, Later as later}
+use Rattle.report_text.specs.declared.line.ScriptRefusal.TheVariants.{Grammar, TooLong, Switch, Later as later}
 
 -- one text and then another
 infixr 8 ◌&◌
@@ -87,9 +89,9 @@ is_free (t ∷ ts) = false
 unfoldable pub spelled_match : Match → List ℕ
 spelled_match m = if is_free (fixed_texts m all_fields) then codes "any" else joined (codes ",") (fixed_texts m all_fields)
 
--- a port by itself has a word where it floods or sends to the controller (OpenFlow Switch Specification 1.0.0, 5.2.1)
+-- a port by itself has a word where it floods or sends to the controller
 abbrev pub spelled_port : ℕ → List ℕ
-spelled_port p = if p == 0xfffb then codes "flood" else (if p == 0xfffd then codes "barrier" else codes "out " & decimal p)
+spelled_port p = if p == flood_port then codes "flood" else (if p == controller_port then codes "barrier" else codes "out " & decimal p)
 
 unfoldable pub spelled_actions : List ℕ → List ℕ
 spelled_actions [] = codes "drop"
@@ -121,28 +123,19 @@ spelled_why Xids = codes "xids"
 spelled_why Link = codes "link"
 spelled_why Fault = codes "fault"
 
-unfoldable pub spelled_update : UpdateRefusal → List ℕ
+unfoldable pub spelled_update : UpdateRefused → List ℕ
 spelled_update UnknownTable = codes "UnknownTable"
 spelled_update UnknownSwitch = codes "UnknownSwitch"
 spelled_update PortRange = codes "PortRange"
 spelled_update (full count limit) = codes "Full " & decimal count & codes " " & decimal limit
 
 unfoldable pub spelled_policy : PolicyRefusal → List ℕ
-spelled_policy NotAscii = codes "NotAscii"
-spelled_policy Token = codes "Token"
-spelled_policy Syntax = codes "Syntax"
-spelled_policy UnknownName = codes "UnknownName"
-spelled_policy twice = codes "Twice"
-spelled_policy TypeMismatch = codes "TypeMismatch"
-spelled_policy NumberRange = codes "NumberRange"
-spelled_policy Nesting = codes "Nesting"
-spelled_policy Nodes = codes "Nodes"
-spelled_policy TooLong = codes "TooLong"
+spelled_policy (policy_fault fault) = fault_name fault
 spelled_policy Later = codes "Later"
 
 unfoldable pub spelled_script : ScriptRefusal → List ℕ
 spelled_script Grammar = codes "Grammar"
-spelled_script too_long = codes "TooLong"
+spelled_script TooLong = codes "TooLong"
 spelled_script Switch = codes "Switch"
 spelled_script later = codes "Later"
 

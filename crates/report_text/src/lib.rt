@@ -3,9 +3,7 @@
 
 mod line;
 mod match_text;
-#[cfg(test)]
-mod tests;
 mod writing;
 
-pub use line::{Learnt, Line, PolicyRefusal, ScriptRefusal, UpdateRefusal, Why};
+pub use line::{Learnt, Line, PolicyRefusal, ScriptRefusal, Why};
 pub use writing::write_line;

@@ -1,5 +1,5 @@
 // The lines of a report.
-use maple_base::{Actions, Decision, Match};
+use maple_base::{Actions, Decision, Match, PolicyFault, UpdateRefused};
 use std::fmt;
 
 /// A line of a report. Devices are named by their places among the devices, from 1 on; switches by
@@ -20,14 +20,14 @@ pub enum Line {
         device: u32,
         switch: u64,
     },
-    /// `state N pruned K`: a new state of the environment, and how many runs went with the old one.
+    /// `state N pruned K`: a new state of the environment, and how many traces went with the old one.
     State {
         state: u64,
         pruned: u32,
     },
     /// `refused update KIND`.
     RefusedUpdate {
-        kind: UpdateRefusal,
+        kind: UpdateRefused,
     },
     /// `refused policy L:C KIND`: a fault of a policy's text at this line and column, from 1 on.
     RefusedPolicy {
@@ -46,7 +46,7 @@ pub enum Line {
         kind: u16,
         code: u16,
     },
-    /// `quiet sS retired K`: the switch gets no more rules, and this many of its runs went.
+    /// `quiet sS retired K`: the switch gets no more rules, and this many of its traces went.
     Quiet {
         switch: u64,
         retired: u32,
@@ -160,39 +160,11 @@ pub enum Why {
     Fault,
 }
 
-/// Why an update of the environment was refused.
-#[derive(Clone, Copy, Debug, PartialEq, Eq)]
-pub enum UpdateRefusal {
-    UnknownTable,
-    UnknownSwitch,
-    PortRange,
-    /// `Full COUNT LIMIT`: there would be so many, past this limit.
-    Full { count: u64, limit: u64 },
-}
-
 /// Why the text of a policy was refused.
 #[derive(Clone, Copy, Debug, PartialEq, Eq)]
 pub enum PolicyRefusal {
-    /// A byte that is neither printable ASCII nor a blank.
-    NotAscii,
-    /// A word or a sign of no kind.
-    Token,
-    /// A token with which no policy can go on.
-    Syntax,
-    /// A name that isn't in force.
-    UnknownName,
-    /// A name that is declared while it is in force.
-    Twice,
-    /// An expression, or a name, of the wrong type.
-    TypeMismatch,
-    /// A number of 2^64 or more, or a dotted part past 255.
-    NumberRange,
-    /// A node more than 32 deep, or a parenthesis inside 64 open ones.
-    Nesting,
-    /// The 4,097th node.
-    Nodes,
-    /// The 65,537th byte, or the 17th table.
-    TooLong,
+    /// A fault of the text.
+    Fault(PolicyFault),
     /// What this program can't do yet.
     Later,
 }
@@ -213,9 +185,9 @@ pub enum ScriptRefusal {
 /// What was learned from a packet.
 #[derive(Clone, Copy, Debug, PartialEq, Eq)]
 pub enum Learnt {
-    /// `learned`: its run.
+    /// `learned`: its trace.
     Learned,
-    /// `known`: its run was there.
+    /// `known`: its trace was there.
     Known,
     /// `unlearned levels NEED LIMIT`: nothing, since the rules would need more priorities than the
     /// limit.
@@ -249,23 +221,6 @@ impl fmt::Display for Why {
     }
 }
 
-#[tactic(auto, unfolding(crate::specs::Report::spelled_update))]
-impl fmt::Display for UpdateRefusal {
-    ghost use Rattle.std.specs.Prelude.{Some};
-    ghost use Rattle.report_text.specs.Report.{spelled_update};
-
-    ghost output = { λ kind. Some (spelled_update kind) };
-
-    fn fmt<W: fmt::Write>(&self, f: &mut fmt::Formatter<W>) -> fmt::Result {
-        match self {
-            UpdateRefusal::UnknownTable => write!(f, "UnknownTable"),
-            UpdateRefusal::UnknownSwitch => write!(f, "UnknownSwitch"),
-            UpdateRefusal::PortRange => write!(f, "PortRange"),
-            UpdateRefusal::Full { count, limit } => write!(f, "Full {count} {limit}"),
-        }
-    }
-}
-
 #[tactic(auto, unfolding(crate::specs::Report::spelled_policy))]
 impl fmt::Display for PolicyRefusal {
     ghost use Rattle.std.specs.Prelude.{Some};
@@ -275,16 +230,7 @@ impl fmt::Display for PolicyRefusal {
 
     fn fmt<W: fmt::Write>(&self, f: &mut fmt::Formatter<W>) -> fmt::Result {
         match self {
-            PolicyRefusal::NotAscii => write!(f, "NotAscii"),
-            PolicyRefusal::Token => write!(f, "Token"),
-            PolicyRefusal::Syntax => write!(f, "Syntax"),
-            PolicyRefusal::UnknownName => write!(f, "UnknownName"),
-            PolicyRefusal::Twice => write!(f, "Twice"),
-            PolicyRefusal::TypeMismatch => write!(f, "TypeMismatch"),
-            PolicyRefusal::NumberRange => write!(f, "NumberRange"),
-            PolicyRefusal::Nesting => write!(f, "Nesting"),
-            PolicyRefusal::Nodes => write!(f, "Nodes"),
-            PolicyRefusal::TooLong => write!(f, "TooLong"),
+            PolicyRefusal::Fault(fault) => write!(f, "{fault}"),
             PolicyRefusal::Later => write!(f, "Later"),
         }
     }

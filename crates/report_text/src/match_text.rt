@@ -1,35 +1,20 @@
 // The text of a match in a report.
 ghost use Rattle.std.specs.Prelude.{◌≡◌, ◌<◌, ◌++◌, if◌then◌else◌, [], map, string_bytes, decimal, OnOk, codes};
 ghost use Rattle.std.specs.Int.{bytes_high_first};
-ghost use Rattle.maple_base.specs.FieldNames.{name_of, all_fields};
 ghost use Rattle.report_text.specs.Report.{behind, digit, pair, ethernet, dotted, four_digits, spelled_value, spelled_field, spelled_match, fixed_texts, joined, is_free};
 
 use maple_base::{Field, Match};
 use std::alloc::AllocError;
-
-const FIELDS: [Field; 11] = [
-    Field::InPort,
-    Field::DlSrc,
-    Field::DlDst,
-    Field::DlVlan,
-    Field::DlType,
-    Field::NwTos,
-    Field::NwProto,
-    Field::NwSrc,
-    Field::NwDst,
-    Field::TpSrc,
-    Field::TpDst,
-];
 
 /// Appends a match: `name=value` of each fixed field, joined by commas, or `any`.
 #[tactic(auto, unfolding(crate::specs::Report::spelled_match))]
 pub fn push_match(text: &mut String, of: &Match) -> Result<(), AllocError>
     ensures { OnOk result (string_bytes text.new ≡ string_bytes text.old ++ spelled_match of.now) }
 {
-    if fixes_none(&FIELDS, of) {
+    if fixes_none(&Field::ALL, of) {
         text.push_str("any")
     } else {
-        push_fixed(text, &FIELDS, of)
+        push_fixed(text, &Field::ALL, of)
     }
 }
 
@@ -67,27 +52,9 @@ fn push_comma_unless(text: &mut String, is_first: bool) -> Result<(), AllocError
 fn push_field(text: &mut String, field: Field, value: u64) -> Result<(), AllocError>
     ensures { OnOk result (string_bytes text.new ≡ string_bytes text.old ++ spelled_field field value) }
 {
-    text.push_str(name_of(field))?;
+    text.push_str(field.name())?;
     text.push_str("=")?;
     push_value(text, field, value)
-}
-
-fn name_of(field: Field) -> &'static str
-    ensures { result.now ≡ name_of field }
-{
-    match field {
-        Field::InPort => "in_port",
-        Field::DlSrc => "dl_src",
-        Field::DlDst => "dl_dst",
-        Field::DlVlan => "dl_vlan",
-        Field::DlType => "dl_type",
-        Field::NwTos => "nw_tos",
-        Field::NwProto => "nw_proto",
-        Field::NwSrc => "nw_src",
-        Field::NwDst => "nw_dst",
-        Field::TpSrc => "tp_src",
-        Field::TpDst => "tp_dst",
-    }
 }
 
 fn push_value(text: &mut String, field: Field, value: u64) -> Result<(), AllocError>

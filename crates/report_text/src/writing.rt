@@ -1,10 +1,12 @@
 // Writing the lines of a report.
 ghost use Rattle.std.specs.Prelude.{◌≡◌, ◌++◌, [], map, string_bytes, decimal, OnOk, OnErr, codes};
-ghost use Rattle.report_text.specs.Report.{◌&◌, behind, joined, spelled_match, spelled_port, spelled_actions, spelled_hop, spelled_decision, spelled_learnt, spelled};
+ghost use Rattle.report_text.specs.Report.{◌&◌, behind, joined, spelled_match, spelled_port, spelled_actions, spelled_hop, spelled_decision, spelled_learnt, spelled_update, spelled};
 
 use crate::line::{Learnt, Line, PolicyRefusal};
 use crate::match_text::push_match;
-use maple_base::{Actions, Decision, Match, NoMemory, Place};
+use maple_base::{
+    Actions, CONTROLLER_PORT, Decision, FLOOD_PORT, Match, NoMemory, Place, UpdateRefused,
+};
 use std::alloc::AllocError;
 
 /// Appends a line of a report, with its line feed.
@@ -31,7 +33,7 @@ fn push_line(text: &mut String, line: &Line) -> Result<(), AllocError>
         Line::Closed { device, why } => writeln!(text, "closed c{device} {why}"),
         Line::Ready { device, switch } => writeln!(text, "ready c{device} s{switch}"),
         Line::State { state, pruned } => writeln!(text, "state {state} pruned {pruned}"),
-        Line::RefusedUpdate { kind } => writeln!(text, "refused update {kind}"),
+        Line::RefusedUpdate { kind } => push_refused_update(text, *kind),
         Line::RefusedPolicy { line, column, kind } => {
             push_refused_policy(text, *line, *column, *kind)
         }
@@ -73,6 +75,26 @@ fn push_line(text: &mut String, line: &Line) -> Result<(), AllocError>
         } => { push_rule(text, *switch, *priority, *actions, of) }
         Line::Rules { switch, count } => writeln!(text, "rules s{switch} {count}"),
         Line::End => text.push_str("end\n"),
+    }
+}
+
+fn push_refused_update(text: &mut String, kind: UpdateRefused) -> Result<(), AllocError>
+    ensures { OnOk result (string_bytes text.new ≡ string_bytes text.old ++ spelled (Line.RefusedUpdate kind)) }
+{
+    text.push_str("refused update ")?;
+    push_update(text, kind)?;
+    text.push_str("\n")
+}
+
+#[tactic(auto, unfolding(crate::specs::Report::spelled_update))]
+fn push_update(text: &mut String, kind: UpdateRefused) -> Result<(), AllocError>
+    ensures { OnOk result (string_bytes text.new ≡ string_bytes text.old ++ spelled_update kind) }
+{
+    match kind {
+        UpdateRefused::UnknownTable => text.push_str("UnknownTable"),
+        UpdateRefused::UnknownSwitch => text.push_str("UnknownSwitch"),
+        UpdateRefused::PortRange => text.push_str("PortRange"),
+        UpdateRefused::Full { count, limit } => write!(text, "Full {count} {limit}"),
     }
 }
 
@@ -155,13 +177,13 @@ fn push_actions(text: &mut String, ports: &[u16]) -> Result<(), AllocError>
     }
 }
 
-// A port that is the only one (OpenFlow 1.0, 5.2.1, OFPP_FLOOD and OFPP_CONTROLLER).
+// A port that is the only one.
 fn push_port(text: &mut String, port: u16) -> Result<(), AllocError>
     ensures { OnOk result (string_bytes text.new ≡ string_bytes text.old ++ spelled_port port) }
 {
     match port {
-        0xfffb => text.push_str("flood"),
-        0xfffd => text.push_str("barrier"),
+        FLOOD_PORT => text.push_str("flood"),
+        CONTROLLER_PORT => text.push_str("barrier"),
         _ => write!(text, "out {port}"),
     }
 }

@@ -1,4 +1,4 @@
--- Which rules a further run brings.
+-- Which rules a further trace brings.
 use Rattle.std.proofs.Common.{◌≡◌, ℕ, zero, suc, ◌+◌, ◌≤◌, Bool, true, false, cond, List, [], ◌∷◌, length, refl, ap, ◌∙◌, ⊎_elim, arith}
 use Rattle.std.specs.Prelude.{◌==◌, ◌&&◌}
 use Rattle.std.proofs.lemmas.Bool.{cases_order, eq-eqb}
@@ -8,18 +8,13 @@ use Rattle.maple_base.specs.declared.items.Item.TheVariants.{Read, Test}
 use Rattle.maple_base.specs.Questions.{same_field}
 use Rattle.trace_tree.specs.declared.node.Leaf.{Leaf}
 use Rattle.trace_tree.specs.Shape.{Shape, Branches, Empty, Ends, Reads, Tests, NoBranch, Branch}
-use Rattle.trace_tree.specs.Growth.{change, insert, child, admits, IsBelow, IsOrdered, AreOrdered}
-use Rattle.trace_tree.proofs.Growths.{both, admits_Empty, child_ordered}
+use Rattle.trace_tree.specs.Growth.{change, insert, child, admits, IsOrdered, AreOrdered}
+use Rattle.trace_tree.specs.Walks.{behind}
+use Rattle.trace_tree.proofs.Growths.{both, admits_Empty, child_below, child_ordered}
 use Rattle.trace_tree.proofs.Children.{change_here, change_ahead, change_past}
 use Rattle.rule_builder.specs.Rules.{with_barrier, rules_needed}
-use Rattle.rule_builder.specs.Counts.{count_of, count_in, behind, barrier_at, barriers_with}
+use Rattle.rule_builder.specs.Counts.{count_of, count_in, barrier_at, barriers_with}
 use Rattle.rule_builder.proofs.Counted.{needed_count}
-
-child_past : (bs : Branches) (v w : ℕ) → v ≤ w → IsBelow w bs → child v bs ≡ Empty
-child_past NoBranch v w le h = refl
-child_past (Branch u t bs) v w le h =
-    let ne : (v == u) ≡ false = grind (arith, nat_tests) in
-    ap (λ b. cond b t (child v bs)) ne ∙ child_past bs v w le h.1
 
 change_count : (bs : Branches) (v : ℕ) (g : Shape → Shape) → AreOrdered bs → count_in (change v g bs) + count_of (child v bs) ≡ count_in bs + count_of (g (child v bs))
 change_count NoBranch v g o = omega arith
@@ -35,7 +30,7 @@ change_count (Branch w t bs) v g o =
     (λ lt.
     let le : v ≤ w = omega (arith, lt) in
     let ne : (v == w) ≡ false = grind (arith, nat_tests) in
-    let own : child v (Branch w t bs) ≡ Empty = ap (λ b. cond b t (child v bs)) ne ∙ child_past bs v w le o.0 in
+    let own : child v (Branch w t bs) ≡ Empty = ap (λ b. cond b t (child v bs)) ne ∙ child_below bs v w le o.0 in
     let a = ap count_of own in
     let b = ap (λ u. count_of (g u)) own in
     let e = ap count_in (change_ahead v g w t bs lt) in

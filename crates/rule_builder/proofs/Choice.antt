@@ -232,15 +232,15 @@ no_higher q r e s = grind (arith, nat_tests)
 abbrev match_of : Rule → Match
 match_of r = r.of
 
-abbrev run_actions : Trace → List ℕ
-run_actions x = fact_actions x.decision
+abbrev trace_actions : Trace → List ℕ
+trace_actions x = fact_actions x.decision
 
-abbrev run_match : Trace → Match
-run_match x = fixed_by x.items anything
+abbrev trace_match : Trace → Match
+trace_match x = fixed_by x.items anything
 
-module _ (runs : List Trace) (k : Key) (admitted : AreAdmitted Empty runs) (once : AllAskOnce runs) where
+module _ (traces : List Trace) (k : Key) (admitted : AreAdmitted Empty traces) (once : AllAskOnce traces) where
   abbrev tree : Shape
-  tree = scratch runs
+  tree = scratch traces
 
   abbrev facts : List Rule
   facts = facts_of tree anything 0
@@ -249,34 +249,34 @@ module _ (runs : List Trace) (k : Key) (admitted : AreAdmitted Empty runs) (once
   barriers = barriers_of tree anything 0
 
   tree_fresh : IsFresh tree anything
-  tree_fresh = grown_fresh runs Empty admitted once tt
+  tree_fresh = grown_fresh traces Empty admitted once tt
 
   tree_ordered : IsOrdered tree
-  tree_ordered = grown_ordered runs Empty tt
+  tree_ordered = grown_ordered traces Empty tt
 
   abbrev here : Option Rule
   here = fact_at tree k anything 0
 
-  -- the fact at the key does what the found run decided, and fixes what it fixed
-  here_does : option_map actions here ≡ option_map run_actions (found runs k)
-  here_does = fact_search tree k anything 0 ∙ ap (option_map leaf_actions) (search_scratch runs k admitted) ∙ twice (found runs k)
+  -- the fact at the key does what the found trace decided, and fixes what it fixed
+  here_does : option_map actions here ≡ option_map trace_actions (found traces k)
+  here_does = fact_search tree k anything 0 ∙ ap (option_map leaf_actions) (search_scratch traces k admitted) ∙ twice (found traces k)
     where
-      twice : (o : Option Trace) → option_map leaf_actions (option_map leaf_of o) ≡ option_map run_actions o
+      twice : (o : Option Trace) → option_map leaf_actions (option_map leaf_of o) ≡ option_map trace_actions o
       twice None = refl
       twice (Some x) = refl
 
-  here_fixes : option_map match_of here ≡ option_map run_match (found runs k)
-  here_fixes = fact_match tree k anything 0 ∙ match_found runs k anything admitted
+  here_fixes : option_map match_of here ≡ option_map trace_match (found traces k)
+  here_fixes = fact_match tree k anything 0 ∙ match_found traces k anything admitted
 
   -- what is claimed of a fact at the key
-  as_found : (r : Rule) (P : Type 0) → here ≡ Some r → Contains facts r → (o : Option Trace) → option_map actions here ≡ option_map run_actions o → option_map match_of here ≡ option_map run_match o → MatchOption o P (λ x. IsFactOf tree x r)
+  as_found : (r : Rule) (P : Type 0) → here ≡ Some r → Contains facts r → (o : Option Trace) → option_map actions here ≡ option_map trace_actions o → option_map match_of here ≡ option_map trace_match o → MatchOption o P (λ x. IsFactOf tree x r)
   as_found r P e c None does fixes = let h = sym (ap (option_map actions) e) ∙ does in absurd (cc)
   as_found r P e c (Some x) does fixes =
       let d = sym (ap (option_map actions) e) ∙ does in
       let f = sym (ap (option_map match_of) e) ∙ fixes in
       record { there = c; fixes = cc; does = cc }
 
-  -- a fact that no fitting barrier stands above is that of the found run
+  -- a fact that no fitting barrier stands above is that of the found trace
   chosen_fact : (r : Rule) → fits r k ≡ true → Contains facts r → ((q : Rule) → Contains barriers q → fits q k ≡ true → stands_above q r ≡ false) → here ≡ Some r
   chosen_fact r fit c top =
       unshielded_fact k r fit tree anything 0 tree_fresh tree_ordered c
@@ -293,22 +293,22 @@ module _ (runs : List Trace) (k : Key) (admitted : AreAdmitted Empty runs) (once
       let higher = top.above r c may.fitting in
       omega (arith, lower, higher)
 
-  exact_choice : (table : List Rule) (r : Rule) → HoldsRules tree table → MayChoose table k r → IsFoundRule runs k r
+  exact_choice : (table : List Rule) (r : Rule) → HoldsRules tree table → MayChoose table k r → IsFoundRule traces k r
   exact_choice table r holds may =
       ⊎_elim
-      (λ c. as_found r (Contains barriers r) (chosen_fact r may.fitting c (λ q h g. may.top q (holds.all q (Contains-append_right facts _ q h)) g)) c (found runs k) here_does here_fixes)
-      (λ c. as_barrier here refl (found runs k) here_does c)
+      (λ c. as_found r (Contains barriers r) (chosen_fact r may.fitting c (λ q h g. may.top q (holds.all q (Contains-append_right facts _ q h)) g)) c (found traces k) here_does here_fixes)
+      (λ c. as_barrier here refl (found traces k) here_does c)
       (Contains-append_cases facts barriers r (holds.only r may.there))
     where
-      as_barrier : (h : Option Rule) → h ≡ here → (o : Option Trace) → option_map actions here ≡ option_map run_actions o → Contains barriers r → MatchOption o (Contains barriers r) (λ x. IsFactOf tree x r)
+      as_barrier : (h : Option Rule) → h ≡ here → (o : Option Trace) → option_map actions here ≡ option_map trace_actions o → Contains barriers r → MatchOption o (Contains barriers r) (λ x. IsFactOf tree x r)
       as_barrier h e None f c = c
       as_barrier None e (Some x) f c = let g = ap (option_map actions) e ∙ f in absurd (cc)
       as_barrier (Some r') e (Some x) f c = absurd (no_barrier table r r' holds may (sym e) c)
 
-  between_choice : (table : List Rule) (r : Rule) → Shields tree table → MayChoose table k r → IsFoundOrBarrier runs k r
+  between_choice : (table : List Rule) (r : Rule) → Shields tree table → MayChoose table k r → IsFoundOrBarrier traces k r
   between_choice table r shields may =
-      ⊎_elim (λ b. as_barrier b (found runs k))
-      (λ c. as_fact (found runs k) (as_found r (IsBarrier r) (chosen_fact r may.fitting c (λ q h g. may.top q (shields.barriers q h) g)) c (found runs k) here_does here_fixes))
+      ⊎_elim (λ b. as_barrier b (found traces k))
+      (λ c. as_fact (found traces k) (as_found r (IsBarrier r) (chosen_fact r may.fitting c (λ q h g. may.top q (shields.barriers q h) g)) c (found traces k) here_does here_fixes))
       (shields.rest r may.there)
     where
       as_barrier : IsBarrier r → (o : Option Trace) → MatchOption o (IsBarrier r) (λ x. IsBarrier r ⊎ IsFactOf tree x r)
@@ -319,41 +319,41 @@ module _ (runs : List Trace) (k : Key) (admitted : AreAdmitted Empty runs) (once
       as_fact None h = h
       as_fact (Some x) h = inr h
 
-  fact_choice : (table : List Rule) (r : Rule) → HoldsRules tree table → MayChoose table k r → Contains facts r → (x : Trace) × (found runs k ≡ Some x) × IsFactOf tree x r
+  fact_choice : (table : List Rule) (r : Rule) → HoldsRules tree table → MayChoose table k r → Contains facts r → (x : Trace) × (found traces k ≡ Some x) × IsFactOf tree x r
   fact_choice table r holds may c =
       let e = chosen_fact r may.fitting c (λ q h g. may.top q (holds.all q (Contains-append_right facts _ q h)) g) in
-      pick (found runs k) refl (as_found r ⊥ e c (found runs k) here_does here_fixes)
+      pick (found traces k) refl (as_found r ⊥ e c (found traces k) here_does here_fixes)
     where
-      pick : (o : Option Trace) → found runs k ≡ o → MatchOption o ⊥ (λ x. IsFactOf tree x r) → (x : Trace) × (found runs k ≡ Some x) × IsFactOf tree x r
+      pick : (o : Option Trace) → found traces k ≡ o → MatchOption o ⊥ (λ x. IsFactOf tree x r) → (x : Trace) × (found traces k ≡ Some x) × IsFactOf tree x r
       pick None e h = absurd h
       pick (Some x) e h = (x, e, h)
 
-  barrier_choice : (table : List Rule) (r : Rule) → HoldsRules tree table → MayChoose table k r → Contains barriers r → found runs k ≡ None
-  barrier_choice table r holds may c = pick here refl (found runs k) refl here_does
+  barrier_choice : (table : List Rule) (r : Rule) → HoldsRules tree table → MayChoose table k r → Contains barriers r → found traces k ≡ None
+  barrier_choice table r holds may c = pick here refl (found traces k) refl here_does
     where
-      pick : (h : Option Rule) → h ≡ here → (o : Option Trace) → found runs k ≡ o → option_map actions here ≡ option_map run_actions o → found runs k ≡ None
+      pick : (h : Option Rule) → h ≡ here → (o : Option Trace) → found traces k ≡ o → option_map actions here ≡ option_map trace_actions o → found traces k ≡ None
       pick h e None f g = f
       pick None e (Some x) f g = let i = ap (option_map actions) e ∙ g in absurd (cc)
       pick (Some own) e (Some x) f g = absurd (no_barrier table r own holds may (sym e) c)
 
-  -- where a run is found nothing but the fact at the key may be chosen
-  chosen_here : (table : List Rule) (r : Rule) → HoldsRules tree table → MayChoose table k r → IfSome (found runs k) (λ _. here ≡ Some r)
+  -- where a trace is found nothing but the fact at the key may be chosen
+  chosen_here : (table : List Rule) (r : Rule) → HoldsRules tree table → MayChoose table k r → IfSome (found traces k) (λ _. here ≡ Some r)
   chosen_here table r holds may =
-      ⊎_elim (λ c. any_some (found runs k) (chosen_fact r may.fitting c (λ q h g. may.top q (holds.all q (Contains-append_right facts _ q h)) g)))
-      (λ c. as_barrier here refl (found runs k) here_does c)
+      ⊎_elim (λ c. any_some (found traces k) (chosen_fact r may.fitting c (λ q h g. may.top q (holds.all q (Contains-append_right facts _ q h)) g)))
+      (λ c. as_barrier here refl (found traces k) here_does c)
       (Contains-append_cases facts barriers r (holds.only r may.there))
     where
       any_some : (o : Option Trace) → here ≡ Some r → IfSome o (λ _. here ≡ Some r)
       any_some None e = tt
       any_some (Some x) e = e
 
-      as_barrier : (h : Option Rule) → h ≡ here → (o : Option Trace) → option_map actions here ≡ option_map run_actions o → Contains barriers r → IfSome o (λ _. here ≡ Some r)
+      as_barrier : (h : Option Rule) → h ≡ here → (o : Option Trace) → option_map actions here ≡ option_map trace_actions o → Contains barriers r → IfSome o (λ _. here ≡ Some r)
       as_barrier h e None f c = tt
       as_barrier None e (Some x) f c = let g = ap (option_map actions) e ∙ f in absurd (cc)
       as_barrier (Some r') e (Some x) f c = absurd (no_barrier table r r' holds may (sym e) c)
 
-  one_choice : (table : List Rule) (r q : Rule) → HoldsRules tree table → MayChoose table k r → MayChoose table k q → IfSome (found runs k) (λ _. r ≡ q)
-  one_choice table r q holds a b = join (found runs k) (chosen_here table r holds a) (chosen_here table q holds b)
+  one_choice : (table : List Rule) (r q : Rule) → HoldsRules tree table → MayChoose table k r → MayChoose table k q → IfSome (found traces k) (λ _. r ≡ q)
+  one_choice table r q holds a b = join (found traces k) (chosen_here table r holds a) (chosen_here table q holds b)
     where
       join : (o : Option Trace) → IfSome o (λ _. here ≡ Some r) → IfSome o (λ _. here ≡ Some q) → IfSome o (λ _. r ≡ q)
       join None e f = tt
@@ -385,31 +385,31 @@ module _ (runs : List Trace) (k : Key) (admitted : AreAdmitted Empty runs) (once
           (λ le. le)
           (cases_lt r.priority q.priority)
 
-  some_choice : (table : List Rule) → HoldsRules tree table → IfSome (found runs k) (λ _. (r : Rule) × MayChoose table k r)
-  some_choice table holds = pick here refl (found runs k) here_does
+  some_choice : (table : List Rule) → HoldsRules tree table → IfSome (found traces k) (λ _. (r : Rule) × MayChoose table k r)
+  some_choice table holds = pick here refl (found traces k) here_does
     where
-      pick : (h : Option Rule) → h ≡ here → (o : Option Trace) → option_map actions here ≡ option_map run_actions o → IfSome o (λ _. (r : Rule) × MayChoose table k r)
+      pick : (h : Option Rule) → h ≡ here → (o : Option Trace) → option_map actions here ≡ option_map trace_actions o → IfSome o (λ _. (r : Rule) × MayChoose table k r)
       pick h e None f = tt
       pick None e (Some x) f = let g = ap (option_map actions) e ∙ f in absurd (cc)
       pick (Some r) e (Some x) f = (r, own_choice table r holds (sym e))
 
-  none_fits : (table : List Rule) → HoldsRules tree table → ((r : Rule) → Contains table r → fits r k ≡ false) → found runs k ≡ None
-  none_fits table holds unfit = pick (found runs k) (some_choice table holds)
+  none_fits : (table : List Rule) → HoldsRules tree table → ((r : Rule) → Contains table r → fits r k ≡ false) → found traces k ≡ None
+  none_fits table holds unfit = pick (found traces k) (some_choice table holds)
     where
       pick : (o : Option Trace) → IfSome o (λ _. (r : Rule) × MayChoose table k r) → o ≡ None
       pick None h = refl
       pick (Some x) h = let p = sym h.1.fitting ∙ unfit h.0 h.1.there in absurd (cc)
 
 pub choice_law : ChoiceLaw
-choice_law runs k a o =
+choice_law traces k a o =
     record {
-      exact = exact_choice runs k a o;
-      between = between_choice runs k a o;
-      some = some_choice runs k a o;
-      one = one_choice runs k a o;
-      fact = fact_choice runs k a o;
-      barrier = barrier_choice runs k a o;
-      unfit = none_fits runs k a o;
+      exact = exact_choice traces k a o;
+      between = between_choice traces k a o;
+      some = some_choice traces k a o;
+      one = one_choice traces k a o;
+      fact = fact_choice traces k a o;
+      barrier = barrier_choice traces k a o;
+      unfit = none_fits traces k a o;
     }
 
 pub table_law : TableLaw

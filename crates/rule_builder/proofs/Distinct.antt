@@ -286,10 +286,10 @@ spread_swap rs a b la lb h i j d ne li lj =
     (subst (λ x. Differ (get_or rs p.from d) x) (sym q.is) (h p.from q.from d (still_apart a b i j p.from q.from p.moved q.moved ne) p.within q.within))
 
 pub distinct_law : DistinctLaw
-distinct_law runs table admitted once moves =
-    let t = scratch runs in
-    let fresh = grown_fresh runs Empty admitted once tt in
-    let o = grown_ordered runs Empty tt in
+distinct_law traces table admitted once moves =
+    let t = scratch traces in
+    let fresh = grown_fresh traces Empty admitted once tt in
+    let o = grown_ordered traces Empty tt in
     let all = distinct_append (facts_of t anything 0) (barriers_of t anything 0) (facts_distinct t anything 0 fresh o) (barriers_distinct t anything 0 fresh o) (kinds_apart t anything 0 fresh o) in
     let s : Spread table = IsPermutation-keeps (rules_of t) Spread (spread (rules_of t) all) (λ l a b la lb h. spread_swap l a b la lb h) table moves in
     λ i j d lt lj. s i j d (λ e. omega (arith, e, lt)) (omega (arith, lt, lj)) lj

@@ -1,4 +1,4 @@
--- A tree that grew from runs never asks of a fixed field again.
+-- A tree that grew from traces never asks of a fixed field again.
 use Rattle.std.proofs.Common.{◌≡◌, ℕ, Bool, true, false, cond, List, [], ◌∷◌, Some, None, refl, sym, ap, ◌∙◌, subst, ⊎_elim, arith}
 use Rattle.std.specs.Prelude.{◌==◌, ◌&&◌, not}
 use Rattle.std.proofs.lemmas.Bool.{cases_order, eq-eqb, eqb-true, cases_Bool}
@@ -60,7 +60,7 @@ pub not_true : (b : Bool) → not b ≡ true → b ≡ false
 not_true true e = absurd (cc)
 not_true false e = refl
 
--- a run that asks of each fixed field no more leaves the tree so
+-- a trace that asks of each fixed field no more leaves the tree so
 pub insert_fresh : (is : List Item) (leaf : Leaf) (t : Shape) (fs : List Field) (m : Match) → Only fs m → asks_once fs is ≡ true → admits is t ≡ true → IsFresh t m → IsFresh (insert is leaf t) m
 insert_fresh [] leaf t fs m only once a h = tt
 insert_fresh (Read f v ∷ is) leaf Empty fs m only once a h =

@@ -1,4 +1,4 @@
--- How many rules a further run brings.
+-- How many rules a further trace brings.
 use Rattle.std.proofs.Common.{◌≡◌, ℕ, zero, suc, ◌+◌, ◌≤◌, true, false, cond, List, [], ◌∷◌, length, ap, subst, ⊎_elim, arith}
 use Rattle.std.specs.Prelude.{◌==◌, ◌&&◌}
 use Rattle.std.proofs.lemmas.Bool.{cases_order, eq-eqb}
@@ -38,7 +38,7 @@ mutual
 pub few_levels : FewLevels
 few_levels t = let a = levels_counted t in let e = needed_count t in omega (arith, a, e)
 
--- one more run below a node brings these further rules
+-- one more trace below a node brings these further rules
 abbrev Grew : ℕ → ℕ → ℕ → Type 0
 Grew old new n = new ≤ old + n
 

@@ -13,4 +13,3 @@ pub mod Paths
 pub mod Places
 pub mod Spans
 pub mod Steps
-pub mod WithinTree

@@ -1,4 +1,4 @@
--- The matches of orderly runs are normal.
+-- The matches of orderly traces are normal.
 use Rattle.std.proofs.Common.{◌≡◌, ℕ, ◌+◌, Bool, true, false, cond, List, [], ◌∷◌, ◌++◌, Some, None, refl, sym, ap, ◌∙◌, subst, ⊎_elim, arith}
 use Rattle.std.specs.Prelude.{◌==◌, ◌&&◌, ◌||◌, not, Contains}
 use Rattle.std.proofs.lemmas.Bool.{cases_Bool, cases_order, eq-eqb, eqb-true}
@@ -236,7 +236,7 @@ grown_normal (r ∷ rs) t a once o h =
     grown_normal rs (insert r.items (leaf_of r) t) a.1 once.1 o.1 (insert_normal r.items (leaf_of r) t [] [] anything begin once.0 o.0 a.0 h)
 
 pub normal_law : NormalLaw
-normal_law runs r a once o c =
-    let h = grown_normal runs Empty a once o tt in
-    ⊎_elim (λ d. facts_normal (scratch runs) anything 0 r h d) (λ d. barriers_normal (scratch runs) anything 0 r h d)
-    (Contains-append_cases (facts_of (scratch runs) anything 0) (barriers_of (scratch runs) anything 0) r c)
+normal_law traces r a once o c =
+    let h = grown_normal traces Empty a once o tt in
+    ⊎_elim (λ d. facts_normal (scratch traces) anything 0 r h d) (λ d. barriers_normal (scratch traces) anything 0 r h d)
+    (Contains-append_cases (facts_of (scratch traces) anything 0) (barriers_of (scratch traces) anything 0) r c)

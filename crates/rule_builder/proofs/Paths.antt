@@ -1,4 +1,4 @@
--- The path that a key leads along fixes what the found run read and found true.
+-- The path that a key leads along fixes what the found trace read and found true.
 use Rattle.std.proofs.Common.{◌≡◌, ℕ, ◌+◌, Bool, true, false, cond, List, [], ◌∷◌, Option, Some, None, refl, sym, ap, ◌∙◌, subst, ⊎_elim}
 use Rattle.std.specs.Prelude.{◌==◌, ◌&&◌}
 use Rattle.std.specs.Option.{option_map}
@@ -160,6 +160,6 @@ match_grown (r ∷ rs) t k m o a =
     grown_step true e = sym (ap (λ x. first_match x (Some (fixed_by r.items m))) (match_missing t k m (none_yet r.items t k a.0 e)))
     grown_step false e = refl
 
--- the match of the path at a key is what the found run fixed
+-- the match of the path at a key is what the found trace fixed
 pub match_found : (rs : List Trace) (k : Key) (m : Match) → AreAdmitted Empty rs → match_at (grown Empty rs) k m ≡ option_map (λ (x : Trace). fixed_by x.items m) (found rs k)
 match_found rs k m a = match_grown rs Empty k m tt a

@@ -6,11 +6,11 @@ use Rattle.maple_base.specs.declared.key.Match.{Match}
 use Rattle.maple_base.specs.Keys.{in_domain, fix}
 use Rattle.trace_tree.specs.declared.node.Node.{Node}
 use Rattle.trace_tree.specs.TreeOf.{tree_of, branches, child_trees}
+use Rattle.trace_tree.specs.Bounds.{IsWithin, AreWithin}
 use Rattle.trace_tree.specs.Growth.{nodes_of, nodes_in, child}
 use Rattle.std.proofs.lemmas.List.{drop_more}
 use Rattle.rule_builder.specs.Rules.{levels_of, most_levels, facts_of, facts_in, barriers_of, barriers_in}
 use Rattle.rule_builder.specs.Counts.{count_of, count_in}
-use Rattle.rule_builder.specs.Domains.{IsInDomains, AreInDomain}
 
 at_drop : {A : Type 0} (cs : List A) (at : ℕ) (c : A) → at < length cs → c ≡ get_or cs at c → drop at cs ≡ c ∷ drop (at + 1) cs
 at_drop cs at c h e = drop_more cs at c h ∙ ap (λ x. x ∷ drop (at + 1) cs) (sym e)
@@ -31,8 +31,8 @@ module _ (cs : List (ℕ × Node)) (i : ℕ) (c : ℕ × Node) (h : i < length c
   pub barriers_step : (f : Field) (m : Match) (b : ℕ) → barriers_in (branches (child_trees (drop i cs))) f m b ≡ barriers_of (tree_of c.1) (fix f c.0 m) b ++ barriers_in (branches (child_trees (drop (i + 1) cs))) f m b
   barriers_step f m b = ap (λ l. barriers_in (branches (child_trees l)) f m b) (at_drop cs i c h is)
 
-  pub domains_step : (f : Field) → AreInDomain (branches (child_trees (drop i cs))) f → IsTrue (in_domain f c.0) × IsInDomains (tree_of c.1) × AreInDomain (branches (child_trees (drop (i + 1) cs))) f
-  domains_step f s = subst (λ l. AreInDomain (branches (child_trees l)) f) (at_drop cs i c h is) s
+  pub domains_step : (f : Field) → AreWithin f (branches (child_trees (drop i cs))) → IsTrue (in_domain f c.0) × IsWithin (tree_of c.1) × AreWithin f (branches (child_trees (drop (i + 1) cs)))
+  domains_step f s = subst (λ l. AreWithin f (branches (child_trees l))) (at_drop cs i c h is) s
 
   pub child_step : (v : ℕ) → child v (branches (child_trees (drop i cs))) ≡ cond (v == c.0) (tree_of c.1) (child v (branches (child_trees (drop (i + 1) cs))))
   child_step v = ap (λ l. child v (branches (child_trees l))) (at_drop cs i c h is)

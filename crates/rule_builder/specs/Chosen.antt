@@ -1,6 +1,7 @@
--- The promise on the rules of a tree: what a switch may choose is the rule of the run that the key finds.
+-- The promise on the rules of a tree: what a switch may choose is the rule of the trace that the key finds.
 use Rattle.std.specs.Prelude.{◌≡◌, ◌⊎◌, ◌++◌, true, false, List, [], ◌∷◌, Some, None, Contains, MatchOption, IfSome}
 use Rattle.std.specs.List.Sorted.{IsPermutation}
+use Rattle.maple_base.specs.Ports.{controller_port}
 use Rattle.maple_base.specs.declared.key.Key.{Key}
 use Rattle.maple_base.specs.declared.key.Match.{Match}
 use Rattle.maple_base.specs.declared.decision.Rule.{Rule}
@@ -20,7 +21,7 @@ fixed_by (Read f v ∷ is) m = fixed_by is (fix f v m)
 fixed_by (Test f v true ∷ is) m = fixed_by is (fix f v m)
 fixed_by (Test f v false ∷ is) m = fixed_by is m
 
--- the tree's fact of this run: it fixes what the run read or found true, and does what the run decided
+-- the tree's fact of this trace: it fixes what the trace read or found true, and does what the trace decided
 pub record IsFactOf (t : Shape) (x : Trace) (r : Rule) : Type 0 where
   pub there : Contains (facts_of t anything 0) r
   pub fixes : r.of ≡ fixed_by x.items anything
@@ -28,7 +29,7 @@ pub record IsFactOf (t : Shape) (x : Trace) (r : Rule) : Type 0 where
 
 -- a rule that sends to the controller
 abbrev pub IsBarrier : Rule → Type 0
-IsBarrier r = r.actions ≡ 0xfffd ∷ []
+IsBarrier r = r.actions ≡ controller_port ∷ []
 
 -- a table of the tree's rules, in any order
 pub record HoldsRules (t : Shape) (table : List Rule) : Type 0 where
@@ -40,33 +41,33 @@ pub record Shields (t : Shape) (table : List Rule) : Type 0 where
   pub barriers : (b : Rule) → Contains (barriers_of t anything 0) b → Contains table b
   pub rest : (r : Rule) → Contains table r → IsBarrier r ⊎ Contains (facts_of t anything 0) r
 
--- the tree's rules: what may be chosen is the found run's fact, and a barrier where none is found
+-- the tree's rules: what may be chosen is the found trace's fact, and a barrier where none is found
 abbrev pub IsFoundRule : List Trace → Key → Rule → Type 0
-IsFoundRule runs k r =
-    MatchOption (found runs k) (Contains (barriers_of (scratch runs) anything 0) r) (λ x. IsFactOf (scratch runs) x r)
+IsFoundRule traces k r =
+    MatchOption (found traces k) (Contains (barriers_of (scratch traces) anything 0) r) (λ x. IsFactOf (scratch traces) x r)
 
--- fewer facts: it is the found run's fact or a barrier, and a barrier where none is found
+-- fewer facts: it is the found trace's fact or a barrier, and a barrier where none is found
 abbrev pub IsFoundOrBarrier : List Trace → Key → Rule → Type 0
-IsFoundOrBarrier runs k r = MatchOption (found runs k) (IsBarrier r) (λ x. IsBarrier r ⊎ IsFactOf (scratch runs) x r)
+IsFoundOrBarrier traces k r = MatchOption (found traces k) (IsBarrier r) (λ x. IsBarrier r ⊎ IsFactOf (scratch traces) x r)
 
--- what holds of a list of runs and a key
-pub record ChoosesRight (runs : List Trace) (k : Key) : Type 0 where
-  pub exact : (table : List Rule) (r : Rule) → HoldsRules (scratch runs) table → MayChoose table k r → IsFoundRule runs k r
-  pub between : (table : List Rule) (r : Rule) → Shields (scratch runs) table → MayChoose table k r → IsFoundOrBarrier runs k r
-  -- where a run is found some rule may be chosen
-  pub some : (table : List Rule) → HoldsRules (scratch runs) table → IfSome (found runs k) (λ _. (r : Rule) × MayChoose table k r)
+-- what holds of a list of traces and a key
+pub record ChoosesRight (traces : List Trace) (k : Key) : Type 0 where
+  pub exact : (table : List Rule) (r : Rule) → HoldsRules (scratch traces) table → MayChoose table k r → IsFoundRule traces k r
+  pub between : (table : List Rule) (r : Rule) → Shields (scratch traces) table → MayChoose table k r → IsFoundOrBarrier traces k r
+  -- where a trace is found some rule may be chosen
+  pub some : (table : List Rule) → HoldsRules (scratch traces) table → IfSome (found traces k) (λ _. (r : Rule) × MayChoose table k r)
   -- and no other
-  pub one : (table : List Rule) (r q : Rule) → HoldsRules (scratch runs) table → MayChoose table k r → MayChoose table k q → IfSome (found runs k) (λ _. r ≡ q)
-  -- a fact may be chosen only where a run is found, and it is that run's
-  pub fact : (table : List Rule) (r : Rule) → HoldsRules (scratch runs) table → MayChoose table k r → Contains (facts_of (scratch runs) anything 0) r → (x : Trace) × (found runs k ≡ Some x) × IsFactOf (scratch runs) x r
+  pub one : (table : List Rule) (r q : Rule) → HoldsRules (scratch traces) table → MayChoose table k r → MayChoose table k q → IfSome (found traces k) (λ _. r ≡ q)
+  -- a fact may be chosen only where a trace is found, and it is that trace's
+  pub fact : (table : List Rule) (r : Rule) → HoldsRules (scratch traces) table → MayChoose table k r → Contains (facts_of (scratch traces) anything 0) r → (x : Trace) × (found traces k ≡ Some x) × IsFactOf (scratch traces) x r
   -- and a barrier only where none is
-  pub barrier : (table : List Rule) (r : Rule) → HoldsRules (scratch runs) table → MayChoose table k r → Contains (barriers_of (scratch runs) anything 0) r → found runs k ≡ None
+  pub barrier : (table : List Rule) (r : Rule) → HoldsRules (scratch traces) table → MayChoose table k r → Contains (barriers_of (scratch traces) anything 0) r → found traces k ≡ None
   -- where no rule fits none is found
-  pub unfit : (table : List Rule) → HoldsRules (scratch runs) table → ((r : Rule) → Contains table r → fits r k ≡ false) → found runs k ≡ None
+  pub unfit : (table : List Rule) → HoldsRules (scratch traces) table → ((r : Rule) → Contains table r → fits r k ≡ false) → found traces k ≡ None
 
--- it holds of each list of runs that a tree admits one after the other, each asking of a fixed field no more
+-- it holds of each list of traces that a tree admits one after the other, each asking of a fixed field no more
 abbrev pub ChoiceLaw : Type 0
-ChoiceLaw = (runs : List Trace) (k : Key) → AreAdmitted Empty runs → AllAskOnce runs → ChoosesRight runs k
+ChoiceLaw = (traces : List Trace) (k : Key) → AreAdmitted Empty traces → AllAskOnce traces → ChoosesRight traces k
 
 -- the tree's facts and barriers, each in any order, make such a table
 abbrev pub TableLaw : Type 0

@@ -1,15 +1,15 @@
--- How many rules a tree has, counted from below, and how many a further run brings.
+-- How many rules a tree has, counted from below, and how many a further trace brings.
 use Rattle.std.specs.Prelude.{ℕ, ◌+◌, true, false, List, [], ◌∷◌, ◌==◌, if◌then◌else◌, Option, Some, None}
 use Rattle.maple_base.specs.declared.items.Item.{Item}
 use Rattle.maple_base.specs.declared.items.Item.TheVariants.{Read, Test}
 use Rattle.trace_tree.specs.Shape.{Shape, Branches, Empty, Ends, Reads, Tests, NoBranch, Branch}
-use Rattle.trace_tree.specs.Growth.{child, side}
+use Rattle.trace_tree.specs.Walks.{behind}
 use Rattle.trace_tree.specs.declared.node.Node.{Node}
 use Rattle.trace_tree.specs.TreeOf.{tree_of}
 use Rattle.rule_builder.specs.Rules.{with_barrier}
 
 abbrev mutual
-  -- none where it is empty, one for a run, those of all branches, and those of a test's false side, its barrier and its true side
+  -- none where it is empty, one for a trace, those of all branches, and those of a test's false side, its barrier and its true side
   pub count_of : Shape → ℕ
   count_of Empty = 0
   count_of (Ends l) = 1
@@ -20,20 +20,13 @@ abbrev mutual
   count_in NoBranch = 0
   count_in (Branch v t bs) = count_of t + count_in bs
 
--- what stands behind an answer
-abbrev pub behind : Item → Shape → Shape
-behind (Read f v) (Reads h bs) = child v bs
-behind (Read f v) t = Empty
-behind (Test f v a) (Tests h w n y) = side a n y
-behind (Test f v a) t = Empty
-
 -- a false test brings its barrier where its false side had no rule
 abbrev pub barrier_at : Item → Shape → ℕ
 barrier_at (Test f v false) t = if count_of t == 0 then 1 else 0
 barrier_at (Test f v true) t = 0
 barrier_at (Read f v) t = 0
 
--- the barriers that a run of these items brings
+-- the barriers that a trace of these items brings
 abbrev pub barriers_with : List Item → Shape → ℕ
 barriers_with [] t = 0
 barriers_with (i ∷ is) t = barrier_at i (behind i t) + barriers_with is (behind i t)

@@ -9,9 +9,9 @@ use Rattle.maple_base.specs.declared.items.Item.{Item}
 use Rattle.trace_tree.specs.declared.node.Leaf.{Leaf}
 use Rattle.trace_tree.specs.declared.node.Trace.{Trace}
 use Rattle.trace_tree.specs.Shape.{Shape, Empty}
+use Rattle.trace_tree.specs.Bounds.{IsWithin}
 use Rattle.trace_tree.specs.Growth.{insert, scratch, admits, AreAdmitted, AllAskOnce}
 use Rattle.rule_builder.specs.Rules.{levels_of, rules_of, MustStandBelow, rules_needed}
-use Rattle.rule_builder.specs.Domains.{IsInDomains}
 use Rattle.rule_builder.specs.Orderly.{AllOrderly}
 
 -- no rule is exact
@@ -34,23 +34,23 @@ LevelsLaw = (t : Shape) → IsGreatest (rules_of t) (levels_of t)
 abbrev pub BelowLaw : Type 0
 BelowLaw = (t : Shape) (r q : Rule) → MustStandBelow t r q → r.priority < q.priority
 
--- the rules of a list of runs, in any order, differ from each other
+-- the rules of a list of traces, in any order, differ from each other
 abbrev pub DistinctLaw : Type 0
 DistinctLaw =
-    (runs : List Trace) (table : List Rule) → AreAdmitted Empty runs → AllAskOnce runs → IsPermutation (rules_of (scratch runs)) table → AllPairs Differ table
+    (traces : List Trace) (table : List Rule) → AreAdmitted Empty traces → AllAskOnce traces → IsPermutation (rules_of (scratch traces)) table → AllPairs Differ table
 
--- where the runs are orderly, the tree's values are in their domains
+-- where the traces are orderly, the tree's values are in their domains
 abbrev pub DomainLaw : Type 0
-DomainLaw = (runs : List Trace) → AreAdmitted Empty runs → AllOrderly runs → IsInDomains (scratch runs)
+DomainLaw = (traces : List Trace) → AreAdmitted Empty traces → AllOrderly traces → IsWithin (scratch traces)
 
 -- and each match is normal
 abbrev pub NormalLaw : Type 0
-NormalLaw = (runs : List Trace) (r : Rule) → AreAdmitted Empty runs → AllAskOnce runs → AllOrderly runs → Contains (rules_of (scratch runs)) r → match_normal r.of ≡ true
+NormalLaw = (traces : List Trace) (r : Rule) → AreAdmitted Empty traces → AllAskOnce traces → AllOrderly traces → Contains (rules_of (scratch traces)) r → match_normal r.of ≡ true
 
 -- a tree has no more levels than rules
 abbrev pub FewLevels : Type 0
 FewLevels = (t : Shape) → levels_of t ≤ rules_needed t
 
--- a further run brings its fact and at most a barrier for each of its items
+-- a further trace brings its fact and at most a barrier for each of its items
 abbrev pub FewMore : Type 0
 FewMore = (items : List Item) (leaf : Leaf) (t : Shape) → IsTrue (admits items t) → rules_needed (insert items leaf t) ≤ rules_needed t + (length items + 1)

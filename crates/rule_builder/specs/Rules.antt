@@ -1,5 +1,6 @@
--- The rules of a tree of runs.
-use Rattle.std.specs.Prelude.{◌≡◌, ℕ, zero, suc, ◌+◌, ◌⊎◌, max, List, [], ◌∷◌, ◌++◌, Contains, length}
+-- The rules of a tree of traces.
+use Rattle.std.specs.Prelude.{ℕ, zero, suc, ◌+◌, ◌⊎◌, max, List, [], ◌∷◌, ◌++◌, Contains, length}
+use Rattle.maple_base.specs.Ports.{controller_port}
 use Rattle.maple_base.specs.declared.key.Field.{Field}
 use Rattle.maple_base.specs.declared.key.Match.{Match}
 use Rattle.maple_base.specs.declared.decision.Rule.{Rule}
@@ -11,13 +12,17 @@ use Rattle.maple_base.specs.Keys.{fix, anything}
 use Rattle.trace_tree.specs.declared.node.Leaf.{Leaf}
 use Rattle.trace_tree.specs.Shape.{Shape, Branches, Empty, Ends, Reads, Tests, NoBranch, Branch}
 
+-- the most levels of a tree whose rules are made: they take priorities from 1 on
+abbrev pub level_limit : ℕ
+level_limit = 65000
+
 -- the levels of a false side and the barrier behind them, which stands only behind a rule
 abbrev pub with_barrier : ℕ → ℕ
 with_barrier zero = 0
 with_barrier (suc n) = suc n + 1
 
 abbrev mutual
-  -- how many levels a tree has: none where it is empty, one for a run, the greatest of the branches, and those of a test's false side, its barrier and its true side
+  -- how many levels a tree has: none where it is empty, one for a trace, the greatest of the branches, and those of a test's false side, its barrier and its true side
   pub levels_of : Shape → ℕ
   levels_of Empty = 0
   levels_of (Ends l) = 1
@@ -39,16 +44,16 @@ fact_actions (Out ps) = actions_at (Out ps) 0
 fact_actions Flood = actions_at Flood 0
 fact_actions (Path hops) = actions_at (Path hops) (first_switch hops)
 
--- the rule of a run, at the first level above the base
+-- the rule of a trace, at the first level above the base
 abbrev pub fact : Leaf → Match → ℕ → Rule
 fact l m base = record { of = m; priority = base + 1; actions = fact_actions l.decision; cookie = 0; idle = 0 }
 
 -- a rule that sends to the controller (OpenFlow Switch Specification 1.0.0, 5.2.1, OFPP_CONTROLLER)
 abbrev pub barrier : Match → ℕ → Rule
-barrier m priority = record { of = m; priority = priority; actions = 0xfffd ∷ []; cookie = 0; idle = 0 }
+barrier m priority = record { of = m; priority = priority; actions = controller_port ∷ []; cookie = 0; idle = 0 }
 
 abbrev mutual
-  -- the rules of the runs: each fixes the reads and the true tests of its path
+  -- the rules of the traces: each fixes the reads and the true tests of its path
   pub facts_of : Shape → Match → ℕ → List Rule
   facts_of Empty m base = []
   facts_of (Ends l) m base = fact l m base ∷ []

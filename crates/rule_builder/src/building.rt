@@ -1,19 +1,22 @@
-// The rules of a tree of runs.
+// The rules of a tree of traces.
 ghost use Rattle.std.specs.Option.{option_copied};
 ghost use Rattle.trace_tree.specs.declared.node.Leaf.{Leaf as LeafData};
 ghost use Rattle.trace_tree.specs.Growth.{insert, admits, child, IsOrdered};
 ghost use Rattle.std.specs.Prelude.{IsTrue, nat_lt, length, ◌≡◌, ◌+◌, ◌^◌, ◌<◌, ◌≤◌, [], ◌∷◌, ◌++◌, IfOk, OnOk};
 ghost use Rattle.std.specs.List.Sorted.{IsPermutation, IsNonDecreasingBy};
 ghost use Rattle.maple_base.specs.Keys.{anything};
-ghost use Rattle.trace_tree.specs.TreeOf.{tree_of, branches, child_trees};
-ghost use Rattle.rule_builder.specs.Rules.{levels_of, most_levels, with_barrier, fact, barrier_behind, facts_of, facts_in, barriers_of, barriers_in, fact_actions, rules_needed};
-ghost use Rattle.rule_builder.specs.Counts.{count_of, count_in, behind, barriers_with, tree_at};
-ghost use Rattle.rule_builder.specs.Domains.{IsInDomains, AreInDomain};
+ghost use Rattle.trace_tree.specs.TreeOf.{tree_of, branches, branches_of, child_trees};
+ghost use Rattle.trace_tree.specs.Bounds.{IsWithin, AreWithin};
+ghost use Rattle.trace_tree.specs.Walks.{behind};
+ghost use Rattle.rule_builder.specs.Rules.{level_limit, levels_of, most_levels, with_barrier, fact, barrier_behind, facts_of, facts_in, barriers_of, barriers_in, fact_actions, rules_needed};
+ghost use Rattle.rule_builder.specs.Counts.{count_of, count_in, barriers_with, tree_at};
 ghost use Rattle.rule_builder.specs.Chosen.{ChoiceLaw, TableLaw};
 ghost use Rattle.rule_builder.specs.Rows.{RowsOfTwo, RowsOfDrop};
 ghost use Rattle.rule_builder.specs.Laws.{NoneExact, NoneLower, LevelsLaw, BelowLaw, DistinctLaw, DomainLaw, NormalLaw, FewLevels, FewMore};
 
-use maple_base::{Actions, Decision, Field, Item, Items, Match, NoMemory, Rule, RuleList};
+use maple_base::{
+    Actions, CONTROLLER_PORT, Decision, Field, Item, Items, Match, NoMemory, Rule, RuleList,
+};
 use std::alloc::Global;
 use trace_tree::{Leaf, Node, Tree};
 
@@ -131,7 +134,7 @@ fn all_rules(children: &[(u64, Node)]) -> u64
     all
 }
 
-/// How many rules a tree will have with a further run of these items.
+/// How many rules a tree will have with a further trace of these items.
 pub fn rules_needed_with(tree: &Tree, items: &Items) -> u64
     requires ordered { IsOrdered tree.now }
     requires admitted { IsTrue (admits items.now tree.now) }
@@ -142,7 +145,7 @@ pub fn rules_needed_with(tree: &Tree, items: &Items) -> u64
     rules + 1 + barriers_with(tree.root(), items.items())
 }
 
-// The barriers that a run of these items brings.
+// The barriers that a trace of these items brings.
 fn barriers_with(node: &Node, items: &[Item]) -> u64
     ensures { result ≡ barriers_with items.now (tree_of node.now) }
 {
@@ -224,7 +227,7 @@ fn any_has_rules(children: &[(u64, Node)]) -> bool
 
 /// The rules of a tree.
 pub fn rules(alloc: Global, tree: &Tree) -> Result<RuleList, NoMemory>
-    requires room { levels_of tree.now ≤ 65000 }
+    requires room { levels_of tree.now ≤ level_limit }
     ensures facts { IfOk result (λ list. IsPermutation (facts_of tree.now anything 0) list.facts) }
     ensures facts_order { IfOk result (λ list. IsNonDecreasingBy (λ rule. rule.priority) list.facts) }
     ensures barriers { IfOk result (λ list. IsPermutation (barriers_of tree.now anything 0) list.barriers) }
@@ -252,8 +255,8 @@ fn push_rules(
     barriers: &mut Vec<Rule>,
 ) -> Result<(), NoMemory>
     requires levels { levels ≡ levels_of (tree_of node.now) }
-    requires values { IsInDomains (tree_of node.now) }
-    requires room { base + levels_of (tree_of node.now) ≤ 65000 }
+    requires values { IsWithin (tree_of node.now) }
+    requires room { base + levels_of (tree_of node.now) ≤ level_limit }
     ensures facts { OnOk result (IsPermutation (facts.old.items ++ facts_of (tree_of node.now) of.now base) facts.new.items) }
     ensures barriers { OnOk result (IsPermutation (barriers.old.items ++ barriers_of (tree_of node.now) of.now base) barriers.new.items) }
 {
@@ -294,10 +297,10 @@ fn push_all(
     facts: &mut Vec<Rule>,
     barriers: &mut Vec<Rule>,
 ) -> Result<(), NoMemory>
-    requires values { AreInDomain (branches (child_trees children.now)) field }
-    requires room { base + most_levels (branches (child_trees children.now)) ≤ 65000 }
-    ensures facts { OnOk result (IsPermutation (facts.old.items ++ facts_in (branches (child_trees children.now)) field of.now base) facts.new.items) }
-    ensures barriers { OnOk result (IsPermutation (barriers.old.items ++ barriers_in (branches (child_trees children.now)) field of.now base) barriers.new.items) }
+    requires values { AreWithin field (branches_of children.now) }
+    requires room { base + most_levels (branches_of children.now) ≤ level_limit }
+    ensures facts { OnOk result (IsPermutation (facts.old.items ++ facts_in (branches_of children.now) field of.now base) facts.new.items) }
+    ensures barriers { OnOk result (IsPermutation (barriers.old.items ++ barriers_in (branches_of children.now) field of.now base) barriers.new.items) }
 {
     for child in children {
         let within = of.fixing(field, child.0);
@@ -307,9 +310,9 @@ fn push_all(
     Ok(())
 }
 
-// Adds the rule of a run.
+// Adds the rule of a trace.
 fn push_fact(leaf: &Leaf, of: &Match, base: u64, facts: &mut Vec<Rule>) -> Result<(), NoMemory>
-    requires { base + 1 ≤ 65000 }
+    requires { base + 1 ≤ level_limit }
     ensures { OnOk result (facts.new.items ≡ facts.old.items ++ fact leaf.now of.now base ∷ []) }
 {
     let actions = fact_actions(&leaf.decision);
@@ -325,14 +328,14 @@ fn push_fact(leaf: &Leaf, of: &Match, base: u64, facts: &mut Vec<Rule>) -> Resul
 
 // Adds the barrier behind a false side of so many levels, if it has any.
 fn push_barrier(below: u64, of: &Match, base: u64, barriers: &mut Vec<Rule>) -> Result<(), NoMemory>
-    requires { base + with_barrier below ≤ 65000 }
+    requires { base + with_barrier below ≤ level_limit }
     ensures { OnOk result (barriers.new.items ≡ barriers.old.items ++ barrier_behind below of.now base) }
 {
     if below > 0 {
         barriers.push(Rule {
             of: *of,
             priority: (base + below + 1) as u16,
-            actions: Actions::new(&[0xfffd]),
+            actions: Actions::new(&[CONTROLLER_PORT]),
             cookie: 0,
             idle: 0,
         })?;
@@ -352,7 +355,7 @@ fn fact_actions(decision: &Decision) -> Actions
     }
 }
 
-/// What a switch may choose among the rules of a tree is the rule of the run that the key finds.
+/// What a switch may choose among the rules of a tree is the rule of the trace that the key finds.
 pub fn choice_law()
     ensures choice { ChoiceLaw }
     ensures table { TableLaw }

@@ -1,4 +1,4 @@
-//! The rules of a tree of runs, and which of them a switch may choose.
+//! The rules of a tree of traces, and which of them a switch may choose.
 #![tactic(auto)]
 
 pub mod building;
@@ -6,6 +6,3 @@ pub mod building;
 pub use building::{
     choice_law, levels, rules, rules_law, rules_needed, rules_needed_with, rules_rows,
 };
-
-#[cfg(test)]
-mod tests;

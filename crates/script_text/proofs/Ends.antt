@@ -1,29 +1,11 @@
 -- A text of more words than are wanted.
-use Rattle.std.proofs.Common.{◌≡◌, ℕ, eqb, cond, true, false, List, [], ◌∷◌, Option, Some, None, refl, ap}
-use Rattle.std.specs.List.{slice_split, onto_first}
+use Rattle.std.proofs.Common.{◌≡◌, ℕ, eqb, cond, true, false, List, ◌∷◌, Option, Some, None, refl, ap}
+use Rattle.std.specs.List.{slice_split}
 use Rattle.std.specs.Borrow.{Bor}
 use Rattle.std.specs.Prelude.{◌↔◌, Bool, IsSome, IsTrue, IfSome, is_some, not}
-use Rattle.maple_base.specs.Parts.{rest_parts}
+use Rattle.maple_text.specs.Parts.{rest_parts}
+use Rattle.maple_text.proofs.PartsOf.{some_part}
 use Rattle.script_text.specs.Words.{is_empty, just_one, just_two, just_three, just_four}
-
--- a text has a part
-record HasPart (parts : List (List ℕ)) : Type 0 where
-  first : List ℕ
-  others : List (List ℕ)
-  is : parts ≡ first ∷ others
-
-onto_part : (b : ℕ) (parts : List (List ℕ)) → HasPart (onto_first b parts)
-onto_part b [] = record { first = b ∷ []; others = []; is = refl }
-onto_part b (p ∷ ps) = record { first = b ∷ p; others = ps; is = refl }
-
-some_part : (stop : ℕ) (text : List ℕ) → HasPart (slice_split (λ b. eqb b stop) text)
-some_part stop [] = record { first = []; others = []; is = refl }
-some_part stop (b ∷ bs) =
-    let parts = slice_split (λ b. eqb b stop) bs in
-    elim (eqb b stop) as (λ t. HasPart (cond t ([] ∷ parts) (onto_first b parts))) [
-      | true ↦ record { first = []; others = parts; is = refl }
-      | false ↦ onto_part b parts
-    ]
 
 pub past_none : (rest : Option (Bor (List ℕ))) (ended : Bool) → is_some rest ≡ not ended → ended ≡ is_empty (rest_parts 32 rest)
 past_none None true e = refl

@@ -1,14 +1,8 @@
 -- The frame of a packet (IEEE 802.3, 3.1; IEEE 802.1Q, 9.6; RFC 791, 3.1; RFC 793, 3.1; RFC 768; RFC 792). Numbers are in network order.
-use Rattle.std.specs.Prelude.{ℕ, ◌+◌, ◌==◌, if◌then◌else◌, List, [], ◌++◌, length, replicate}
-use Rattle.std.specs.Int.{bytes_high_first}
+use Rattle.std.specs.Prelude.{ℕ, ◌+◌, ◌==◌, if◌then◌else◌, List, [], ◌++◌, length}
 use Rattle.maple_base.specs.declared.key.Key.{Key}
-
--- so many bytes of a number, the byte of greatest worth first; and so many bytes of 0
-abbrev pub number : ℕ → ℕ → List ℕ
-number width n = bytes_high_first width n
-
-abbrev pub zeros : ℕ → List ℕ
-zeros width = replicate width 0
+use Rattle.maple_base.specs.Assigned.{ip_type, tag_type, no_vlan, icmp_protocol, tcp_protocol, udp_protocol}
+use Rattle.maple_base.specs.NetworkOrder.{number, zeros}
 
 -- both Ethernet addresses
 unfoldable pub addresses : Key → List ℕ
@@ -16,7 +10,7 @@ addresses k = number 6 k.dl_dst ++ number 6 k.dl_src
 
 -- a tag of priority 0, where the packet has a VLAN id
 unfoldable pub tag : Key → List ℕ
-tag k = if k.dl_vlan == 0xffff then [] else number 2 0x8100 ++ number 2 k.dl_vlan
+tag k = if k.dl_vlan == no_vlan then [] else number 2 tag_type ++ number 2 k.dl_vlan
 
 -- TCP: both ports, no numbers, a header of 5 words, no flags, window, checksum or urgent pointer
 abbrev pub tcp : Key → List ℕ
@@ -32,7 +26,7 @@ icmp k = number 1 k.tp_src ++ number 1 k.tp_dst ++ zeros 6
 
 -- what stands behind the IP header; nothing for another protocol
 unfoldable pub segment : Key → List ℕ
-segment k = if k.nw_proto == 6 then tcp k else (if k.nw_proto == 17 then udp k else (if k.nw_proto == 1 then icmp k else []))
+segment k = if k.nw_proto == tcp_protocol then tcp k else (if k.nw_proto == udp_protocol then udp k else (if k.nw_proto == icmp_protocol then icmp k else []))
 
 -- an IP header of version 4 and 5 words: type of service, total length, no identification, flags or offset, a time to live of 64, the protocol,
 -- no checksum, and both addresses
@@ -42,7 +36,7 @@ ip_header k total =
     ++ number 4 k.nw_src ++ number 4 k.nw_dst
 
 unfoldable pub ip_packet : Key → List ℕ
-ip_packet k = if k.dl_type == 0x0800 then ip_header k (20 + length (segment k)) ++ segment k else []
+ip_packet k = if k.dl_type == ip_type then ip_header k (20 + length (segment k)) ++ segment k else []
 
 -- the frame of a key
 abbrev pub frame : Key → List ℕ

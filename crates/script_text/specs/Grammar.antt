@@ -1,9 +1,9 @@
 -- The grammar of a script's lines.
-use Rattle.std.specs.Prelude.{ℕ, ◌^◌, Bool, true, false, ◌==◌, nat_le, if◌then◌else◌, List, [], ◌∷◌, Option, Some, None}
+use Rattle.std.specs.Prelude.{ℕ, ◌+◌, ◌^◌, Bool, true, false, ◌==◌, nat_le, if◌then◌else◌, List, [], ◌∷◌, Option, Some, None}
 use Rattle.std.specs.List.{slice_split}
 use Rattle.maple_base.specs.declared.cells.Place.{Place}
 use Rattle.maple_base.specs.Keys.{anything}
-use Rattle.maple_base.specs.Numbers.{value_of}
+use Rattle.maple_text.specs.Numbers.{value_of}
 use Rattle.script_text.specs.declared.command.Command.{Command}
 use Rattle.script_text.specs.declared.command.Command.TheVariants.{Nothing, Plug, Unplug, Packet, Frame, Turn, Settle, Host, NoHost, Link, NoLink, Set, Unset, NewPolicy, Rules, Quit}
 use Rattle.script_text.specs.declared.verb.Verb.{Verb}
@@ -13,6 +13,13 @@ use Rattle.script_text.specs.PacketFields.{named_by, key_by, packet_of}
 use Rattle.script_text.specs.Verbs.{verb_of}
 use Rattle.script_text.specs.Words.{◌>>=◌, is_empty, just_one, just_two, just_three, just_four, number_below, name_of}
 
+-- the most bytes of a line, and the most turns that a line asks for
+abbrev pub most_bytes : ℕ
+most_bytes = 8192
+
+abbrev pub most_turns : ℕ
+most_turns = 100000
+
 -- a port, and an Ethernet address
 abbrev pub port_of : List ℕ → Option ℕ
 port_of = number_below (2 ^ 16)
@@ -20,10 +27,10 @@ port_of = number_below (2 ^ 16)
 abbrev pub address_of : List ℕ → Option ℕ
 address_of = number_below (2 ^ 48)
 
--- 1 to 100,000 turns
+-- 1 to so many turns
 abbrev pub turns_of : List ℕ → Option ℕ
 turns_of word = do
-  n ← number_below 100001 word
+  n ← number_below (most_turns + 1) word
   if nat_le 1 n then Some n else None
 
 -- a switch and a port of it

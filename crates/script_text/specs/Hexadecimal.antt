@@ -1,7 +1,7 @@
 -- Bytes in pairs of hexadecimal digits, of either case.
 use Rattle.std.specs.Prelude.{ℕ, ◌+◌, ◌*◌, ◌%◌, Bool, ◌&&◌, ◌==◌, nat_le, List, [], ◌∷◌, length}
 use Rattle.std.specs.List.{list_all}
-use Rattle.maple_base.specs.Numbers.{is_hex_digit, hex_worth}
+use Rattle.maple_text.specs.Numbers.{is_hex_digit, hex_worth}
 
 -- an even number of digits, at least two
 abbrev pub are_pairs : List ℕ → Bool

@@ -1,6 +1,6 @@
 -- The parts of a text where there are just so many, and what a word stands for.
 use Rattle.std.specs.Prelude.{ℕ, Bool, true, false, nat_lt, if◌then◌else◌, List, [], ◌∷◌, Option, Some, None, option_and_then}
-use Rattle.maple_base.specs.Numbers.{value_of}
+use Rattle.maple_text.specs.Numbers.{value_of}
 use Rattle.maple_base.specs.Names.{is_name}
 
 infixl 10 ◌>>=◌

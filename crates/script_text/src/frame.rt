@@ -1,17 +1,13 @@
 // The frame of a packet line.
 ghost use Rattle.std.specs.Prelude.{◌≡◌, true, ◌+◌, ◌<◌, ◌≤◌, ◌++◌, ◌==◌, length, vec_len, vec_capacity, OnOk, OnErr};
 ghost use Rattle.script_text.specs.PacketFields.{is_packet};
-ghost use Rattle.script_text.specs.Frames.{number, addresses, tag, tcp, udp, icmp, segment, ip_header, ip_packet, frame};
+ghost use Rattle.script_text.specs.Frames.{addresses, tag, tcp, udp, icmp, segment, ip_header, ip_packet, frame};
 
 use crate::PacketSpec;
-use maple_base::{Key, NoMemory};
+use maple_base::{ICMP, IP_TYPE, Key, NO_VLAN, NoMemory, TAG_TYPE, TCP, UDP, append};
 
 // A frame with a tag and a TCP segment.
 const LONGEST: usize = 58;
-
-const NO_VLAN: u16 = 0xffff;
-
-const IP: u16 = 0x0800;
 
 /// Appends the frame of a packet: its Ethernet addresses, a tag of priority 0 where it has a VLAN
 /// id, its type; behind the type of IP a header of 20 bytes, and behind that the 20 bytes of a TCP
@@ -35,16 +31,6 @@ pub fn frame_of(spec: &PacketSpec, out: &mut Vec<u8>) -> Result<(), NoMemory>
     Ok(())
 }
 
-fn append(bytes: &[u8], out: &mut Vec<u8>)
-    requires { vec_len out.old + length bytes.now ≤ vec_capacity out.old }
-    ensures items { out.new.items ≡ out.old.items ++ bytes.now }
-    ensures len { vec_len out.new ≡ vec_len out.old + length bytes.now }
-    ensures capacity { vec_capacity out.old ≤ vec_capacity out.new }
-{
-    // There is room, so that this does not fail.
-    let _ = out.extend_from_slice(bytes);
-}
-
 #[tactic(auto, unfolding(crate::specs::Frames::addresses))]
 fn addresses(key: &Key) -> [u8; 12]
     ensures { result ≡ addresses key.now }
@@ -63,8 +49,8 @@ fn append_tag(key: &Key, out: &mut Vec<u8>)
     ensures capacity { vec_capacity out.old ≤ vec_capacity out.new }
 {
     if key.dl_vlan != NO_VLAN {
-        let [v0, v1] = key.dl_vlan.to_be_bytes();
-        append(&[0x81, 0, v0, v1], out);
+        append(&TAG_TYPE.to_be_bytes(), out);
+        append(&key.dl_vlan.to_be_bytes(), out);
     }
 }
 
@@ -74,7 +60,7 @@ fn append_packet(key: &Key, out: &mut Vec<u8>)
     requires room { vec_len out.old + 40 ≤ vec_capacity out.old }
     ensures { out.new.items ≡ out.old.items ++ ip_packet key.now }
 {
-    if key.dl_type == IP {
+    if key.dl_type == IP_TYPE {
         append(&ip_header(key, 20 + segment_len(key)), out);
         append_segment(key, out);
     }
@@ -101,8 +87,8 @@ fn segment_len(key: &Key) -> u16
     ensures most { result ≤ 20 }
 {
     match key.nw_proto {
-        6 => 20,
-        17 | 1 => 8,
+        TCP => 20,
+        UDP | ICMP => 8,
         _ => 0,
     }
 }
@@ -114,9 +100,9 @@ fn append_segment(key: &Key, out: &mut Vec<u8>)
     ensures { out.new.items ≡ out.old.items ++ segment key.now }
 {
     match key.nw_proto {
-        6 => append(&tcp(key), out),
-        17 => append(&udp(key), out),
-        1 => append(&icmp(key), out),
+        TCP => append(&tcp(key), out),
+        UDP => append(&udp(key), out),
+        ICMP => append(&icmp(key), out),
         _ => {}
     }
 }

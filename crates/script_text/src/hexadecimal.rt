@@ -1,10 +1,11 @@
 // Bytes in pairs of hexadecimal digits.
-ghost use Rattle.std.specs.Prelude.{◌≡◌, ◌<◌, true, IfOk, IsTrue};
+ghost use Rattle.std.specs.Prelude.{◌≡◌, true, IfOk};
 ghost use Rattle.std.specs.List.{list_all};
-ghost use Rattle.maple_base.specs.Numbers.{is_hex_digit, hex_worth};
+ghost use Rattle.maple_text.specs.Numbers.{is_hex_digit};
 ghost use Rattle.script_text.specs.Hexadecimal.{are_pairs, paired_bytes};
 
 use maple_base::NoMemory;
+use maple_text::{hex_worth, is_hex_digit};
 use std::alloc::Global;
 
 /// Whether a word has an even number of hexadecimal digits, at least two.
@@ -18,26 +19,6 @@ fn all_hex_digits(word: &[u8]) -> bool
     ensures { result ≡ list_all is_hex_digit word.now }
 {
     word.iter().all(|b| is_hex_digit(*b))
-}
-
-fn is_hex_digit(byte: u8) -> bool
-    ensures { result ≡ is_hex_digit byte }
-{
-    (48 <= byte && byte < 58) || (97 <= byte && byte < 103) || (65 <= byte && byte < 71)
-}
-
-fn hex_worth(digit: u8) -> u8
-    requires { IsTrue (is_hex_digit digit) }
-    ensures worth { result ≡ hex_worth digit }
-    ensures below { result < 16 }
-{
-    if digit < 58 {
-        digit - 48
-    } else if digit < 71 {
-        digit - 55
-    } else {
-        digit - 87
-    }
 }
 
 /// The bytes of pairs of digits.

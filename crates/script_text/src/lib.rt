@@ -7,8 +7,6 @@ mod hexadecimal;
 mod packet_fields;
 mod packet_spec;
 mod reading;
-#[cfg(test)]
-mod tests;
 mod verb;
 mod words;
 

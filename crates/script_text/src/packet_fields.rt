@@ -1,11 +1,12 @@
 // The fields of a packet line.
 ghost use Rattle.std.specs.Prelude.{◌≡◌, ◌<◌, ◌^◌, IfSome};
 ghost use Rattle.maple_base.specs.Keys.{width_of, anything};
-ghost use Rattle.maple_base.specs.Parts.{rest_parts};
+ghost use Rattle.maple_text.specs.Parts.{rest_parts};
 ghost use Rattle.script_text.specs.PacketFields.{field_called, field_word, with_named, named_by, key_by};
 
 use crate::words::{number_below, two_parts};
-use maple_base::{Field, Key, Match, cut};
+use maple_base::{Field, IP_TYPE, Key, Match, NO_VLAN, TCP};
+use maple_text::cut;
 
 /// The fields that the words of a text name, each at most once.
 pub fn named_fields(words: Option<&[u8]>) -> Option<Match>
@@ -67,18 +68,18 @@ fn field_called(name: &[u8]) -> Option<Field>
 pub fn key_by(port: u16, named: Match) -> Key
     ensures { result ≡ key_by port named }
 {
-    let dl_type = named.dl_type.unwrap_or(0x0800);
+    let dl_type = named.dl_type.unwrap_or(IP_TYPE);
     Key {
         in_port: port,
         dl_src: named.dl_src.unwrap_or(0),
         dl_dst: named.dl_dst.unwrap_or(0),
-        dl_vlan: named.dl_vlan.unwrap_or(0xffff),
+        dl_vlan: named.dl_vlan.unwrap_or(NO_VLAN),
         dl_pcp: 0,
         dl_type,
         nw_tos: named.nw_tos.unwrap_or(0),
         nw_proto: named
             .nw_proto
-            .unwrap_or(if dl_type == 0x0800 { 6 } else { 0 }),
+            .unwrap_or(if dl_type == IP_TYPE { TCP } else { 0 }),
         nw_src: named.nw_src.unwrap_or(0),
         nw_dst: named.nw_dst.unwrap_or(0),
         tp_src: named.tp_src.unwrap_or(0),

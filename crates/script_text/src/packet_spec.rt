@@ -2,7 +2,7 @@
 ghost use Rattle.std.specs.Prelude.{◌≡◌, true};
 ghost use Rattle.script_text.specs.PacketFields.{is_packet, packet_of};
 
-use maple_base::Key;
+use maple_base::{FIRST_TYPE, ICMP, Key, TAG_TYPE};
 use std::marker::Model;
 
 /// A packet of a script, by its key: a valid one of VLAN priority 0, with a type that is no length
@@ -51,7 +51,7 @@ fn is_packet(key: &Key) -> bool
 {
     key.valid()
         && key.dl_pcp == 0
-        && 0x0600 <= key.dl_type
-        && key.dl_type != 0x8100
-        && (key.nw_proto != 1 || (key.tp_src < 256 && key.tp_dst < 256))
+        && FIRST_TYPE <= key.dl_type
+        && key.dl_type != TAG_TYPE
+        && (key.nw_proto != ICMP || (key.tp_src < 256 && key.tp_dst < 256))
 }

@@ -1,19 +1,22 @@
 // Reading the lines of a script.
 ghost use Rattle.std.specs.Prelude.{◌≡◌, true, ◌<◌, ◌≤◌, ◌↔◌, None, Some, IfOk, IfSome, length};
 ghost use Rattle.std.specs.Option.{option_map};
-ghost use Rattle.maple_base.specs.Parts.{rest_parts};
+ghost use Rattle.maple_text.specs.Parts.{rest_parts};
 ghost use Rattle.script_text.specs.Hexadecimal.{are_pairs};
-ghost use Rattle.script_text.specs.Grammar.{port_of, address_of, turns_of, place_of, alone, packet_command, frame_words, command_of, is_silent, line_command, holds_bytes};
+ghost use Rattle.script_text.specs.Grammar.{most_bytes, port_of, address_of, turns_of, place_of, alone, packet_command, frame_words, command_of, is_silent, line_command, holds_bytes};
 
 use crate::hexadecimal::{are_pairs, paired_bytes};
 use crate::packet_fields::{key_by, named_fields};
 use crate::verb::Verb;
 use crate::words::{four_words, is_empty, name_of, number_below, one_word, three_words, two_parts};
 use crate::{Command, LineError, PacketSpec};
-use maple_base::{Bytes, Place, cut, value_of};
+use maple_base::{Bytes, Place};
+use maple_text::{cut, value_of};
 use std::alloc::Global;
 
 const MOST_BYTES: usize = 8_192;
+
+const MOST_TURNS: u64 = 100_000;
 
 /// The command of a line of a script. Its words are parted by single spaces; numbers have any
 /// spelling of `value_of`. An empty line, and one that begins with `#`, say nothing.
@@ -24,8 +27,8 @@ const MOST_BYTES: usize = 8_192;
 /// no line of a script. Only the bytes of a `Frame` take memory.
 pub fn read_line(alloc: Global, line: &[u8]) -> Result<Command, LineError>
     ensures command { IfOk result (λ command. line_command line.now ≡ Some command) }
-    ensures too_long { (result ≡ Err LineError.TooLong) ↔ (8192 < length line.now) }
-    ensures grammar { (result ≡ Err LineError.Grammar) ↔ ((length line.now ≤ 8192) × (line_command line.now ≡ None)) }
+    ensures too_long { (result ≡ Err LineError.TooLong) ↔ (most_bytes < length line.now) }
+    ensures grammar { (result ≡ Err LineError.Grammar) ↔ ((length line.now ≤ most_bytes) × (line_command line.now ≡ None)) }
     ensures memory { result ≡ Err LineError.NoMemory → holds_bytes (line_command line.now) ≡ true }
 {
     if line.len() > MOST_BYTES {
@@ -67,7 +70,7 @@ fn address_of(word: &[u8]) -> Option<u64>
 fn turns_of(word: &[u8]) -> Option<u32>
     ensures { result ≡ turns_of word.now }
 {
-    let turns = number_below(100_001, word)?;
+    let turns = number_below(MOST_TURNS + 1, word)?;
     if 1 <= turns { Some(turns as u32) } else { None }
 }
 

@@ -2,10 +2,11 @@
 ghost use Rattle.std.specs.Prelude.{◌≡◌, ◌==◌, ◌<◌, IfSome};
 ghost use Rattle.std.specs.List.{slice_split};
 ghost use Rattle.std.specs.Option.{option_map};
-ghost use Rattle.maple_base.specs.Parts.{rest_parts};
+ghost use Rattle.maple_text.specs.Parts.{rest_parts};
 ghost use Rattle.script_text.specs.Words.{is_empty, just_one, just_two, just_three, just_four, number_below, name_of};
 
-use maple_base::{Name, cut, value_of};
+use maple_base::Name;
+use maple_text::{cut, value_of};
 
 /// Whether there are no words.
 pub fn is_empty(rest: Option<&[u8]>) -> bool

@@ -5,7 +5,7 @@ use Rattle.maple_base.specs.declared.cells.Cell.{Cell}
 use Rattle.maple_base.specs.declared.cells.Cell.TheVariants.{Hop}
 use Rattle.maple_base.specs.declared.cells.Value.TheVariants.{Nothing, At}
 use Rattle.maple_base.specs.Kinds.{of_kind}
-use Rattle.topo_paths.specs.declared.table.Table.{Table}
+use Rattle.topo_paths.specs.declared.hop_table.HopTable.{HopTable}
 use Rattle.topo_paths.specs.Walks.{Link}
 use Rattle.topo_paths.specs.NextHops.{next_hop}
 use Rattle.topo_paths.specs.Scenes.{HopIsShown}
@@ -13,7 +13,7 @@ use Rattle.topo_paths.specs.Tables.{IsTableOf}
 use Rattle.topo_paths.proofs.Nearness.{near_graph}
 use Rattle.topo_paths.proofs.Hopping.{hop_some, hop_none, hop_port}
 
-module _ (links : List Link) (table : Table) (t : IsTableOf links table) (cell : Cell) (from to : ℕ) (is : cell ≡ Hop from to) where
+module _ (links : List Link) (table : HopTable) (t : IsTableOf links table) (cell : Cell) (from to : ℕ) (is : cell ≡ Hop from to) where
   pub shown_kind : (hop : Place) → Some hop ≡ next_hop links from to → IsTrue (of_kind cell (At hop))
   shown_kind hop h = ap (λ (x : Cell). of_kind x (At hop)) is ∙ hop_port links from to t.graph.ports hop (sym h)
 

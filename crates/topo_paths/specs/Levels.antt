@@ -2,6 +2,7 @@
 use Rattle.std.specs.Prelude.{◌≡◌, ℕ, ◌+◌, ◌<◌, ◌≤◌, Bool, true, false, List, length, Option, Some, None, is_none, is_some, IsSomeAnd, count_by, slice_set}
 use Rattle.std.specs.List.{slice_index_or}
 use Rattle.topo_paths.specs.declared.rows.Ends.{Ends}
+use Rattle.env_cells.specs.Most.{most_switches}
 use Rattle.topo_paths.specs.Rows.{ends_lead}
 
 -- how many places have no distance yet
@@ -10,7 +11,7 @@ unreached far = count_by (λ o. is_none o) far
 
 -- every distance to a place up to a level is known: each place at which a link begins that ends below the level is reached in one link more
 pub record AreFound (ends : List Ends) (to level : ℕ) (far : List (Option ℕ)) : Type 0 where
-  pub long : length far ≡ 64
+  pub long : length far ≡ most_switches
   pub start : slice_index_or far to None ≡ Some 0
   pub leads : (from n : ℕ) → slice_index_or far from None ≡ Some n → ends_lead ends n from to ≡ true
   pub within : (from n : ℕ) → slice_index_or far from None ≡ Some n → n ≤ level
@@ -18,7 +19,7 @@ pub record AreFound (ends : List Ends) (to level : ℕ) (far : List (Option ℕ)
 
 -- as above, with so many of the ends followed from the level on
 pub record AreFollowed (ends : List Ends) (to level count : ℕ) (far : List (Option ℕ)) : Type 0 where
-  pub long : length far ≡ 64
+  pub long : length far ≡ most_switches
   pub start : slice_index_or far to None ≡ Some 0
   pub leads : (from n : ℕ) → slice_index_or far from None ≡ Some n → ends_lead ends n from to ≡ true
   pub within : (from n : ℕ) → slice_index_or far from None ≡ Some n → n ≤ level + 1

@@ -2,6 +2,7 @@
 use Rattle.std.specs.Prelude.{◌≡◌, ℕ, zero, suc, ◌+◌, Bool, true, ◌&&◌, ◌==◌, nat_le, if◌then◌else◌, List, [], ◌∷◌, Option, Some, None, is_some}
 use Rattle.std.specs.List.{list_any}
 use Rattle.maple_base.specs.declared.cells.Place.{Place}
+use Rattle.env_cells.specs.Most.{most_switches}
 use Rattle.topo_paths.specs.Walks.{Link}
 
 -- a walk of so many links leads from one switch to another
@@ -16,7 +17,7 @@ first_passing test from (suc n) = if test from then Some from else first_passing
 
 -- how many links a shortest walk has, where it has fewer than 64
 unfoldable pub distance : List Link → ℕ → ℕ → Option ℕ
-distance links from to = first_passing (λ n. leads_in links n from to) 0 64
+distance links from to = first_passing (λ n. leads_in links n from to) 0 most_switches
 
 -- a hop over a link: to the switch at which it ends, by the port at which it begins
 abbrev pub hop_over : Link → Place

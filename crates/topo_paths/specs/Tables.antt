@@ -3,24 +3,25 @@ use Rattle.std.specs.Prelude.{◌≡◌, ℕ, ◌<◌, ◌≤◌, List, [], leng
 use Rattle.std.specs.Vec.{vec_capacity}
 use Rattle.std.specs.List.{slice_index_or}
 use Rattle.topo_paths.specs.Walks.{Link}
-use Rattle.topo_paths.specs.declared.table.Table.{Table}
+use Rattle.topo_paths.specs.declared.hop_table.HopTable.{HopTable}
+use Rattle.env_cells.specs.Most.{most_switches}
 use Rattle.env_cells.specs.Lists.{IsAmong}
 use Rattle.topo_paths.specs.Graphs.{IsGraph}
 use Rattle.topo_paths.specs.Rows.{IsRow}
 
 -- a table has room for the next hops of 64 switches and so many links
-pub record HasRoom (table : Table) (links : ℕ) : Type 0 where
-  pub switches : 64 ≤ vec_capacity table.switches
+pub record HasRoom (table : HopTable) (links : ℕ) : Type 0 where
+  pub switches : most_switches ≤ vec_capacity table.switches
   pub ends : links ≤ vec_capacity table.ends
-  pub rows : 64 ≤ vec_capacity table.rows
+  pub rows : most_switches ≤ vec_capacity table.rows
 
 -- a table has a row for each of at most 64 switches
-pub record IsSquare (table : Table) : Type 0 where
-  pub few : length table.switches.items ≤ 64
+pub record IsSquare (table : HopTable) : Type 0 where
+  pub few : length table.switches.items ≤ most_switches
   pub long : length table.rows.items ≡ length table.switches.items
 
 -- a table has the next hops of these links
-pub record IsTableOf (links : List Link) (table : Table) : Type 0 where
+pub record IsTableOf (links : List Link) (table : HopTable) : Type 0 where
   pub graph : IsGraph links
   pub named : All (IsAmong table.switches.items) links
   pub square : IsSquare table

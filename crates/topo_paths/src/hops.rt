@@ -5,7 +5,7 @@ ghost use Rattle.topo_paths.specs.Graphs.{IsGraph};
 ghost use Rattle.topo_paths.specs.NextHops.{next_hop};
 ghost use Rattle.topo_paths.specs.Walks.{IsNextHop, IsWay, NoWalk};
 
-use crate::table::Table;
+use crate::hop_table::HopTable;
 use env_cells::Links;
 use maple_base::{NoMemory, Path, Place};
 use std::alloc::Global;
@@ -15,7 +15,7 @@ use std::marker::Model;
 #[derive(Drop)]
 pub struct Hops {
     links: Links,
-    table: Table,
+    table: HopTable,
 }
 
 impl Model for Hops {
@@ -38,7 +38,7 @@ impl Hops {
         ensures { IfOk result (λ hops. hops ≡ links.now) }
     {
         let list = Vec::from_slice(alloc, links.items())?;
-        let mut table = Table::new(alloc, links.items().len())?;
+        let mut table = HopTable::new(alloc, links.items().len())?;
         table.rebuild(links.items());
         Ok(Hops {
             links: Links::new(list),

@@ -1,14 +1,12 @@
 //! Next hops over the links between switches, and the environment with them.
 #![tactic(auto)]
 
+mod hop_table;
 mod hops;
 mod laws;
 mod rows;
 mod scene;
 mod switches;
-mod table;
-#[cfg(test)]
-mod tests;
 
 pub use hops::Hops;
 pub use laws::hop_laws;

@@ -3,14 +3,16 @@ ghost use Rattle.std.specs.Prelude.{◌≡◌, ℕ, ◌+◌, ◌<◌, ◌≤◌,
 ghost use Rattle.std.specs.List.{slice_index_or};
 ghost use Rattle.maple_base.specs.declared.cells.Place.{Place};
 ghost use Rattle.env_cells.specs.Lists.{StartApart};
+ghost use Rattle.env_cells.specs.Most.{most_switches};
 ghost use Rattle.topo_paths.specs.Levels.{AreFound, IsFollowed, unreached};
 ghost use Rattle.topo_paths.specs.NextHops.{hop_over, lesser};
 ghost use Rattle.topo_paths.specs.Rows.{AreWithin, AreDistances, AreEnds, IsRow, is_nearer};
 
+use env_cells::MOST_SWITCHES;
 use maple_base::Place;
 
-/// Most switches that links may name.
-pub const SWITCHES: usize = 64;
+/// The most switches that links name, as a length.
+pub const SWITCHES: usize = MOST_SWITCHES as usize;
 
 /// The switches between which a link leads, by their places among the named ones.
 #[derive(Clone, Copy)]
@@ -29,7 +31,7 @@ type Distances = [Option<usize>; SWITCHES];
 pub fn row_of(links: &[(Place, Place)], ends: &[Ends], to: usize) -> Row
     requires within { All AreWithin ends.now }
     requires long { length ends.now ≡ length links.now }
-    requires to { to < 64 }
+    requires to { to < most_switches }
     ensures { (switches : List ℕ) → StartApart links.now → AreEnds links.now switches ends.now → to < length switches → IsRow links.now switches to result }
 {
     let distances = distances(ends, to);
@@ -62,7 +64,7 @@ fn lesser(hop: Place, kept: Option<Place>) -> Place
 }
 
 fn leads_nearer(distances: &[Option<usize>], ends: &Ends) -> bool
-    requires long { length distances.now ≡ 64 }
+    requires long { length distances.now ≡ most_switches }
     requires within { AreWithin ends.now }
     ensures { result ≡ is_nearer (slice_index_or distances.now ends.now.from None) (slice_index_or distances.now ends.now.to None) }
 {
@@ -75,7 +77,7 @@ fn leads_nearer(distances: &[Option<usize>], ends: &Ends) -> bool
 /// How far each switch is from the one at a place.
 fn distances(ends: &[Ends], to: usize) -> Distances
     requires within { All AreWithin ends.now }
-    requires to { to < 64 }
+    requires to { to < most_switches }
     ensures { AreDistances ends.now to result }
 {
     let mut distances = [None; SWITCHES];
@@ -90,10 +92,10 @@ fn distances(ends: &[Ends], to: usize) -> Distances
 /// Reaches from the switches at a level each further one that a link leads from to one of them.
 /// Whether there was one.
 fn reach(distances: &mut [Option<usize>], ends: &[Ends], level: usize) -> bool
-    requires long { length distances.old ≡ 64 }
+    requires long { length distances.old ≡ most_switches }
     requires within { All AreWithin ends.now }
-    requires few { level < 64 }
-    ensures long { length distances.new ≡ 64 }
+    requires few { level < most_switches }
+    ensures long { length distances.new ≡ most_switches }
     ensures found { (to : ℕ) → AreFound ends.now to level distances.old → AreFound ends.now to (level + 1) distances.new }
     ensures none { result ≡ false → distances.new ≡ distances.old }
     ensures some { unreached distances.new + (if result then 1 else 0) ≤ unreached distances.old }
@@ -110,9 +112,9 @@ fn reach(distances: &mut [Option<usize>], ends: &[Ends], level: usize) -> bool
 /// Reaches the place at which a link begins, where it has no distance and the link ends at the
 /// level. Whether that was so.
 fn follow(distances: &mut [Option<usize>], e: &Ends, level: usize) -> bool
-    requires long { length distances.old ≡ 64 }
+    requires long { length distances.old ≡ most_switches }
     requires within { AreWithin e.now }
-    requires few { level < 64 }
+    requires few { level < most_switches }
     ensures { IsFollowed e.now level result distances.old distances.new }
 {
     let found = distances[e.to] == Some(level) && distances[e.from].is_none();

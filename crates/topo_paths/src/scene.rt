@@ -1,28 +1,29 @@
 // The environment with next hops.
 ghost use Rattle.std.specs.Prelude.{◌≡◌, ◌≤◌, length, None, Some, Err, IsTrue, IfOk, OnOk, OnErr};
 ghost use Rattle.maple_base.specs.Kinds.{of_kind};
-ghost use Rattle.env_cells.specs.declared.updates.UpdateRefused.{UpdateRefused};
+ghost use Rattle.maple_base.specs.declared.update_refused.UpdateRefused.{UpdateRefused};
 ghost use Rattle.env_cells.specs.declared.updates.UpdateError.TheVariants.{Refused};
 ghost use Rattle.env_cells.specs.Environment.{nothing_known, knows};
 ghost use Rattle.env_cells.specs.Changes.{applied};
 ghost use Rattle.env_cells.specs.Refusals.{refusal_of, HasRoomForTables};
+ghost use Rattle.env_cells.specs.Most.{most_links};
 ghost use Rattle.topo_paths.specs.Graphs.{IsGraph};
 ghost use Rattle.topo_paths.specs.Scenes.{links_in, cell_in, HopIsShown};
 
-use crate::table::Table;
-use env_cells::{Env, Links, Update, UpdateError};
+use crate::hop_table::HopTable;
+use env_cells::{Env, Links, MOST_LINKS, Update, UpdateError};
 use maple_base::{Cell, EnvNow, NoMemory, Place, Value};
 use std::alloc::Global;
 use std::marker::Model;
 
-/// Most links of an environment.
-const LINKS: usize = 4096;
+/// The most links of an environment, as a length.
+const LINKS: usize = MOST_LINKS as usize;
 
 /// The environment, with the next hops over its links.
 #[derive(Drop)]
 pub struct Scene {
     env: Env,
-    table: Table,
+    table: HopTable,
 }
 
 impl Model for Scene {
@@ -32,12 +33,13 @@ impl Model for Scene {
 
     ghost coded = { environment_code };
 
+    ghost use Rattle.env_cells.specs.Most.{most_links};
     ghost use Rattle.topo_paths.specs.Scenes.{links_in};
     ghost use Rattle.topo_paths.specs.Tables.{HasRoom, IsTableOf};
 
     ghost view = { λ a. a.env };
 
-    ghost invariant = { λ a. HasRoom a.table 4096 × IsTableOf (links_in a.env) a.table };
+    ghost invariant = { λ a. HasRoom a.table most_links × IsTableOf (links_in a.env) a.table };
 }
 
 impl Scene {
@@ -46,7 +48,7 @@ impl Scene {
         ensures { IfOk result (λ scene. scene ≡ nothing_known) }
     {
         let env = Env::new(alloc);
-        let mut table = Table::new(alloc, LINKS)?;
+        let mut table = HopTable::new(alloc, LINKS)?;
         table.rebuild(links_of(&env));
         Ok(Scene { env, table })
     }
@@ -87,7 +89,7 @@ impl Scene {
         ensures { IfOk result (λ scene. scene ≡ self.now) }
     {
         let env = self.env.copy()?;
-        let mut table = Table::new(*self.table.switches.allocator(), LINKS)?;
+        let mut table = HopTable::new(*self.table.switches.allocator(), LINKS)?;
         table.rebuild(links_of(&env));
         Ok(Scene { env, table })
     }
@@ -114,7 +116,7 @@ impl EnvNow for Scene {
 /// The links of an environment, which have next hops.
 fn links_of(env: &Env) -> &[(Place, Place)]
     ensures links { result.now ≡ links_in env.now }
-    ensures few { length result.now ≤ 4096 }
+    ensures few { length result.now ≤ most_links }
     ensures graph { IsGraph result.now }
 {
     env.links().items()

@@ -2,6 +2,7 @@
 ghost use Rattle.std.specs.Prelude.{◌≡◌, ◌≢◌, ℕ, ◌<◌, ◌≤◌, ◌⊎◌, [], ◌∷◌, ◌++◌, List, length, All, AllPairs, Contains, MatchOption, slice_index, vec_len};
 ghost use Rattle.std.specs.Vec.{vec_capacity};
 ghost use Rattle.env_cells.specs.Lists.{IsAmong};
+ghost use Rattle.env_cells.specs.Most.{most_switches};
 ghost use Rattle.topo_paths.specs.Graphs.{IsGraph};
 ghost use Rattle.topo_paths.specs.Rows.{AreEnds, AreWithin};
 
@@ -32,11 +33,11 @@ fn name(switches: &mut Vec<u64>, switch: u64)
 
 /// Names the switches of links, each once.
 pub fn name_switches(switches: &mut Vec<u64>, links: &[(Place, Place)])
-    requires room { 64 ≤ vec_capacity switches.old }
+    requires room { most_switches ≤ vec_capacity switches.old }
     requires graph { IsGraph links.now }
     ensures distinct { AllPairs ◌≢◌ switches.new.items }
     ensures named { All (IsAmong switches.new.items) links.now }
-    ensures few { length switches.new.items ≤ 64 }
+    ensures few { length switches.new.items ≤ most_switches }
     ensures capacity { vec_capacity switches.new ≡ vec_capacity switches.old }
 {
     switches.clear();
@@ -64,7 +65,7 @@ pub fn find_ends(ends: &mut Vec<Ends>, switches: &[u64], links: &[(Place, Place)
     requires room { length links.now ≤ vec_capacity ends.old }
     requires distinct { AllPairs ◌≢◌ switches.now }
     requires named { All (IsAmong switches.now) links.now }
-    requires few { length switches.now ≤ 64 }
+    requires few { length switches.now ≤ most_switches }
     ensures ends { AreEnds links.now switches.now ends.new.items }
     ensures within { All AreWithin ends.new.items }
     ensures capacity { vec_capacity ends.new ≡ vec_capacity ends.old }

@@ -1,4 +1,4 @@
 pub mod Leading
 pub mod Plainness
 pub mod Recordings
-pub mod RunLaws
+pub mod TraceLaws

@@ -54,7 +54,7 @@ if_recorded k whole h b o left before rest x g seen mid now ending w l e head si
     let then : Datum → Going = λ d seen left. chosen_course (truth_in d) (block_course b) (option_map block_course o) seen left next in
     leads_on k seen seen now (statement_course whole seen left next) (head_course h seen before then) (course_behind ending now next)
     (leads_by k seen (statement_course whole seen left next) (head_course h seen before then)
-    (ap (λ y. statement_course y seen left next) w ∙ ap (λ y. statement_course (If h b o) seen y next) l ∙ ap (λ run. run seen (suc before) next) (if_course h b o)))
+    (ap (λ y. statement_course y seen left next) w ∙ ap (λ y. statement_course (If h b o) seen y next) l ∙ ap (λ part. part seen (suc before) next) (if_course h b o)))
     (leads_on k seen mid now (head_course h seen before then) (course_given g mid then) (course_behind ending now next) (head then)
     (leads_on k mid mid now (course_given g mid then) (then x mid rest) (course_behind ending now next)
     (leads_by k mid (course_given g mid then) (then x mid rest) (ap (λ y. course_given y mid then) e)) (side next)))
@@ -64,7 +64,7 @@ pub then_recorded : (k : Key) (whole : Statement) (h : Head) (b : Block) (o : Op
     → Recorded k mid (courses (map statement_course ss)) rest now ending → Recorded k seen (statement_course whole) left now ending
 then_recorded k whole h b o ss left before rest t x g seen mid now ending w l e head q y s side =
     if_recorded k whole h b o left before rest x g seen mid now ending w l e head (λ next.
-    subst (λ run. Leads k mid (run mid rest next) now (course_behind ending now next))
+    subst (λ part. Leads k mid (part mid rest next) now (course_behind ending now next))
     (ap (λ l. courses (map statement_course l)) s ∙ sym (fold_out-Block Coursing Coursing course_statement course_block b)
     ∙ ap (λ v. chosen_course v (block_course b) (option_map block_course o)) (sym y ∙ q)) (side next))
 
@@ -73,5 +73,5 @@ pub else_recorded : (k : Key) (whole : Statement) (h : Head) (b : Block) (o : Op
     → Recorded k mid (otherwise_course (option_map block_course o)) rest now ending → Recorded k seen (statement_course whole) left now ending
 else_recorded k whole h b o left before rest t x g seen mid now ending w l e head q y side =
     if_recorded k whole h b o left before rest x g seen mid now ending w l e head (λ next.
-    subst (λ run. Leads k mid (run mid rest next) now (course_behind ending now next))
+    subst (λ part. Leads k mid (part mid rest next) now (course_behind ending now next))
     (ap (λ v. chosen_course v (block_course b) (option_map block_course o)) (sym y ∙ q)) (side next))

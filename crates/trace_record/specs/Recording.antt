@@ -1,4 +1,4 @@
--- How a run's items lead from one place of a course to another.
+-- How a trace's items lead from one place of a course to another.
 use Rattle.std.specs.Prelude.{◌≡◌, ℕ, Bool, List, ◌++◌, length, Some, None}
 use Rattle.maple_base.specs.declared.key.Key.{Key}
 use Rattle.maple_base.specs.declared.items.Item.{Item}
@@ -28,7 +28,7 @@ course_given (Some (d, left)) seen next = next d seen left
 
 -- a value's course leads to what follows what it gives, whatever follows
 abbrev pub RecordedValue : Key → List Item → (List Item → ℕ → (Datum → Going) → Course) → ℕ → List Item → Given → Type 0
-RecordedValue k seen run left now given = (next : Datum → Going) → Leads k seen (run seen left next) now (course_given given now next)
+RecordedValue k seen part left now given = (next : Datum → Going) → Leads k seen (part seen left next) now (course_given given now next)
 
 abbrev pub course_numbers : AllGiven → List Item → (List ℕ → Going) → Course
 course_numbers None seen next = Stops Spent
@@ -46,7 +46,7 @@ outcome_behind (Goes left) = Decided Dropped
 
 -- a part leads to what follows it by how it ends, whatever follows
 abbrev pub Recorded : Key → List Item → Coursing → ℕ → List Item → Ending → Type 0
-Recorded k seen run left now ending = (next : Going) → Leads k seen (run seen left next) now (course_behind ending now next)
+Recorded k seen part left now ending = (next : Going) → Leads k seen (part seen left next) now (course_behind ending now next)
 
 abbrev pub statement_course : Statement → Coursing
 statement_course = fold-Statement Coursing Coursing course_statement course_block
@@ -61,6 +61,6 @@ pub record RecordedNumbers (k : Key) (seen : List Item) (es : List Expr) (left :
   pub course : (next : List ℕ → Going) → Leads k seen (numbers_course es seen left next) now (course_numbers given now next)
   pub each : AreAsMany es given
 
--- how a run goes on behind an `out`, its own step apart
+-- how a trace goes on behind an `out`, its own step apart
 abbrev pub out_course : List Expr → Coursing
 out_course es seen left next = numbers_course es seen left (λ ns seen left. Stops (Decided (sent_out (ports_among ns))))

@@ -1,8 +1,6 @@
-//! Recording the runs of policies.
+//! Recording the traces of policies.
 #![tactic(auto)]
 
 pub mod recording;
-#[cfg(test)]
-mod tests;
 
 pub use recording::{RecordError, Run, record};

@@ -1,4 +1,4 @@
-// Recording of a run: what a policy asks of a packet, and what it decides.
+// Recording of a trace: what a policy asks of a packet, and what it decides.
 ghost use Rattle.std.specs.Prelude.{◌≡◌, true, ◌≤◌, ◌==◌, ◌&&◌, ◌++◌, ◌∷◌, [], ◌<◌, ◌↔◌, Err, IfOk, IsTrue, map, length};
 ghost use Rattle.std.specs.List.{list_all};
 ghost use Rattle.std.specs.Option.{option_map};
@@ -10,15 +10,18 @@ ghost use Rattle.policy_lang.specs.PlainParts.{is_plain_statement};
 ghost use Rattle.policy_eval.specs.Answers.{IsBudget};
 ghost use Rattle.trace_record.specs.Given.{given_of, all_given};
 ghost use Rattle.trace_record.specs.Recording.{Leads, Asked, RecordedValue, RecordedNumbers, Recorded, out_course, statement_course, outcome_behind};
+ghost use Rattle.maple_base.specs.Limits.{most_items};
 ghost use Rattle.maple_base.specs.Keys.{field_of, has_ports, valid_key};
 ghost use Rattle.maple_base.specs.declared.cells.Cell.{Cell};
 ghost use Rattle.maple_base.specs.declared.cells.Value.{Value};
 ghost use Rattle.policy_lang.specs.Evaluation.{eval_of};
-ghost use Rattle.trace_record.specs.Runs.{IsRun, IsOfCall, IsWhole, Gives, AreGiven};
+ghost use Rattle.trace_record.specs.Traces.{IsTrace, IsOfCall, IsWhole, Gives, AreGiven};
 ghost use Rattle.trace_record.specs.declared.recording.RecordError.TheVariants.{Unread, NoMemory as Failed};
 ghost use Rattle.maple_base.specs.declared.items.Item.TheVariants.{Read, Test as Tested};
 
-use maple_base::{Cells, Decision, EnvView, Field, Item, Items, Key, NoMemory, Outcome};
+use maple_base::{
+    Cells, Decision, EnvView, Field, ICMP, IP_TYPE, Item, Items, Key, NoMemory, Outcome, TCP, UDP,
+};
 use policy_eval::{Datum, sent_out};
 use policy_lang::{Block, Expr, Head, Policy, Statement};
 use std::alloc::Global;
@@ -119,15 +122,15 @@ fn read_field(field: Field, key: &Key, items: &mut Vec<Item>) -> Result<u64, NoM
 fn has_ports(proto: u64) -> bool
     ensures { result ≡ has_ports proto }
 {
-    proto == 1 || proto == 6 || proto == 17
+    proto == ICMP as u64 || proto == TCP as u64 || proto == UDP as u64
 }
 
 fn no_ports(items: &[Item]) -> bool
     ensures { result ≡ no_ports items.now }
 {
-    excluded(Field::NwProto, 1, items)
-        && excluded(Field::NwProto, 6, items)
-        && excluded(Field::NwProto, 17, items)
+    excluded(Field::NwProto, ICMP as u64, items)
+        && excluded(Field::NwProto, TCP as u64, items)
+        && excluded(Field::NwProto, UDP as u64, items)
 }
 
 // Whether the packet has an IP header.
@@ -135,13 +138,13 @@ fn ask_net(key: &Key, items: &mut Vec<Item>) -> Result<bool, NoMemory>
     ensures { IfOk result (λ truth. Asked key.now items.old.items ask_net items.new.items truth) }
 {
     if let Some(value) = known(Field::DlType, items) {
-        return Ok(value == 0x0800);
+        return Ok(value == IP_TYPE as u64);
     }
-    if excluded(Field::DlType, 0x0800, items) {
+    if excluded(Field::DlType, IP_TYPE as u64, items) {
         return Ok(false);
     }
     let value = read_field(Field::DlType, key, items)?;
-    Ok(value == 0x0800)
+    Ok(value == IP_TYPE as u64)
 }
 
 // Whether the packet has ports, where it is known whether it has an IP header.
@@ -402,7 +405,7 @@ fn outcome_of(ending: Ending) -> Outcome
     }
 }
 
-/// What a policy asked of a packet in one run, and what it decided of it.
+/// A trace: what a policy asked of a packet, with the answers, and what it decided.
 #[derive(Drop)]
 pub struct Run {
     number: u64,
@@ -416,7 +419,7 @@ pub struct Run {
 }
 
 impl Model for Run {
-    ghost use Rattle.trace_record.specs.Runs.{Traced};
+    ghost use Rattle.trace_record.specs.Traces.{Traced};
     ghost use Rattle.std.specs.Coded.{codes};
     ghost use Rattle.policy_lang.specs.contracts.Policy as policies;
 
@@ -424,14 +427,14 @@ impl Model for Run {
 
     ghost coded = { Prim.hlevel (codes, policies.the_row.coded) };
 
-    ghost use Rattle.trace_record.specs.RunViews.{traced, IsLawful};
+    ghost use Rattle.trace_record.specs.TraceViews.{traced, IsLawful};
 
     ghost view = { traced };
 
     ghost invariant = { IsLawful };
 }
 
-/// Why a run was not recorded.
+/// Why a trace was not recorded.
 #[derive(Clone, Copy, Debug, PartialEq, Eq, Error)]
 pub enum RecordError {
     /// The view refused to tell a cell.
@@ -502,15 +505,15 @@ impl Run {
         (self.items, self.cells, self.outcome)
     }
 
-    /// What holds of each run.
+    /// What holds of each trace.
     pub fn law(&self)
-        ensures { IsRun self.now }
+        ensures { IsTrace self.now }
     {
         let _ = &self.number;
     }
 }
 
-fn run_of(
+fn trace_of(
     alloc: Global,
     policy: &Policy,
     number: u64,
@@ -521,9 +524,9 @@ fn run_of(
     requires key { IsTrue (valid_key key.now) }
     requires budget { IsBudget budget }
     requires plain { is_plain policy.now ≡ true }
-    ensures call { IfOk result (λ run. IsOfCall policy.now number budget switch key.now run) }
-    ensures cells { IfOk result (λ run. run.cells ≡ []) }
-    ensures whole { IfOk result (λ run. IsWhole policy.now budget key.now run.items run.outcome) }
+    ensures call { IfOk result (λ trace. IsOfCall policy.now number budget switch key.now trace) }
+    ensures cells { IfOk result (λ trace. trace.cells ≡ []) }
+    ensures whole { IfOk result (λ trace. IsWhole policy.now budget key.now trace.items trace.outcome) }
 {
     let mut items = Vec::new(alloc);
     let ending = record_policy(alloc, policy.body(), key, budget, &mut items)?;
@@ -552,13 +555,13 @@ pub fn record<V: EnvView>(
     requires key { IsTrue (valid_key key.now) }
     requires budget { IsBudget budget }
     requires plain { is_plain policy.now ≡ true }
-    ensures call { IfOk result (λ run. IsOfCall policy.now number budget switch key.now run) }
-    ensures items { IfOk result (λ run. run.items ≡ items_of (course_of policy.now budget) key.now) }
-    ensures outcome { IfOk result (λ run. (env : Cell → Value) → Gives env run.cells → run.outcome ≡ eval_of policy.now budget env switch key.now) }
-    ensures given { IfOk result (λ run. AreGiven (V.gave view.new) run.cells) }
+    ensures call { IfOk result (λ trace. IsOfCall policy.now number budget switch key.now trace) }
+    ensures items { IfOk result (λ trace. trace.items ≡ items_of (course_of policy.now budget) key.now) }
+    ensures outcome { IfOk result (λ trace. (env : Cell → Value) → Gives env trace.cells → trace.outcome ≡ eval_of policy.now budget env switch key.now) }
+    ensures given { IfOk result (λ trace. AreGiven (V.gave view.new) trace.cells) }
     ensures unread { result ≡ Err Unread ↔ V.refused view.old < V.refused view.new }
-    ensures cells { IfOk result (λ run. run.cells ≡ []) }
-    ensures few { IfOk result (λ run. length run.items ≤ 262144) }
+    ensures cells { IfOk result (λ trace. trace.cells ≡ []) }
+    ensures few { IfOk result (λ trace. length trace.items ≤ most_items) }
 {
-    Ok(run_of(alloc, policy, number, budget, switch, key)?)
+    Ok(trace_of(alloc, policy, number, budget, switch, key)?)
 }

@@ -1,11 +1,13 @@
--- What every tree of runs keeps, and what is asked of a run for that.
-use Rattle.std.specs.Prelude.{◌≡◌, ℕ, ◌+◌, max, Bool, true, false, ◌&&◌, List, [], ◌∷◌, IsTrue}
+-- What every tree of traces keeps, and what is asked of a trace for that.
+use Rattle.std.specs.Prelude.{◌≡◌, ℕ, ◌+◌, ◌^◌, ◌<◌, ◌≤◌, max, Bool, true, false, ◌&&◌, List, [], ◌∷◌, IsTrue}
 use Rattle.maple_base.specs.declared.key.Field.{Field}
 use Rattle.maple_base.specs.declared.items.Item.{Item}
 use Rattle.maple_base.specs.declared.items.Item.TheVariants.{Read, Test}
 use Rattle.maple_base.specs.Keys.{in_domain}
 use Rattle.trace_tree.specs.Shape.{Shape, Branches, Empty, Ends, Reads, Tests, NoBranch, Branch}
+use Rattle.maple_base.specs.Limits.{most_items}
 use Rattle.maple_base.specs.Questions.{among}
+use Rattle.trace_tree.specs.Growth.{IsOrdered, leaves_of}
 
 -- each item's value is one that its field may have
 abbrev pub items_within : List Item → Bool
@@ -48,3 +50,12 @@ abbrev mutual
   pub longest_in : Branches → ℕ
   longest_in NoBranch = 0
   longest_in (Branch v t bs) = max (longest_of t) (longest_in bs)
+
+-- what every tree keeps, beside the number of its leaves
+pub record IsWellFormed (t : Shape) (leaves : ℕ) : Type 0 where
+  pub ordered : IsOrdered t
+  pub counted : leaves ≡ leaves_of t
+  pub few : leaves_of t < 2 ^ 32
+  pub within : IsWithin t
+  pub fresh : IsFresh [] t
+  pub short : longest_of t ≤ most_items

@@ -1,4 +1,4 @@
--- What holds of the tree that a list of runs makes.
+-- What holds of the tree that a list of traces makes.
 use Rattle.std.specs.Prelude.{◌≡◌, List, [], ◌∷◌, ◌++◌, length, IsTrue, false}
 use Rattle.std.specs.List.{AllByRecursion}
 use Rattle.std.specs.Option.{option_map}
@@ -9,22 +9,22 @@ use Rattle.trace_tree.specs.Shape.{Empty}
 use Rattle.trace_tree.specs.Growth.{insert, leaf_of, scratch, found, search_of, admits, AreAdmitted, leaves_of}
 use Rattle.trace_tree.specs.Apart.{AreApart}
 
--- runs of which no two clash are admitted one after the other
+-- traces of which no two clash are admitted one after the other
 abbrev pub ApartIsAdmitted : Type 0
 ApartIsAdmitted = (rs : List Trace) → AreApart rs → AreAdmitted Empty rs
 
--- a run that clashes with none of these is admitted by their tree
+-- a trace that clashes with none of these is admitted by their tree
 abbrev pub FreeIsAdmitted : Type 0
 FreeIsAdmitted = (rs : List Trace) (r : Trace) → AreApart rs → AllByRecursion (λ x. clash r.items x.items ≡ false) rs → IsTrue (admits r.items (scratch rs))
 
--- one more run is one more insertion
+-- one more trace is one more insertion
 abbrev pub GrowsByInsertion : Type 0
 GrowsByInsertion = (rs : List Trace) (r : Trace) → scratch (rs ++ r ∷ []) ≡ insert r.items (leaf_of r) (scratch rs)
 
--- each key's search in the tree finds the leaf of the run that the key meets, or no leaf where it meets none
+-- each key's search in the tree finds the leaf of the trace that the key meets, or no leaf where it meets none
 abbrev pub SearchIsFound : Type 0
 SearchIsFound = (rs : List Trace) (k : Key) → AreAdmitted Empty rs → search_of (scratch rs) k ≡ option_map leaf_of (found rs k)
 
--- a leaf for each run
-abbrev pub LeavesAreRuns : Type 0
-LeavesAreRuns = (rs : List Trace) → AreAdmitted Empty rs → leaves_of (scratch rs) ≡ length rs
+-- a leaf for each trace
+abbrev pub LeavesAreTraces : Type 0
+LeavesAreTraces = (rs : List Trace) → AreAdmitted Empty rs → leaves_of (scratch rs) ≡ length rs

@@ -1,3 +1,6 @@
+-- A reader must believe: Shape (the tree), Growth (how it grows, and which trace a key finds in it), TreeOf (the tree that a node stands for), Bounds (what every tree keeps to), Apart (traces
+-- that can stand in one tree), Laws (what holds of the tree of a list of traces).
+-- Clears, ShapeCode and Walks serve private contracts and proofs alone.
 pub mod Apart
 pub mod Bounds
 pub mod Clears

@@ -1,4 +1,4 @@
-//! Trees of recorded runs.
+//! Trees of recorded traces.
 #![tactic(auto)]
 
 mod clear;
@@ -11,6 +11,3 @@ mod walk;
 pub use laws::scratch_laws;
 pub use node::{Leaf, Node, Trace};
 pub use tree::Tree;
-
-#[cfg(test)]
-mod tests;

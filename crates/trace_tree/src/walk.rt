@@ -2,7 +2,7 @@
 ghost use Rattle.std.specs.Prelude.{◌≡◌};
 ghost use Rattle.std.specs.Bool.{OnTrue, OnFalse};
 ghost use Rattle.maple_base.specs.declared.items.Item.TheVariants.{Read, Test};
-ghost use Rattle.trace_tree.specs.TreeOf.{tree_of, branches, child_trees};
+ghost use Rattle.trace_tree.specs.TreeOf.{tree_of, branches_of};
 ghost use Rattle.trace_tree.specs.Growth.{change, child, IsOrdered, AreOrdered};
 ghost use Rattle.trace_tree.specs.Walks.{has_branch, leads, behind, put_behind};
 
@@ -98,11 +98,11 @@ fn turn_test(field: Field, value: u64, outcome: bool, node: &mut Node, other: &m
 
 // Exchanges the value's child, if there is one, with another node.
 fn swap_child(children: &mut Vec<(u64, Node)>, value: u64, other: &mut Node) -> bool
-    requires { AreOrdered (branches (child_trees children.old.items)) }
-    ensures has { result ≡ has_branch value (branches (child_trees children.old.items)) }
-    ensures child { OnTrue result (tree_of other.new ≡ child value (branches (child_trees children.old.items))) }
-    ensures children { OnTrue result (branches (child_trees children.new.items) ≡ change value (λ _. tree_of other.old) (branches (child_trees children.old.items))) }
-    ensures same_children { OnFalse result (branches (child_trees children.new.items) ≡ branches (child_trees children.old.items)) }
+    requires { AreOrdered (branches_of children.old.items) }
+    ensures has { result ≡ has_branch value (branches_of children.old.items) }
+    ensures child { OnTrue result (tree_of other.new ≡ child value (branches_of children.old.items)) }
+    ensures children { OnTrue result (branches_of children.new.items ≡ change value (λ _. tree_of other.old) (branches_of children.old.items)) }
+    ensures same_children { OnFalse result (branches_of children.new.items ≡ branches_of children.old.items) }
     ensures same_other { OnFalse result (other.new ≡ other.old) }
 {
     match place(children, value) {

@@ -3,8 +3,8 @@ use Rattle.std.proofs.Common.{◌≡◌, ℕ, List, [], ◌∷◌, refl, sym, ap
 use Rattle.maple_base.specs.declared.key.Field.{Field}
 use Rattle.policy_tokens.specs.declared.token.Token.{Token}
 use Rattle.policy_tokens.specs.declared.token.Token.TheVariants.{Keyword as keyword, Name as name, Field as field, PacketSwitch as packet_switch, SwitchOf as switch_of, PortOf as port_of, Number as number, Sign as sign}
-use Rattle.policy_grammar.specs.declared.operator.Operator.{Operator}
-use Rattle.policy_grammar.specs.declared.operator.Operator.TheVariants as operator
+use Rattle.maple_base.specs.declared.operator.Operator.{Operator}
+use Rattle.maple_base.specs.declared.operator.Operator.TheVariants as operator
 use Rattle.policy_grammar.specs.Grammar as written
 use Rattle.policy_grammar.specs.Grammar.{Callee, Up, At, Phrase, Single, Call, Group, Negation, Test, Pair, Question}
 use Rattle.policy_lang.specs.declared.Expr.{Expr}
@@ -29,8 +29,8 @@ joined operator.Equal p l q r = Equal' p l q r
 joined operator.NotEqual p l q r = NotEqual' p l q r
 joined operator.Less p l q r = Less' p l q r
 joined operator.LessEqual p l q r = LessEqual' p l q r
-joined operator.Plus p l q r = Add' p l q r
-joined operator.Minus p l q r = Sub' p l q r
+joined operator.Add p l q r = Add' p l q r
+joined operator.Sub p l q r = Sub' p l q r
 
 abbrev pub called : Callee → Boxed → Expr → Boxed → Expr → Expr
 called Up p l q r = Up' p l q r
@@ -49,8 +49,8 @@ joined_is operator.Equal A B (Equal' p l q r) h = (p, l, q, r, refl, h.0, h.1)
 joined_is operator.NotEqual A B (NotEqual' p l q r) h = (p, l, q, r, refl, h.0, h.1)
 joined_is operator.Less A B (Less' p l q r) h = (p, l, q, r, refl, h.0, h.1)
 joined_is operator.LessEqual A B (LessEqual' p l q r) h = (p, l, q, r, refl, h.0, h.1)
-joined_is operator.Plus A B (Add' p l q r) h = (p, l, q, r, refl, h.0, h.1)
-joined_is operator.Minus A B (Sub' p l q r) h = (p, l, q, r, refl, h.0, h.1)
+joined_is operator.Add A B (Add' p l q r) h = (p, l, q, r, refl, h.0, h.1)
+joined_is operator.Sub A B (Sub' p l q r) h = (p, l, q, r, refl, h.0, h.1)
 joined_is o A B e h = absurd h
 
 called_is : (c : Callee) (A B : Expr → Type 0) (e : Expr) → Both A B (call_parts c e) → IsOfTwo (called c) A B e

@@ -1,13 +1,14 @@
 -- Two trees of the same statements are checked alike.
 use Rattle.std.proofs.Common.{◌≡◌, ℕ, ◌+◌, List, [], ◌++◌, Option, Some, None, false, refl, sym, ap, ◌∙◌}
-use Rattle.policy_grammar.specs.declared.operator.Operator.{Operator}
-use Rattle.policy_grammar.specs.declared.operator.Operator.TheVariants as operator
+use Rattle.maple_base.specs.declared.operator.Operator.{Operator}
+use Rattle.maple_base.specs.declared.operator.Operator.TheVariants as operator
 use Rattle.policy_grammar.specs.Grammar.{Callee, Up, At, Statements}
 use Rattle.policy_lang.specs.declared.Expr.{Expr}
 use Rattle.policy_lang.specs.declared.Head.{Head}
 use Rattle.policy_lang.specs.declared.Block.{Block}
 use Rattle.policy_lang.specs.Blocks.{statements_of}
-use Rattle.policy_lang.specs.Faults.{Fault, UnknownName, TypeMismatch, AtNode, AtWhole, AtDeclared, AtBound, size_of, sizes_of, size_of_head, first_in, Type_, NumberType, TruthType, PlaceType, Table, Meaning, Variable, Names, meaning_of, type_of, unless_so, suits, table_faults, expr_faults, numbers_faults, with_name, declared_faults, head_faults, names_behind, assigned_faults, limit_faults, expr_limits, numbers_limits, head_limits, Checked, same_names, size_otherwise, limits_otherwise, wrong_otherwise, check_assign, check_statement, sizes_in, limits_in, wrong_in, check_block, checked}
+use Rattle.maple_base.specs.declared.policy_fault.PolicyFault.TheVariants.{UnknownName, TypeMismatch}
+use Rattle.policy_lang.specs.Faults.{Fault, AtNode, AtWhole, AtDeclared, AtBound, size_of, sizes_of, size_of_head, first_in, Type_, NumberType, TruthType, PlaceType, Table, Meaning, Variable, Names, meaning_of, type_of, unless_so, suits, table_faults, expr_faults, numbers_faults, with_name, declared_faults, head_faults, names_behind, assigned_faults, limit_faults, expr_limits, numbers_limits, head_limits, Checked, same_names, size_otherwise, limits_otherwise, wrong_otherwise, check_assign, check_statement, sizes_in, limits_in, wrong_in, check_block, checked}
 use Rattle.policy_tree.specs.Trees.{AreTrees}
 use Rattle.tree_laws.proofs.Alike.{Boxed, joined, called, Reckoning, alike, lists_alike, Heading, heads_alike}
 use Rattle.tree_laws.proofs.AlikeFolds.{Folding, one_block}
@@ -71,8 +72,8 @@ takes operator.And = TruthType
 takes o = NumberType
 
 abbrev gives : Operator → Type_
-gives operator.Plus = NumberType
-gives operator.Minus = NumberType
+gives operator.Add = NumberType
+gives operator.Sub = NumberType
 gives o = TruthType
 
 call_senses : (c : Callee) (p : Boxed) (l : Expr) (q : Boxed) (r : Expr) → sense_of (called c p l q r) ≡ call_sense (call_gives c) (sense_of l) (sense_of r)

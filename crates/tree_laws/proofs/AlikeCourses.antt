@@ -5,8 +5,8 @@ use Rattle.std.specs.List.{list_all}
 use Rattle.maple_base.specs.declared.key.Field.{Field}
 use Rattle.maple_base.specs.declared.items.Item.{Item}
 use Rattle.maple_base.specs.declared.decision.Outcome.TheVariants.{Decided, Spent}
-use Rattle.policy_grammar.specs.declared.operator.Operator.{Operator}
-use Rattle.policy_grammar.specs.declared.operator.Operator.TheVariants as operator
+use Rattle.maple_base.specs.declared.operator.Operator.{Operator}
+use Rattle.maple_base.specs.declared.operator.Operator.TheVariants as operator
 use Rattle.policy_grammar.specs.Grammar.{Callee, Up, At, Statements}
 use Rattle.policy_lang.specs.declared.Expr.{Expr}
 use Rattle.policy_lang.specs.declared.Expr.TheVariants.{Is', Not'}

@@ -3,8 +3,8 @@ use Rattle.std.proofs.Common.{◌≡◌, ℕ, zero, suc, None, refl, ap}
 use Rattle.maple_base.specs.declared.key.Field.{Field}
 use Rattle.maple_base.specs.declared.cells.Cell.TheVariants as cell
 use Rattle.maple_base.specs.Keys.{field_of}
-use Rattle.policy_grammar.specs.declared.operator.Operator.{Operator}
-use Rattle.policy_grammar.specs.declared.operator.Operator.TheVariants as operator
+use Rattle.maple_base.specs.declared.operator.Operator.{Operator}
+use Rattle.maple_base.specs.declared.operator.Operator.TheVariants as operator
 use Rattle.policy_grammar.specs.Grammar.{Callee, Up, At, Statements}
 use Rattle.policy_lang.specs.declared.Expr.{Expr}
 use Rattle.policy_lang.specs.declared.Expr.TheVariants.{Is', Not'}
@@ -47,8 +47,8 @@ pair_given operator.Equal = from_two are_equal
 pair_given operator.NotEqual = from_two are_unequal
 pair_given operator.Less = from_two is_less
 pair_given operator.LessEqual = from_two is_at_most
-pair_given operator.Plus = from_two sum_of
-pair_given operator.Minus = from_two difference_of
+pair_given operator.Add = from_two sum_of
+pair_given operator.Sub = from_two difference_of
 
 abbrev pub call_value : Callee → Valuing → Valuing → Valuing
 call_value c f g = stepped (λ a s left. call_given c a (f a s left) (g a s))

@@ -3,9 +3,9 @@ use Rattle.std.proofs.Common.{◌≡◌, ℕ, suc, ◌+◌, ◌-◌, ◌≤◌, 
 use Rattle.std.specs.Prelude.{not, nat_lt, nat_le, ◌==◌}
 use Rattle.std.proofs.lemmas.Bool.{ltb-false}
 use Rattle.std.proofs.lemmas.Bool.Decides.{nat_tests}
-use Rattle.policy_lang.specs.Faults.{Fault, Nesting as Deep, Nodes as Many, AtNode, unless_so, limit_faults}
-use Rattle.policy_limits.specs.declared.fault.FaultKind.{FaultKind}
-use Rattle.policy_limits.specs.declared.fault.FaultKind.TheVariants.{Nesting, Nodes, TooLong}
+use Rattle.policy_lang.specs.Faults.{Fault, AtNode, unless_so, limit_faults}
+use Rattle.maple_base.specs.declared.policy_fault.PolicyFault.{PolicyFault}
+use Rattle.maple_base.specs.declared.policy_fault.PolicyFault.TheVariants.{Nesting, Nodes, TooLong}
 use Rattle.policy_limits.specs.Counts.{Count, of_none, of_first, of_last, of_whole, begin_first, end_last}
 use Rattle.policy_limits.specs.Limits.{limit_at, Passed, passed_or, first_passed}
 
@@ -24,7 +24,7 @@ first_false : (u v : Bool) → u || v ≡ false → u ≡ false
 first_false true v e = absurd (cc)
 first_false false v e = refl
 
-none_passed : (i : ℕ) (o : Option FaultKind) (rest : Passed) → passed_or i o rest ≡ None → (o ≡ None) × (rest ≡ None)
+none_passed : (i : ℕ) (o : Option PolicyFault) (rest : Passed) → passed_or i o rest ≡ None → (o ≡ None) × (rest ≡ None)
 none_passed i (Some kind) rest e = absurd (cc)
 none_passed i None rest e = (refl, e)
 
@@ -125,7 +125,7 @@ Node h f = (k depth : ℕ) → (first : ℕ) × (h k depth ≡ limit_faults k fi
 pub own_clear : (k first depth : ℕ) → depth ≤ 32 → k ≤ 4096 → limit_faults k first depth ≡ []
 own_clear k first depth h g = by (nat_le depth 32) refl (k == 4097) refl
   where
-    by : (u : Bool) → nat_le depth 32 ≡ u → (v : Bool) → (k == 4097) ≡ v → unless_so u Deep (AtNode k first) ++ unless_so (not v) Many (AtNode k first) ≡ []
+    by : (u : Bool) → nat_le depth 32 ≡ u → (v : Bool) → (k == 4097) ≡ v → unless_so u Nesting (AtNode k first) ++ unless_so (not v) Nodes (AtNode k first) ≡ []
     by true p false q = refl
     by true p true q = let wrong : ⊥ = grind (arith, nat_tests) in absurd wrong
     by false p v q = let wrong : ⊥ = grind (arith, nat_tests) in absurd wrong

@@ -1,9 +1,6 @@
 //! What follows of the syntax trees of what is written in a policy's text.
 #![tactic(auto)]
 
-#[cfg(test)]
-mod tests;
-
 ghost use Rattle.tree_laws.specs.Laws.{NoneIsPassed, CheckedAlike, EndAlike, ReadAlike, AskAlike, PlainAlike};
 
 /// A text that passes no limit has a tree none of whose nodes passes one.

@@ -4,10 +4,11 @@ use Rattle.std.specs.Prelude.{nat_lt, map, List, All}
 use Rattle.std.proofs.lemmas.Bool.{cond_both, ltb-true}
 use Rattle.std.proofs.lemmas.List.Elements.{All-nil, All-cons, All-append, All-weaker, All-map}
 use Rattle.maple_base.specs.declared.key.Field.{Field}
-use Rattle.policy_grammar.specs.declared.operator.Operator.{Operator}
-use Rattle.policy_grammar.specs.declared.operator.Operator.TheVariants as operator
+use Rattle.maple_base.specs.declared.operator.Operator.{Operator}
+use Rattle.maple_base.specs.declared.operator.Operator.TheVariants as operator
 use Rattle.policy_grammar.specs.Grammar as written
-use Rattle.policy_grammar.specs.Grammar.{Phrase, Callee, Call, Group, Negation, Pair, IsPhrase, left_level, right_level}
+use Rattle.maple_base.specs.Operators.{left_level, right_level}
+use Rattle.policy_grammar.specs.Grammar.{Phrase, Callee, Call, Group, Negation, Pair, IsPhrase}
 use Rattle.policy_lang.specs.declared.Expr.{Expr}
 use Rattle.policy_lang.specs.declared.Expr.TheVariants.{Number, Var, SwitchOf, PortOf, PacketSwitch, Packet, Up', At', Is', Not', And', Or', Add', Sub', Equal', NotEqual', Less', LessEqual'}
 use Rattle.policy_print.specs.Printed.{level_of}
@@ -71,11 +72,11 @@ needed (Not' p e) least = of_negation (in_group 2 (level_of e) (phrase_of e)) le
 needed (And' p l q r) least =
     of_pair operator.And (in_group 1 (level_of l) (phrase_of l)) (in_group 2 (level_of r) (phrase_of r)) least (placed l 1 (omega arith) (needed l)) (placed r 2 (omega arith) (needed r))
 needed (Or' p l q r) least =
-    of_pair operator.Or (phrase_of l) (in_group 1 (level_of r) (phrase_of r)) least (needed l 0) (placed r 1 (omega arith) (needed r))
+    of_pair operator.Or (in_group 0 (level_of l) (phrase_of l)) (in_group 1 (level_of r) (phrase_of r)) least (placed l 0 (omega arith) (needed l)) (placed r 1 (omega arith) (needed r))
 needed (Add' p l q r) least =
-    of_pair operator.Plus (in_group 4 (level_of l) (phrase_of l)) (in_group 5 (level_of r) (phrase_of r)) least (placed l 4 (omega arith) (needed l)) (placed r 5 (omega arith) (needed r))
+    of_pair operator.Add (in_group 4 (level_of l) (phrase_of l)) (in_group 5 (level_of r) (phrase_of r)) least (placed l 4 (omega arith) (needed l)) (placed r 5 (omega arith) (needed r))
 needed (Sub' p l q r) least =
-    of_pair operator.Minus (in_group 4 (level_of l) (phrase_of l)) (in_group 5 (level_of r) (phrase_of r)) least (placed l 4 (omega arith) (needed l)) (placed r 5 (omega arith) (needed r))
+    of_pair operator.Sub (in_group 4 (level_of l) (phrase_of l)) (in_group 5 (level_of r) (phrase_of r)) least (placed l 4 (omega arith) (needed l)) (placed r 5 (omega arith) (needed r))
 needed (Equal' p l q r) least =
     of_pair operator.Equal (in_group 4 (level_of l) (phrase_of l)) (in_group 4 (level_of r) (phrase_of r)) least (placed l 4 (omega arith) (needed l)) (placed r 4 (omega arith) (needed r))
 needed (NotEqual' p l q r) least =

@@ -5,10 +5,10 @@ use Rattle.std.proofs.lemmas.Bool.{cond_both, ltb-true}
 use Rattle.maple_base.specs.declared.key.Field.{Field}
 use Rattle.policy_tokens.specs.declared.token.Token.{Token}
 use Rattle.policy_tokens.specs.declared.token.Token.TheVariants.{Keyword as keyword, Name as name, Field as field, PacketSwitch as packet_switch, SwitchOf as switch_of, PortOf as port_of, Number as number, Sign as sign}
-use Rattle.policy_grammar.specs.declared.operator.Operator.{Operator}
-use Rattle.policy_grammar.specs.declared.operator.Operator.TheVariants as operator
-use Rattle.policy_grammar.specs.Grammar as written
-use Rattle.policy_grammar.specs.Grammar.{Callee, Up, At, Phrase, Single, Call, Group, Negation, Test, Pair, IsPhrase, left_level, right_level}
+use Rattle.maple_base.specs.declared.operator.Operator.{Operator}
+use Rattle.maple_base.specs.declared.operator.Operator.TheVariants as operator
+use Rattle.maple_base.specs.Operators.{level_of as operator_level, left_level, right_level}
+use Rattle.policy_grammar.specs.Grammar.{Callee, Up, At, Phrase, Single, Call, Group, Negation, Test, Pair, IsPhrase}
 use Rattle.policy_lang.specs.declared.Expr.{Expr}
 use Rattle.policy_lang.specs.declared.Expr.TheVariants.{Up', At', Is', Not', And', Or', Add', Sub', Equal', NotEqual', Less', LessEqual'}
 use Rattle.policy_tree.specs.Trees.{IsSingle, parts_of, call_parts, negated, tested, Both, One, OneOf, IsExpr}
@@ -75,15 +75,15 @@ call_has Up A B (Up' p l q r) h = (l, r, refl, omega (arith, at_least_0 l, at_le
 call_has At A B (At' p l q r) h = (l, r, refl, omega (arith, at_least_0 l, at_least_0 r), h.0, h.1)
 call_has c A B e h = absurd h
 
-pair_has : (o : Operator) (A B : Expr → Type 0) (e : Expr) → Both A B (parts_of o e) → HasParts (written.level_of o) (left_level o) (right_level o) A B e
-pair_has operator.Or A B (Or' p l q r) h = (l, r, refl, omega (arith, at_least_0 l), h.0, h.1)
+pair_has : (o : Operator) (A B : Expr → Type 0) (e : Expr) → Both A B (parts_of o e) → HasParts (operator_level o) (left_level o) (right_level o) A B e
+pair_has operator.Or A B (Or' p l q r) h = (l, r, refl, refl, h.0, h.1)
 pair_has operator.And A B (And' p l q r) h = (l, r, refl, refl, h.0, h.1)
 pair_has operator.Equal A B (Equal' p l q r) h = (l, r, refl, refl, h.0, h.1)
 pair_has operator.NotEqual A B (NotEqual' p l q r) h = (l, r, refl, refl, h.0, h.1)
 pair_has operator.Less A B (Less' p l q r) h = (l, r, refl, refl, h.0, h.1)
 pair_has operator.LessEqual A B (LessEqual' p l q r) h = (l, r, refl, refl, h.0, h.1)
-pair_has operator.Plus A B (Add' p l q r) h = (l, r, refl, refl, h.0, h.1)
-pair_has operator.Minus A B (Sub' p l q r) h = (l, r, refl, refl, h.0, h.1)
+pair_has operator.Add A B (Add' p l q r) h = (l, r, refl, refl, h.0, h.1)
+pair_has operator.Sub A B (Sub' p l q r) h = (l, r, refl, refl, h.0, h.1)
 pair_has o A B e h = absurd h
 
 -- ---- the fewest
@@ -95,8 +95,8 @@ left_within operator.Equal = omega arith
 left_within operator.NotEqual = omega arith
 left_within operator.Less = omega arith
 left_within operator.LessEqual = omega arith
-left_within operator.Plus = omega arith
-left_within operator.Minus = omega arith
+left_within operator.Add = omega arith
+left_within operator.Sub = omega arith
 
 right_within : (o : Operator) → right_level o ≤ 5
 right_within operator.Or = omega arith
@@ -105,8 +105,8 @@ right_within operator.Equal = omega arith
 right_within operator.NotEqual = omega arith
 right_within operator.Less = omega arith
 right_within operator.LessEqual = omega arith
-right_within operator.Plus = omega arith
-right_within operator.Minus = omega arith
+right_within operator.Add = omega arith
+right_within operator.Sub = omega arith
 
 pub fewest_parentheses : (a : Phrase) (e : Expr) (least : ℕ) → least ≤ 5 → IsPhrase least a → IsExpr a e → groups_of (in_group least (level_of e) (phrase_of e)) ≤ groups_of a
 fewest_parentheses (Single t) e least le g h =

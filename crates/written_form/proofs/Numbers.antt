@@ -12,8 +12,8 @@ use Rattle.std.proofs.lemmas.List.Splits.{slice_split_none}
 use Rattle.std.proofs.lemmas.Slice.Eq.{bytes_eq-Decides}
 use Rattle.std.proofs.lemmas.Fmt.{decimal_by_steps}
 use Rattle.maple_base.specs.Names.{is_name, is_name_byte, is_first_byte, begins_name, is_keyword}
-use Rattle.maple_base.specs.Numbers.{is_digit, is_digits, digits_onto, numeral_within, is_hexadecimal, address_of, numeral_of, hex_onto}
-use Rattle.maple_base.specs.declared.number.Numeral.TheVariants.{Number as numeral, TooGreat}
+use Rattle.maple_text.specs.Numbers.{is_digit, is_digits, digits_onto, numeral_within, is_hexadecimal, address_of, numeral_of, hex_onto}
+use Rattle.maple_text.specs.declared.number.Numeral.TheVariants.{Number as numeral, TooGreat}
 use Rattle.policy_tokens.specs.declared.token.Token.TheVariants.{Keyword as keyword, Name as name, Number as number}
 use Rattle.policy_tokens.specs.declared.token.Keyword.{Keyword}
 use Rattle.policy_tokens.specs.declared.token.Keyword.TheVariants.{Table, Policy, Learning, Drop, Flood, Out, Route, Let, If, Else, While, Host, Hop, Up, At, As, Is, And, Or, Not, In, Packet}

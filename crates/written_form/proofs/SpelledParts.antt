@@ -129,7 +129,7 @@ expr_reads (And' p l q r) h =
     around_reads (codes "and") (keyword key.And) (word (codes "and") (keyword key.And) refl refl) (at_place 1 l (expr_reads l s.0)) (at_place 2 r (expr_reads r s.1))
 expr_reads (Or' p l q r) h =
     let s = and_parts (sound_expr l) (sound_expr r) h in
-    around_reads (codes "or") (keyword key.Or) (word (codes "or") (keyword key.Or) refl refl) (expr_reads l s.0) (at_place 1 r (expr_reads r s.1))
+    around_reads (codes "or") (keyword key.Or) (word (codes "or") (keyword key.Or) refl refl) (at_place 0 l (expr_reads l s.0)) (at_place 1 r (expr_reads r s.1))
 expr_reads (Add' p l q r) h =
     let s = and_parts (sound_expr l) (sound_expr r) h in
     around_reads (codes "+") (sign mark.Plus) (plus false) (at_place 4 l (expr_reads l s.0)) (at_place 5 r (expr_reads r s.1))

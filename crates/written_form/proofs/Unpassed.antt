@@ -3,9 +3,9 @@ use Rattle.std.proofs.Common.{◌≡◌, ℕ, suc, ◌+◌, ◌-◌, ◌≤◌, 
 use Rattle.std.specs.Prelude.{not, nat_lt, nat_le, ◌==◌}
 use Rattle.std.proofs.lemmas.Bool.{le-ltb}
 use Rattle.std.proofs.lemmas.Bool.Decides.{nat_tests}
-use Rattle.policy_lang.specs.Faults.{Fault, Nesting as Deep, Nodes as Many, AtNode, unless_so, limit_faults}
+use Rattle.policy_lang.specs.Faults.{Fault, AtNode, unless_so, limit_faults}
 use Rattle.policy_lang.proofs.Sizes.{none_both}
-use Rattle.policy_limits.specs.declared.fault.FaultKind.TheVariants.{Nesting, Nodes, TooLong}
+use Rattle.maple_base.specs.declared.policy_fault.PolicyFault.TheVariants.{Nesting, Nodes, TooLong}
 use Rattle.policy_limits.specs.Counts.{Count, of_none, of_first, of_last, of_whole, of_opening, begin_first, end_last}
 use Rattle.policy_limits.specs.Limits.{limit_at, passed_or, first_passed}
 
@@ -124,14 +124,14 @@ Node h f = (k depth : ℕ) → (first : ℕ) × (h k depth ≡ limit_faults k fi
 
 own : (k first depth : ℕ) → limit_faults k first depth ≡ [] → k ≤ 4097 → (depth ≤ 32) × (k ≤ 4096)
 own k first depth e le =
-    let h = none_both (unless_so (nat_le depth 32) Deep (AtNode k first)) (unless_so (not (k == 4097)) Many (AtNode k first)) e in
+    let h = none_both (unless_so (nat_le depth 32) Nesting (AtNode k first)) (unless_so (not (k == 4097)) Nodes (AtNode k first)) e in
     (shallow (nat_le depth 32) refl h.0, few (k == 4097) refl h.1)
   where
-    shallow : (u : Bool) → nat_le depth 32 ≡ u → unless_so u Deep (AtNode k first) ≡ [] → depth ≤ 32
+    shallow : (u : Bool) → nat_le depth 32 ≡ u → unless_so u Nesting (AtNode k first) ≡ [] → depth ≤ 32
     shallow true is e = grind (arith, nat_tests)
     shallow false is e = absurd (cc)
 
-    few : (u : Bool) → (k == 4097) ≡ u → unless_so (not u) Many (AtNode k first) ≡ [] → k ≤ 4096
+    few : (u : Bool) → (k == 4097) ≡ u → unless_so (not u) Nodes (AtNode k first) ≡ [] → k ≤ 4096
     few true is e = absurd (cc)
     few false is e = grind (arith, nat_tests)
 

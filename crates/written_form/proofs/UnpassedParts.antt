@@ -93,9 +93,7 @@ expr_kept (At' p l q r) n =
     call_kept n (At' p l q r) l r (phrase_counts n (phrase_of l)) (phrase_counts n (phrase_of r)) refl (λ k depth. (k, regrouped l r k k depth)) (expr_kept l n) (expr_kept r n)
 expr_kept (Is' f p e) n = test_kept n (Is' f p e) e (put_in 4 e) refl (λ k depth. (k, refl)) (part_kept (nat_lt (level_of e) 4) n e (phrase_of e) (λ i. expr_kept e i))
 expr_kept (Not' p e) n = not_kept n (Not' p e) e (put_in 2 e) refl (λ k depth. (k, refl)) (part_kept (nat_lt (level_of e) 2) n e (phrase_of e) (λ i. expr_kept e i))
-expr_kept (Or' p l q r) n =
-    pair_kept n (Or' p l q r) l r (phrase_of l) (put_in 1 r) refl (λ k depth. (first_in l (k + 1), regrouped l r k (first_in l (k + 1)) depth))
-    (raised n (phrase_counts n (phrase_of l)) (size_of l) (expr_limits l) (expr_kept l n)) (part_kept (nat_lt (level_of r) 1) n r (phrase_of r) (λ i. expr_kept r i))
+expr_kept (Or' p l q r) n = infix_kept n (Or' p l q r) l r (λ k. first_in l (k + 1)) 0 1 refl (λ k depth. refl) (λ i. expr_kept l i) (λ i. expr_kept r i)
 expr_kept (And' p l q r) n = infix_kept n (And' p l q r) l r (λ k. first_in l (k + 1)) 1 2 refl (λ k depth. refl) (λ i. expr_kept l i) (λ i. expr_kept r i)
 expr_kept (Add' p l q r) n = infix_kept n (Add' p l q r) l r (λ k. first_in l (k + 1)) 4 5 refl (λ k depth. refl) (λ i. expr_kept l i) (λ i. expr_kept r i)
 expr_kept (Sub' p l q r) n = infix_kept n (Sub' p l q r) l r (λ k. first_in l (k + 1)) 4 5 refl (λ k depth. refl) (λ i. expr_kept l i) (λ i. expr_kept r i)

@@ -1,5 +1,6 @@
 -- What holds of the printed form of each policy.
 use Rattle.std.specs.Prelude.{◌≡◌, ℕ, ◌≤◌, ◌↔◌, true, Bool, map, List, [], length, None, All}
+use Rattle.maple_base.specs.PolicyLimits.{most_bytes}
 use Rattle.policy_lang.specs.declared.Block.{Block}
 use Rattle.policy_lang.specs.declared.Expr.{Expr}
 use Rattle.policy_lang.specs.declared.Policy.{Policy}
@@ -53,4 +54,4 @@ pub record IsSpelled (p : Policy) : Type 0 where
   pub tokens : map (λ t. t.token) (tokens_of (policy_text p)).tokens ≡ file_tokens (file_of p)
 
 abbrev pub SpelledAsWritten : Type 0
-SpelledAsWritten = (p : Policy) → is_sound p ≡ true → length (policy_text p) ≤ 65536 → IsSpelled p
+SpelledAsWritten = (p : Policy) → is_sound p ≡ true → length (policy_text p) ≤ most_bytes → IsSpelled p

@@ -10,7 +10,9 @@ use Rattle.policy_lang.specs.declared.Statement.TheOpen.{Statement-F, Block-F, D
 use Rattle.policy_lang.specs.declared.Block.{Block, fold-Block}
 use Rattle.policy_lang.specs.declared.Policy.{Policy}
 use Rattle.policy_tokens.specs.declared.token.Token.TheVariants.{Name as name, Field as field, PacketSwitch as packet_switch, SwitchOf as switch_of, PortOf as port_of, Number as number}
-use Rattle.policy_grammar.specs.declared.operator.Operator.TheVariants as operator
+use Rattle.maple_base.specs.declared.operator.Operator.{Operator}
+use Rattle.maple_base.specs.declared.operator.Operator.TheVariants as operator
+use Rattle.maple_base.specs.Operators.{left_level, right_level}
 use Rattle.policy_grammar.specs.Grammar as written
 use Rattle.policy_grammar.specs.Grammar.{Phrase, Single, Call, Group, Negation, Question, Action, Statements, Nothing, Plain, If, IfElse, While, File}
 use Rattle.policy_print.specs.Printed.{level_of}
@@ -20,6 +22,10 @@ use Rattle.policy_print.specs.Printed.{level_of}
 -- where a part of at least a level may stand, one of a lesser level stands in parentheses
 abbrev pub in_group : ℕ → ℕ → Phrase → Phrase
 in_group least level a = if nat_lt level least then Group a else a
+
+-- two parts, each with its level, and their operator between
+abbrev pub joined : Operator → ℕ → Phrase → ℕ → Phrase → Phrase
+joined o k a m b = written.Pair o (in_group (left_level o) k a) (in_group (right_level o) m b)
 
 abbrev pub phrase_of : Expr → Phrase
 phrase_of (Number n) = Single (number n)
@@ -32,14 +38,14 @@ phrase_of (Up' p l q r) = Call written.Up (phrase_of l) (phrase_of r)
 phrase_of (At' p l q r) = Call written.At (phrase_of l) (phrase_of r)
 phrase_of (Is' f p e) = written.Test f (in_group 4 (level_of e) (phrase_of e))
 phrase_of (Not' p e) = Negation (in_group 2 (level_of e) (phrase_of e))
-phrase_of (And' p l q r) = written.Pair operator.And (in_group 1 (level_of l) (phrase_of l)) (in_group 2 (level_of r) (phrase_of r))
-phrase_of (Or' p l q r) = written.Pair operator.Or (phrase_of l) (in_group 1 (level_of r) (phrase_of r))
-phrase_of (Add' p l q r) = written.Pair operator.Plus (in_group 4 (level_of l) (phrase_of l)) (in_group 5 (level_of r) (phrase_of r))
-phrase_of (Sub' p l q r) = written.Pair operator.Minus (in_group 4 (level_of l) (phrase_of l)) (in_group 5 (level_of r) (phrase_of r))
-phrase_of (Equal' p l q r) = written.Pair operator.Equal (in_group 4 (level_of l) (phrase_of l)) (in_group 4 (level_of r) (phrase_of r))
-phrase_of (NotEqual' p l q r) = written.Pair operator.NotEqual (in_group 4 (level_of l) (phrase_of l)) (in_group 4 (level_of r) (phrase_of r))
-phrase_of (Less' p l q r) = written.Pair operator.Less (in_group 4 (level_of l) (phrase_of l)) (in_group 4 (level_of r) (phrase_of r))
-phrase_of (LessEqual' p l q r) = written.Pair operator.LessEqual (in_group 4 (level_of l) (phrase_of l)) (in_group 4 (level_of r) (phrase_of r))
+phrase_of (And' p l q r) = joined operator.And (level_of l) (phrase_of l) (level_of r) (phrase_of r)
+phrase_of (Or' p l q r) = joined operator.Or (level_of l) (phrase_of l) (level_of r) (phrase_of r)
+phrase_of (Add' p l q r) = joined operator.Add (level_of l) (phrase_of l) (level_of r) (phrase_of r)
+phrase_of (Sub' p l q r) = joined operator.Sub (level_of l) (phrase_of l) (level_of r) (phrase_of r)
+phrase_of (Equal' p l q r) = joined operator.Equal (level_of l) (phrase_of l) (level_of r) (phrase_of r)
+phrase_of (NotEqual' p l q r) = joined operator.NotEqual (level_of l) (phrase_of l) (level_of r) (phrase_of r)
+phrase_of (Less' p l q r) = joined operator.Less (level_of l) (phrase_of l) (level_of r) (phrase_of r)
+phrase_of (LessEqual' p l q r) = joined operator.LessEqual (level_of l) (phrase_of l) (level_of r) (phrase_of r)
 
 -- ---- statements
 

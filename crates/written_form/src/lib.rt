@@ -1,9 +1,6 @@
 //! What is written in the printed form of a policy.
 #![tactic(auto)]
 
-#[cfg(test)]
-mod tests;
-
 ghost use Rattle.written_form.specs.Laws.{ParenthesesMustStand, NoneCanBeDropped, FewestParentheses, NoneOfABlock, FewestOfABlock, IsOfGrammar, IsTree, NoneIsPassed, SpelledAsWritten};
 
 /// What is written in the printed form is of the grammar, and its syntax tree is the one that is

@@ -1,17 +1,9 @@
-// Appending to a vector that has the room.
-ghost use Rattle.std.specs.Prelude.{◌≡◌, ◌+◌, ◌≤◌, ◌++◌, true, length, vec_len, vec_capacity};
-ghost use Rattle.of10_codec.specs.Written.{number};
+// Appending numbers to a vector that has the room.
+ghost use Rattle.std.specs.Prelude.{◌≡◌, ◌+◌, ◌≤◌, ◌++◌, true, vec_len, vec_capacity};
+ghost use Rattle.maple_base.specs.NetworkOrder.{number};
 ghost use Rattle.of10_codec.specs.Laws.{has_bits};
 
-pub(super) fn append(bytes: &[u8], out: &mut Vec<u8>)
-    requires { vec_len out.old + length bytes.now ≤ vec_capacity out.old }
-    ensures items { out.new.items ≡ out.old.items ++ bytes.now }
-    ensures len { vec_len out.new ≡ vec_len out.old + length bytes.now }
-    ensures capacity { vec_capacity out.old ≤ vec_capacity out.new }
-{
-    // There is room, so that this does not fail.
-    let _ = out.extend_from_slice(bytes);
-}
+use maple_base::append;
 
 pub(super) fn append_u8(n: u8, out: &mut Vec<u8>)
     requires { vec_len out.old + 1 ≤ vec_capacity out.old }

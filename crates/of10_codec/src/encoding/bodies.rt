@@ -1,15 +1,15 @@
 // Writing what stands behind the header.
-ghost use Rattle.std.specs.Prelude.{◌≡◌, ◌+◌, ◌*◌, ◌^◌, ◌<◌, ◌≤◌, ◌++◌, true, length, vec_len, vec_capacity, ◌&&◌};
+ghost use Rattle.std.specs.Prelude.{◌≡◌, ◌+◌, ◌*◌, ◌^◌, ◌<◌, ◌≤◌, ◌++◌, true, length, vec_len, vec_capacity};
 ghost use Rattle.of10_codec.specs.declared.message.Body.TheVariants.{Error, FeaturesReply, PacketIn, FlowRemoved, PortStatus, PacketOut};
-ghost use Rattle.of10_codec.specs.Written.{number, written_match, written_outputs, written_body};
-ghost use Rattle.of10_codec.specs.Laws.{has_bits, match_has_bits, actions_have_bits, body_has_bits};
+ghost use Rattle.of10_codec.specs.Written.{written_body, flow_mod_front, flow_mod_rest};
+ghost use Rattle.of10_codec.specs.Laws.{body_has_bits, front_has_bits, rest_has_bits};
 
-use super::append::{append, append_u8, append_u16, append_u32, append_u64};
+use super::append::{append_u8, append_u16, append_u32, append_u64};
 use super::matches::bytes_of;
 use super::outputs::append_actions;
 use super::ports::{append_port, append_ports};
 use crate::Body;
-use maple_base::{Actions, Match, Port};
+use maple_base::{Actions, Match, Port, append};
 
 pub(super) fn len_of(body: &Body) -> u128
     ensures value { result ≡ length (written_body body.now) }
@@ -136,10 +136,10 @@ fn append_flow_mod_front(
     out: &mut Vec<u8>,
 )
     requires { vec_len out.old + 54 ≤ vec_capacity out.old }
-    ensures items { out.new.items ≡ out.old.items ++ (written_match of.now ++ number 8 cookie ++ number 2 command ++ number 2 idle ++ number 2 hard) }
+    ensures items { out.new.items ≡ out.old.items ++ flow_mod_front of.now cookie command idle hard }
     ensures len { vec_len out.new ≡ vec_len out.old + 54 }
     ensures capacity { vec_capacity out.old ≤ vec_capacity out.new }
-    ensures bits { (match_has_bits of.now && has_bits 64 cookie && has_bits 16 command && has_bits 16 idle && has_bits 16 hard) ≡ true }
+    ensures bits { front_has_bits of.now cookie command idle hard ≡ true }
 {
     append(&bytes_of(of), out);
     append_u64(cookie, out);
@@ -158,8 +158,8 @@ fn append_flow_mod_rest(
     out: &mut Vec<u8>,
 )
     requires { vec_len out.old + 10 + 8 * length actions ≤ vec_capacity out.old }
-    ensures items { out.new.items ≡ out.old.items ++ (number 2 priority ++ number 4 buffer ++ number 2 out_port ++ number 2 flags ++ written_outputs actions) }
-    ensures bits { (has_bits 16 priority && has_bits 32 buffer && has_bits 16 out_port && has_bits 16 flags && actions_have_bits actions) ≡ true }
+    ensures items { out.new.items ≡ out.old.items ++ flow_mod_rest priority buffer out_port flags actions }
+    ensures bits { rest_has_bits priority buffer out_port flags actions ≡ true }
 {
     append_u16(priority, out);
     append_u32(buffer, out);

@@ -3,6 +3,10 @@ ghost use Rattle.std.specs.Prelude.{◌≡◌, ◌≤◌, true, if◌then◌else
 ghost use Rattle.of10_codec.specs.Written.{value_or_zero, wildcards, written_match};
 ghost use Rattle.of10_codec.specs.Laws.{fixed_has_bits, match_has_bits};
 
+use crate::wildcards::{
+    DL_DST, DL_PCP, DL_SRC, DL_TYPE, DL_VLAN, IN_PORT, NW_DST, NW_PROTO, NW_SRC, NW_TOS, TP_DST,
+    TP_SRC,
+};
 use maple_base::Match;
 
 fn u8_or_zero(fixed: Option<u8>) -> u8
@@ -55,18 +59,18 @@ fn bits_if(free: bool, bits: u32) -> u32
 fn wildcards(of: &Match) -> u32
     ensures { result ≡ wildcards of.now }
 {
-    bits_if(of.in_port.is_none(), 1 << 0)
-        + bits_if(of.dl_vlan.is_none(), 1 << 1)
-        + bits_if(of.dl_src.is_none(), 1 << 2)
-        + bits_if(of.dl_dst.is_none(), 1 << 3)
-        + bits_if(of.dl_type.is_none(), 1 << 4)
-        + bits_if(of.nw_proto.is_none(), 1 << 5)
-        + bits_if(of.tp_src.is_none(), 1 << 6)
-        + bits_if(of.tp_dst.is_none(), 1 << 7)
-        + bits_if(of.nw_src.is_none(), 32 << 8)
-        + bits_if(of.nw_dst.is_none(), 32 << 14)
-        + bits_if(of.dl_pcp.is_none(), 1 << 20)
-        + bits_if(of.nw_tos.is_none(), 1 << 21)
+    bits_if(of.in_port.is_none(), 1 << IN_PORT)
+        + bits_if(of.dl_vlan.is_none(), 1 << DL_VLAN)
+        + bits_if(of.dl_src.is_none(), 1 << DL_SRC)
+        + bits_if(of.dl_dst.is_none(), 1 << DL_DST)
+        + bits_if(of.dl_type.is_none(), 1 << DL_TYPE)
+        + bits_if(of.nw_proto.is_none(), 1 << NW_PROTO)
+        + bits_if(of.tp_src.is_none(), 1 << TP_SRC)
+        + bits_if(of.tp_dst.is_none(), 1 << TP_DST)
+        + bits_if(of.nw_src.is_none(), 32 << NW_SRC)
+        + bits_if(of.nw_dst.is_none(), 32 << NW_DST)
+        + bits_if(of.dl_pcp.is_none(), 1 << DL_PCP)
+        + bits_if(of.nw_tos.is_none(), 1 << NW_TOS)
 }
 
 // The 40 bytes of a match (OpenFlow 1.0, 5.2.3, ofp_match).

@@ -5,11 +5,9 @@ ghost use Rattle.of10_codec.specs.Written.{written_output, written_outputs};
 ghost use Rattle.of10_codec.specs.Laws.{has_bits, actions_have_bits};
 
 use super::append::append_u16;
-use maple_base::Actions;
+use maple_base::{Actions, CONTROLLER_PORT};
 
-// The port that stands for the controller, and as many bytes of a packet as there are.
-const CONTROLLER: u16 = 0xfffd;
-
+// As many bytes of a packet as there are.
 const WHOLE: u16 = 0xffff;
 
 // OpenFlow 1.0, 5.2.4, ofp_action_output.
@@ -23,7 +21,7 @@ fn append_output(port: u16, out: &mut Vec<u8>)
     append_u16(0, out);
     append_u16(8, out);
     append_u16(port, out);
-    append_u16(if port == CONTROLLER { WHOLE } else { 0 }, out);
+    append_u16(if port == CONTROLLER_PORT { WHOLE } else { 0 }, out);
 }
 
 fn append_outputs(ports: &[u16], out: &mut Vec<u8>)

@@ -4,8 +4,8 @@ ghost use Rattle.std.specs.List.{flat_map, list_all};
 ghost use Rattle.of10_codec.specs.Written.{written_port};
 ghost use Rattle.of10_codec.specs.Laws.{port_has_bits};
 
-use super::append::{append, append_u16, append_u32};
-use maple_base::Port;
+use super::append::{append_u16, append_u32};
+use maple_base::{Port, append};
 
 // OpenFlow 1.0, 5.2.1, ofp_phy_port.
 pub(super) fn append_port(port: Port, out: &mut Vec<u8>)

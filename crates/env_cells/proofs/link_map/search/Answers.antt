@@ -1,4 +1,4 @@
-use Rattle.std.proofs.Common.{rules, subst, sym}
+use Rattle.std.proofs.Common.{rules}
 use Rattle.std.proofs.lemmas.List.Sorted.{answers_always}
 use Rattle.env_cells.proofs.Places.{searched}
 use Rattle.env_cells.proofs.PlaceOrder.{place_cmp_total}

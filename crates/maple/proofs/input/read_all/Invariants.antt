@@ -6,8 +6,8 @@ use Rattle.maple.proofs.input.read_all.Given as goal
 -- the bytes so far came off the front
 abbrev pub invariant-reading : goal.invariant-reading
 invariant-reading g l = record {
-  consumed : Consumes (g.I.Source.left l.fn.input) (g.I.Source.left l.input) l.all.items;
-  count : g.I.Source.failed l.fn.input ≤ g.I.Source.failed l.input;
+  consumed : Consumes (g.I.Source.tells l.fn.input).left (g.I.Source.tells l.input).left l.all.items;
+  count : (g.I.Source.tells l.fn.input).failed ≤ (g.I.Source.tells l.input).failed;
   piece : length l.piece ≡ 4096;
 }
 

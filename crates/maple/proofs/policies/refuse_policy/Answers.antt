@@ -1,5 +1,4 @@
 use Rattle.std.proofs.Common.{◌≡◌, ◌++◌, ap, ◌∙◌, subst}
-use Rattle.maple_io.specs.Counts.{HasRisen}
 use Rattle.report_text.specs.Report.{spelled}
 use Rattle.report_text.specs.declared.line.Line.TheVariants.{RefusedPolicy}
 use Rattle.maple.specs.declared.status.Status.TheVariants.{Policy}
@@ -10,4 +9,4 @@ pub returns : goal.returns
 returns g c =
     let line = spelled (RefusedPolicy c.args.line c.args.column c.args.kind) in
     let text : c.deref.result.now ≡ line = c.deref.ensures.value ∙ c.in-Ok.ensures.line ∙ ap (λ b. b ++ line) c.new-text.ensures.items in
-    subst (λ t. Ends (HasRisen (g.O.Sink.failed c.args.output.now) (g.O.Sink.failed c.put_text.new.output)) (g.O.Sink.taken c.args.output.now) (g.O.Sink.taken c.put_text.new.output) Policy t c.put_text.result) text c.put_text.ensures.ends
+    subst (λ t. Ends (g.O.Sink.tells c.args.output.now) (g.O.Sink.tells c.put_text.new.output) Policy t c.put_text.result) text c.put_text.ensures.ends

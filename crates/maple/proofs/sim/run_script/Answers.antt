@@ -1,6 +1,6 @@
 use Rattle.std.proofs.Common.{◌≡◌, ◌++◌, [], refl, ap, ◌∙◌, subst, rules, arith, length, length-append}
 use Rattle.std.specs.Prelude.{map, Ok, Err}
-use Rattle.std.specs.Io.KnownBytes.{Appends}
+use Rattle.maple_io.specs.Views.{Wrote}
 use Rattle.std.proofs.lemmas.List.{nil_from_length}
 use Rattle.std.proofs.KnownBytes.{Appends-nil}
 use Rattle.maple.specs.Lines.{ended_lines, without_end}
@@ -11,50 +11,50 @@ use Rattle.maple.proofs.sim.run_script.Goals as goal
 
 pub loop-rest-init : goal.loop-rest-init
 loop-rest-init g c = record {
-  stands = ([], [], record { known = c.new-world.ensures c.args.policy.now c.args.budget c.requires.plain c.requires.budget; refused = refl; told = refl; appended = Appends-nil (g.O.Sink.taken c.args.output.now); count = omega arith });
+  stands = ([], [], record { known = c.new-world.ensures c.args.policy.now c.args.budget c.requires.plain c.requires.budget; refused = refl; told = refl; appended = Appends-nil (g.O.Sink.tells c.args.output.now).taken; count = omega arith });
   numbers = omega arith;
 }
 
 pub returns-in-Err-Refused : goal.returns-in-Err-Refused
 returns-in-Err-Refused g c =
-    let runs = c.loop-rest.invariant.stands.0 in
+    let traces = c.loop-rest.invariant.stands.0 in
     let s = rw (ap (map without_end) c.cut_line.ensures.lines) at c.loop-rest.invariant.stands.2 in
     let stop = rw c.in-Err-Refused.field-0-is at c.in-Err-Refused.ensures.stop in
     let bad : step_of (without_end c.cut_line.result.0.now) ≡ Err c.in-Err-Refused.kind = rw c.without_end.ensures at stop in
-    ends_at_refused _ _ _ _ _ _ _ _ _ _ _ _ runs _ (without_end c.cut_line.result.0.now) (map without_end (ended_lines c.cut_line.result.1.now)) s c.refuse.result c.in-Err-Refused.kind bad (rw c.in-Err-Refused.field-0-is at c.refuse.ensures)
+    ends_at_refused _ _ _ _ _ _ _ _ _ traces _ (without_end c.cut_line.result.0.now) (map without_end (ended_lines c.cut_line.result.1.now)) s c.refuse.result c.in-Err-Refused.kind bad (rw c.in-Err-Refused.field-0-is at c.refuse.ensures)
 
 pub loop-rest-preserved : goal.loop-rest-preserved
 loop-rest-preserved g c =
-    let runs = c.loop-rest.invariant.stands.0 in
+    let traces = c.loop-rest.invariant.stands.0 in
     let s = rw (ap (map without_end) c.cut_line.ensures.lines) at c.loop-rest.invariant.stands.2 in
     let good : step_of (without_end c.cut_line.result.0.now) ≡ Ok c.in-Ok.step = rw c.without_end.ensures at c.in-Ok.ensures.step in
-    let p = c.in-Ok-step.ensures runs s.known in
-    let piece = text_of (step_said c.args.policy.now c.args.budget runs c.in-Ok.step) in
+    let p = c.in-Ok-step.ensures traces s.known in
+    let piece = text_of (step_said c.args.policy.now c.args.budget traces c.in-Ok.step) in
     let text : c.deref.result.now ≡ piece = c.deref.ensures.value ∙ p.0 ∙ ap (λ b. b ++ piece) c.new-text.ensures.items in
     let whole = ap length c.cut_line.ensures.whole in
     record {
       stands = (
         _,
         _,
-        stands_further _ _ _ _ _ _ _ _ _ _ _ _ runs _ (without_end c.cut_line.result.0.now) (map without_end (ended_lines c.cut_line.result.1.now)) s c.in-Ok.step good _ p.1
-            (subst (Appends (g.O.Sink.taken c.loop-rest.output) (g.O.Sink.taken c.put_text.new.output)) text c.in-Done.ensures.ends.1) c.in-Done.ensures.count,
+        stands_further _ _ _ _ _ _ _ _ _ traces _ (without_end c.cut_line.result.0.now) (map without_end (ended_lines c.cut_line.result.1.now)) s c.in-Ok.step good _ p.1
+            (subst (Wrote (g.O.Sink.tells c.loop-rest.output) (g.O.Sink.tells c.put_text.new.output)) text c.in-Done.ensures.ends.1) c.in-Done.ensures.count,
       );
       numbers = omega (arith, whole, length-append c.cut_line.result.0.now c.cut_line.result.1.now, c.cut_line.ensures.some, c.loop-rest.invariant.numbers);
     }
 
 pub returns-in_default-put_text : goal.returns-in_default-put_text
 returns-in_default-put_text g c =
-    let runs = c.loop-rest.invariant.stands.0 in
+    let traces = c.loop-rest.invariant.stands.0 in
     let s = rw (ap (map without_end) c.cut_line.ensures.lines) at c.loop-rest.invariant.stands.2 in
     let good : step_of (without_end c.cut_line.result.0.now) ≡ Ok c.in-Ok.step = rw c.without_end.ensures at c.in-Ok.ensures.step in
-    let p = c.in-Ok-step.ensures runs s.known in
-    let piece = text_of (step_said c.args.policy.now c.args.budget runs c.in-Ok.step) in
+    let p = c.in-Ok-step.ensures traces s.known in
+    let piece = text_of (step_said c.args.policy.now c.args.budget traces c.in-Ok.step) in
     let text : c.deref.result.now ≡ piece = c.deref.ensures.value ∙ p.0 ∙ ap (λ b. b ++ piece) c.new-text.ensures.items in
-    ends_within _ _ _ _ _ _ _ _ _ _ _ _ runs _ (without_end c.cut_line.result.0.now) (map without_end (ended_lines c.cut_line.result.1.now)) s c.in-Ok.step good c.put_text.result c.in_default-put_text.not-Done
+    ends_within _ _ _ _ _ _ _ _ _ traces _ (without_end c.cut_line.result.0.now) (map without_end (ended_lines c.cut_line.result.1.now)) s c.in-Ok.step good c.put_text.result c.in_default-put_text.not-Done
     (rw text at c.put_text.ensures.ends)
 
 pub returns : goal.returns
 returns g c =
     let ended : c.loop-rest.rest.now ≡ [] = nil_from_length c.loop-rest.rest.now (search rules) in
     let s = rw ended at c.loop-rest.invariant.stands.2 in
-    ends_after _ _ _ _ _ _ _ _ _ _ _ _ c.loop-rest.invariant.stands.0 _ s c.finish.result c.finish.ensures
+    ends_after _ _ _ _ _ _ _ _ _ c.loop-rest.invariant.stands.0 _ s c.finish.result c.finish.ensures

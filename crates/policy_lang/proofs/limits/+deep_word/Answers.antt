@@ -1,6 +1,5 @@
 use Rattle.std.proofs.Common.{sym, ◌∙◌}
-use Rattle.policy_lang.proofs.Shapes.{shape, deep_now, deep_shape, limits_shape}
-use Rattle.policy_lang.proofs.Later.{deep_part_first}
+use Rattle.policy_lang.proofs.Shapes.{shape, deep_now, deep_shape}
 use Rattle.policy_lang.proofs.limits.+deep_word.Goals as goal
 
 pub returns-then-depth-gt-DEEPEST : goal.returns-then-depth-gt-DEEPEST

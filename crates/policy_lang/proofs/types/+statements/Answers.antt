@@ -1,4 +1,4 @@
-use Rattle.std.proofs.Common.{ap, ◌∙◌, arith, ◌+◌}
+use Rattle.std.proofs.Common.{ap, ◌∙◌, arith}
 use Rattle.policy_lang.specs.Walks.{told, merged_by}
 use Rattle.policy_lang.specs.Scopes.{in_force}
 use Rattle.policy_lang.proofs.Found.{all_more_found, while_found, if_found}
@@ -6,7 +6,7 @@ use Rattle.policy_lang.proofs.types.+statements.Goals as goal
 
 pub check_block-loop-statement-preserved : goal.check_block-loop-statement-preserved
 check_block-loop-statement-preserved g t c =
-    let place = g.P.Places.place_of c.args.places.now in
+    let place = g.P.SiteOrder.place_of c.args.order.now in
     let found = c.in_ok-check_statement.ensures.found in
     all_more_found place c.args.statements.now (in_force c.args.scope.now.names.entries) (in_force c.loop-statement.scope.names.entries) (in_force c.check_statement.new.scope.names.entries) c.args.node
     c.loop-statement.statement-index c.statement-item.result (told c.loop-statement.found.fault) (told c.then-found.result.fault) c.loop-statement.found.next c.then-found.result.next (omega arith)
@@ -15,13 +15,13 @@ check_block-loop-statement-preserved g t c =
 
 pub check_while-returns-clause-found : goal.check_while-returns-clause-found
 check_while-returns-clause-found g t c =
-    let place = g.P.Places.place_of c.args.places.now in
+    let place = g.P.SiteOrder.place_of c.args.order.now in
     while_found place c.args.expr.now c.args.block.now c.items.result.now (in_force c.args.scope.now.names.entries) c.args.node c.check_operand-asked.result c.in_ok-found.found c.then.result
     c.check_operand-asked.ensures c.items.ensures c.in_ok-found.ensures.found c.then.ensures.fault c.then.ensures.next
 
 pub check_if-returns-clause-found : goal.check_if-returns-clause-found
 check_if-returns-clause-found g t c =
-    let place = g.P.Places.place_of c.args.places.now in
+    let place = g.P.SiteOrder.place_of c.args.order.now in
     if_found place c.args.head.now c.args.block.now c.args.other.now (in_force c.args.scope.now.names.entries) c.args.node c.check_head-asked.result c.in_ok-first.first c.in_ok-second.second c.then-2.result
     c.items.result.now (in_force c.bind.new.scope.names.entries) (in_force c.check_block.new.scope.names.entries) (in_force c.leave.new.self.names.entries) c.len-outer.result
     c.check_head-asked.ensures c.items.ensures c.in_ok-bind.ensures c.in_ok-first.ensures.found c.in_ok-first.ensures.names c.len-outer.ensures c.leave.ensures c.in_ok-second.ensures.found

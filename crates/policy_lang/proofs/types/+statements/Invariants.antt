@@ -9,7 +9,7 @@ use Rattle.policy_lang.proofs.types.+statements.Given as goal
 
 abbrev pub invariant-check_block-loop-statement : goal.invariant-check_block-loop-statement
 invariant-check_block-loop-statement g l =
-    AllFound (g.P.Places.place_of l.places) l.statements (in_force l.initial.scope.names.entries) l.node (drop l.statement-index l.statements) (in_force l.scope.names.entries) (told l.found.fault) l.found.next
+    AllFound (g.P.SiteOrder.place_of l.order) l.statements (in_force l.initial.scope.names.entries) l.node (drop l.statement-index l.statements) (in_force l.scope.names.entries) (told l.found.fault) l.found.next
 
 -- four times the nodes, and of functions on the same nodes the caller has more
 abbrev pub decreases-check_statement : goal.decreases-check_statement

@@ -6,6 +6,6 @@ use Rattle.policy_lang.proofs.types.check_binding.Goals as goal
 
 pub returns : goal.returns
 returns g c =
-    let all = binding_found (g.P.Places.place_of c.args.places.now) c.args.expr.now c.args.name.now (in_force c.args.scope.now.names.entries) c.args.node _ c.check_operand-found.result (told c.declared_fault.result) (told c.earlier.result)
-    c.check_operand-found.ensures refl (c.declared_fault.ensures (g.P.Places.place_of c.args.places.now)) c.earlier.ensures in
+    let all = binding_found (g.P.SiteOrder.place_of c.args.order.now) c.args.expr.now c.args.name.now (in_force c.args.scope.now.names.entries) c.args.node _ c.check_operand-found.result (told c.declared_fault.result) (told c.earlier.result)
+    c.check_operand-found.ensures refl (c.declared_fault.ensures (g.P.SiteOrder.place_of c.args.order.now)) c.earlier.ensures in
     record { fault = all.0; next = all.1 }

@@ -5,4 +5,4 @@ use Rattle.policy_lang.proofs.Found.{NumbersFound}
 use Rattle.policy_lang.proofs.types.check_numbers.Given as goal
 
 abbrev pub invariant-loop-expr : goal.invariant-loop-expr
-invariant-loop-expr g l = NumbersFound (g.P.Places.place_of l.places) l.exprs (in_force l.scope.names.entries) l.node (drop l.expr-index l.exprs) (told l.found.fault) l.found.next
+invariant-loop-expr g l = NumbersFound (g.P.SiteOrder.place_of l.order) l.exprs (in_force l.scope.names.entries) l.node (drop l.expr-index l.exprs) (told l.found.fault) l.found.next

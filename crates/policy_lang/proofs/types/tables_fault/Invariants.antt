@@ -5,5 +5,5 @@ use Rattle.policy_lang.proofs.types.tables_fault.Given as goal
 
 abbrev pub invariant-loop-i : goal.invariant-loop-i
 invariant-loop-i g l =
-    let place = g.P.Places.place_of l.places in
+    let place = g.P.SiteOrder.place_of l.order in
     merged_by place (told l.fault) (first_by place (tables_faults (take l.i l.tables) (drop l.i l.tables))) ≡ first_by place (tables_faults [] l.tables)

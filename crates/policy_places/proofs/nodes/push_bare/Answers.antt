@@ -1,10 +1,10 @@
 use Rattle.std.proofs.Common.{◌≡◌, ℕ, zero, suc, ◌-◌, ◌<◌, List, [], ◌∷◌, ◌++◌, ap, ◌∙◌, arith, append_assoc}
-use Rattle.policy_places.specs.declared.nodes.NodePlace.{NodePlace}
+use Rattle.policy_places.specs.declared.nodes.NodeTokens.{NodeTokens}
 use Rattle.policy_places.specs.Places.{bare}
 use Rattle.policy_places.specs.Scanning.{bares}
 use Rattle.policy_places.proofs.nodes.push_bare.Goals as goal
 
-one_bare : (xs : List NodePlace) (i n : ℕ) → 0 < n → (xs ++ bare i ∷ []) ++ bares i (n - 1) ≡ xs ++ bares i n
+one_bare : (xs : List NodeTokens) (i n : ℕ) → 0 < n → (xs ++ bare i ∷ []) ++ bares i (n - 1) ≡ xs ++ bares i n
 one_bare xs i zero h = absurd (omega arith)
 one_bare xs i (suc n) h =
     let fewer : suc n - 1 ≡ n = omega arith in

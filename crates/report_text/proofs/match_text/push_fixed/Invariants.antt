@@ -1,6 +1,6 @@
-use Rattle.std.proofs.Common.{◌≡◌, ◌++◌, Bool, true, false, List, [], ◌∷◌, ℕ, drop, codes}
+use Rattle.std.proofs.Common.{◌≡◌, ◌++◌, Bool, true, false, List, ℕ, drop, codes}
 use Rattle.std.specs.Prelude.{string_bytes}
-use Rattle.report_text.specs.Report.{◌&◌, joined, behind, fixed_texts}
+use Rattle.report_text.specs.Report.{joined, behind, fixed_texts}
 use Rattle.report_text.proofs.match_text.push_fixed.Given as goal
 
 -- the texts that are left, with a comma ahead of the first unless it is the first of all

@@ -2,12 +2,12 @@ use Rattle.std.proofs.Common.{◌≡◌, ◌+◌, ◌-◌, ◌++◌, drop, sym, 
 use Rattle.std.specs.List.Sorted.{IsPermutation}
 use Rattle.std.proofs.lemmas.List.Sorted.{IsPermutation-trans}
 use Rattle.trace_tree.specs.TreeOf.{tree_of, branches, child_trees}
+use Rattle.trace_tree.specs.Bounds.{IsWithin}
 use Rattle.trace_tree.specs.Growth.{nodes_of}
 use Rattle.trace_tree.specs.Shape.{Tests, Reads}
 use Rattle.trace_tree.proofs.Puts.{OnOk_map}
 use Rattle.trace_tree.proofs.Rolls.{tree_of-Values, tree_of-Test}
 use Rattle.rule_builder.specs.Rules.{levels_of, with_barrier, facts_of, barriers_of, facts_in, barriers_in}
-use Rattle.rule_builder.specs.Domains.{IsInDomains}
 use Rattle.rule_builder.proofs.Steps.{most_step, nodes_step, facts_step, barriers_step, domains_step}
 use Rattle.rule_builder.proofs.Spans.{barrier_least}
 use Rattle.rule_builder.proofs.Moves.{part_added, facts_left, barriers_left, below_is}
@@ -32,7 +32,7 @@ push_rules-loop-node-preserved t c =
       levels = below;
       fewer = omega (arith, left, c.loop-node.invariant.levels, barrier_least (levels_of n), c.loop-node.invariant.fewer);
       nodes = omega (arith, ap nodes_of whole, c.loop-node.invariant.nodes);
-      values = (subst IsInDomains whole c.loop-node.invariant.values).1;
+      values = (subst IsWithin whole c.loop-node.invariant.values).1;
       facts = facts_left here f v n y whole c.args.of.now c.fixing-within.result c.fixing-within.ensures c.args.base _ _ _ _ behind c.loop-node.invariant.facts c.in_ok-push_rules-in-Test.ensures.facts;
       barriers = barriers_left here f v n y whole c.args.of.now c.fixing-within.result c.fixing-within.ensures c.args.base _ _ _ _ _ _ below behind c.loop-node.invariant.barriers c.in_ok-push_barrier-in-Test.ensures c.in_ok-push_rules-in-Test.ensures.barriers;
     }

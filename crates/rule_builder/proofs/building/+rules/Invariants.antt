@@ -1,9 +1,9 @@
 use Rattle.std.proofs.Common.{◌≡◌, ◌≤◌, ◌+◌, ◌*◌, ◌++◌, drop}
 use Rattle.std.specs.List.Sorted.{IsPermutation}
 use Rattle.trace_tree.specs.TreeOf.{tree_of, branches, child_trees}
+use Rattle.trace_tree.specs.Bounds.{IsWithin, AreWithin}
 use Rattle.trace_tree.specs.Growth.{nodes_of, nodes_in}
 use Rattle.rule_builder.specs.Rules.{levels_of, most_levels, facts_of, facts_in, barriers_of, barriers_in}
-use Rattle.rule_builder.specs.Domains.{IsInDomains, AreInDomain}
 use Rattle.rule_builder.proofs.building.+rules.Given as goal
 
 -- what is there and what is left are all of it
@@ -15,7 +15,7 @@ invariant-push_rules-loop-node l =
       levels : l.left ≡ levels_of here;
       fewer : levels_of here ≤ levels_of whole;
       nodes : nodes_of here ≤ nodes_of whole;
-      values : IsInDomains here;
+      values : IsWithin here;
       facts : IsPermutation (l.fn.facts.items ++ facts_of whole l.of l.base) (l.facts.items ++ facts_of here l.of l.base);
       barriers : IsPermutation (l.fn.barriers.items ++ barriers_of whole l.of l.base) (l.barriers.items ++ barriers_of here l.of l.base);
     }
@@ -27,7 +27,7 @@ invariant-push_all-loop-child l =
     record {
       most : most_levels left ≤ most_levels all;
       nodes : nodes_in left ≤ nodes_in all;
-      values : AreInDomain left l.field;
+      values : AreWithin l.field left;
       facts : IsPermutation (l.fn.facts.items ++ facts_in all l.field l.of l.base) (l.facts.items ++ facts_in left l.field l.of l.base);
       barriers : IsPermutation (l.fn.barriers.items ++ barriers_in all l.field l.of l.base) (l.barriers.items ++ barriers_in left l.field l.of l.base);
     }

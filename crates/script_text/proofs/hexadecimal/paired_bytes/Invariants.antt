@@ -1,6 +1,6 @@
 use Rattle.std.proofs.Common.{◌≡◌, ◌++◌, ◌==◌, ◌%◌, true, length}
 use Rattle.std.specs.List.{list_all}
-use Rattle.maple_base.specs.Numbers.{is_hex_digit}
+use Rattle.maple_text.specs.Numbers.{is_hex_digit}
 use Rattle.script_text.specs.Hexadecimal.{paired_bytes}
 use Rattle.script_text.proofs.hexadecimal.paired_bytes.Given as goal
 

@@ -1,6 +1,6 @@
 use Rattle.std.proofs.Common.{◌≡◌, sym, subst}
 use Rattle.env_cells.specs.Environment.{Environment, nothing_known}
-use Rattle.env_cells.specs.Limits.{IsWithinLimits, IsPlaceOf}
+use Rattle.env_cells.specs.Limits.{IsWithinLimits}
 use Rattle.env_cells.proofs.Limits.{none_known}
 use Rattle.env_cells.proofs.environment.Env.new.Goals as goal
 

@@ -1,11 +1,6 @@
-use Rattle.std.proofs.Common.{◌≡◌, ◌≤◌, true, ap, sym, subst, ◌∙◌, arith}
-use Rattle.std.specs.Prelude.{is_some, unwrap_or}
-use Rattle.std.specs.FinMap as map
-use Rattle.std.specs.FinSet as set
-use Rattle.env_cells.specs.Environment.{Environment, knows, is_port, ports_in}
-use Rattle.env_cells.specs.Named.{numbers_in, tables_named}
-use Rattle.env_cells.specs.Limits.{IsWithinLimits, IsPlaceOf}
-use Rattle.env_cells.specs.declared.updates.UpdateRefused.TheVariants.{UnknownSwitch, PortRange}
+use Rattle.std.proofs.Common.{sym, subst}
+use Rattle.env_cells.specs.Environment.{Environment}
+use Rattle.env_cells.specs.Limits.{IsWithinLimits}
 use Rattle.env_cells.proofs.Limits.{limits_unlinked}
 use Rattle.env_cells.proofs.environment.Env.remove_link.Goals as goal
 

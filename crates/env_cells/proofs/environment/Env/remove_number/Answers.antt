@@ -1,11 +1,7 @@
-use Rattle.std.proofs.Common.{◌≡◌, ◌≤◌, true, ap, sym, subst, ◌∙◌, arith}
-use Rattle.std.specs.Prelude.{is_some, unwrap_or}
+use Rattle.std.proofs.Common.{◌≡◌, true, sym, subst}
 use Rattle.std.specs.FinMap as map
-use Rattle.std.specs.FinSet as set
-use Rattle.env_cells.specs.Environment.{Environment, knows, is_port, ports_in}
-use Rattle.env_cells.specs.Named.{numbers_in, tables_named}
-use Rattle.env_cells.specs.Limits.{IsWithinLimits, IsPlaceOf}
-use Rattle.env_cells.specs.declared.updates.UpdateRefused.TheVariants.{UnknownSwitch, PortRange}
+use Rattle.env_cells.specs.Environment.{Environment}
+use Rattle.env_cells.specs.Limits.{IsWithinLimits}
 use Rattle.env_cells.proofs.Limits.{limits_unset}
 use Rattle.env_cells.proofs.environment.Env.remove_number.Goals as goal
 

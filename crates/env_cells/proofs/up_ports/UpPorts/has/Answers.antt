@@ -1,7 +1,5 @@
-use Rattle.std.proofs.Common.{◌≡◌, false, ap, sym, ◌∙◌, arith}
-use Rattle.std.specs.Prelude.{nat_le, ◌&&◌}
+use Rattle.std.proofs.Common.{ap, sym, ◌∙◌}
 use Rattle.std.specs.FinSet as set
-use Rattle.env_cells.specs.Environment.{is_port}
 use Rattle.env_cells.proofs.Sets.{contains-keys, no_port, too_large}
 use Rattle.env_cells.proofs.up_ports.UpPorts.has.Goals as goal
 

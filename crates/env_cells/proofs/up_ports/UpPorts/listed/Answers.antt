@@ -1,4 +1,4 @@
-use Rattle.std.proofs.Common.{◌≡◌, true, false, ap, sym, ◌∙◌, get_or}
+use Rattle.std.proofs.Common.{true, false, ap, sym, ◌∙◌, get_or}
 use Rattle.std.specs.FinSet as set
 use Rattle.maple_base.specs.declared.cells.Port.{Port}
 use Rattle.env_cells.proofs.Sets.{listed_up-more}

@@ -1,7 +1,7 @@
-use Rattle.std.proofs.Common.{ap, sym, ◌∙◌}
+use Rattle.std.proofs.Common.{ap, ◌∙◌}
 use Rattle.std.specs.List.{list_all}
 use Rattle.std.specs.FinSet as set
-use Rattle.env_cells.specs.Environment.{is_port}
+use Rattle.maple_base.specs.Ports.{is_port}
 use Rattle.env_cells.proofs.Sets.{from_list-remove, ports-remove}
 use Rattle.env_cells.proofs.up_ports.UpPorts.remove.Goals as goal
 

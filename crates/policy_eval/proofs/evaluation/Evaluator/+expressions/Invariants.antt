@@ -8,6 +8,9 @@ decreases-value g l = 2 * l.steps.now
 abbrev pub decreases-operation : goal.decreases-operation
 decreases-operation g l = 2 * l.steps.now + 1
 
+abbrev pub decreases-place_at : goal.decreases-place_at
+decreases-place_at g l = 2 * l.steps.now + 1
+
 abbrev pub decreases-is_up : goal.decreases-is_up
 decreases-is_up g l = 2 * l.steps.now + 1
 

@@ -1,9 +1,8 @@
 use Rattle.std.proofs.Common.{◌≡◌, ℕ, ◌<◌, ◌+◌, List, [], ◌∷◌, ◌++◌, length, drop, ap, sym, ◌∙◌, arith, length-append}
-use Rattle.std.specs.Prelude.{Some, None}
 use Rattle.std.proofs.lemmas.Result.{err_from_is_err_and}
 use Rattle.policy_lang.specs.declared.Expr.{Expr}
 use Rattle.policy_lang.specs.Values.{number_in}
-use Rattle.policy_lang.specs.Evaluation.{Arrival, value_of, numbers_of}
+use Rattle.policy_lang.specs.Evaluation.{Arrival, numbers_of}
 use Rattle.policy_eval.specs.Data.{datum_of}
 use Rattle.policy_eval.specs.Answers.{arrived}
 use Rattle.policy_eval.proofs.Numbers.{put_ahead, numbers_more, numbers_spent, numbers_all}

@@ -1,5 +1,4 @@
-use Rattle.std.proofs.Common.{◌≡◌, ℕ, ◌-◌, ◌≤◌, suc, List, [], ◌∷◌, ◌++◌, length, sym, ap, ◌∙◌, arith, length-append, eq-eqb}
-use Rattle.std.specs.Prelude.{IsTrue, Bool, true}
+use Rattle.std.proofs.Common.{◌≡◌, ◌-◌, ◌≤◌, suc, List, [], ◌∷◌, ◌++◌, length, sym, ap, ◌∙◌, arith, length-append, eq-eqb}
 use Rattle.std.specs.List.{list_all}
 use Rattle.std.proofs.lemmas.Result.{err_from_is_err_and}
 use Rattle.maple_base.specs.declared.cells.Place.{Place}
@@ -10,8 +9,8 @@ use Rattle.policy_lang.specs.Evaluation.{Leads, hop_at}
 use Rattle.policy_eval.proofs.Ways.{led_by, way_on, way_far, way_spent, way_hop, way_lost, way_there, all_more, differs}
 use Rattle.policy_eval.proofs.evaluation.Evaluator.way.Goals as goal
 
-pub returns-then-len-eq63 : goal.returns-then-len-eq63
-returns-then-len-eq63 g c =
+pub returns-then-len-eq-MOST_HOPS : goal.returns-then-len-eq-MOST_HOPS
+returns-then-len-eq-MOST_HOPS g c =
     let env : Cell → Value = g.E.EnvNow.has c.args.self.now.env.now in
     let hops : List Place = c.loop-from.hops.items in
     let none : 63 - length hops ≡ 0 = omega arith in

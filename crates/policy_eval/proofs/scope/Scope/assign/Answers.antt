@@ -1,4 +1,4 @@
-use Rattle.std.proofs.Common.{◌≡◌, ◌<◌, ◌≤◌, ◌-◌, true, false, length, ap, sym, ◌∙◌, arith}
+use Rattle.std.proofs.Common.{◌≤◌, length, ap, sym, ◌∙◌, arith}
 use Rattle.policy_lang.specs.Values.{assigned}
 use Rattle.policy_eval.specs.Data.{datum_of}
 use Rattle.policy_eval.specs.Scopes.{in_force}

@@ -1,7 +1,5 @@
-use Rattle.std.proofs.Common.{◌≡◌, ◌<◌, ◌≤◌, true, false, length, ap, sym, ◌∙◌, arith}
-use Rattle.std.specs.Str.{bytes_eq}
+use Rattle.std.proofs.Common.{◌≤◌, length, ap, sym, ◌∙◌, arith}
 use Rattle.policy_lang.specs.Values.{named}
-use Rattle.policy_eval.specs.Scopes.{in_force}
 use Rattle.policy_eval.proofs.Names.{named_here, named_before}
 use Rattle.policy_eval.proofs.scope.Scope.named.Goals as goal
 

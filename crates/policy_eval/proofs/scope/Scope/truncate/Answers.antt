@@ -1,4 +1,4 @@
-use Rattle.std.proofs.Common.{◌≡◌, ◌-◌, ap, sym, ◌∙◌, length, drop}
+use Rattle.std.proofs.Common.{◌-◌, ap, ◌∙◌, length, drop}
 use Rattle.policy_eval.specs.Scopes.{in_force}
 use Rattle.policy_eval.proofs.Names.{forces_first}
 use Rattle.policy_eval.proofs.scope.Scope.truncate.Goals as goal

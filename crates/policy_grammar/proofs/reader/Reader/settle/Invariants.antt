@@ -6,7 +6,7 @@ use Rattle.policy_grammar.proofs.reader.Reader.settle.Given as goal
 abbrev pub invariant-loop-top : goal.invariant-loop-top
 invariant-loop-top l = record {
   settled : settle l.pull l.self-inside.around l.shape ≡ settle l.initial.pull l.initial.self-inside.around l.initial.shape;
-  place : l.self-inside.place ≡ l.initial.self-inside.place;
+  stage : l.self-inside.stage ≡ l.initial.self-inside.stage;
   blocks : l.self-inside.blocks ≡ l.initial.self-inside.blocks;
 }
 

@@ -1,0 +1,779 @@
+// What the runs of `tests` are given, and what has to come of them.
+
+/// The exit statuses.
+pub const DONE: u8 = 0;
+
+pub const USAGE: u8 = 1;
+
+pub const POLICY: u8 = 2;
+
+pub const SCRIPT: u8 = 3;
+
+pub const READ_FAULT: u8 = 4;
+
+pub const WRITE_FAULT: u8 = 5;
+
+pub const TOO_LONG: u8 = 7;
+
+/// What a run is given, and what has to come of it. Where no words are told, they are `sim` alone.
+#[derive(Clone, Copy)]
+pub enum Row {
+    /// Words, an input, the output and the status.
+    Run(&'static [&'static str], &'static str, &'static str, u8),
+    /// Words that are refused.
+    Usage(&'static [&'static str]),
+    /// A policy, and what it decides of a packet at port 1.
+    Decision(&'static str, &'static str),
+    /// A policy that `sim` and `check` refuse, and where and why.
+    Refused(&'static str, &'static str),
+    /// A policy that `sim` doesn't run yet, and what `check` prints of it.
+    Later(&'static str, &'static str),
+    /// A policy, and what `check` prints of it, and of what it printed.
+    Form(&'static str, &'static str),
+    /// The same of a condition of an `if`.
+    Condition(&'static str, &'static str),
+    /// The same of a value of a `let`.
+    Value(&'static str, &'static str),
+    /// Blocks so deep that their printed form is too long to be read.
+    Deep,
+    /// A line of a script that is taken, and goes to port 2.
+    Packet(&'static str),
+    /// A line of a script that is refused, and its kind.
+    Line(&'static str, &'static str),
+    /// A frame whose headers can't be read, and the number of its fault.
+    Malformed(&'static str, u8),
+    /// So many tests that are all false, and the output of two packets.
+    FalseTests(u32, &'static str),
+    /// An input whose second part comes so many times, the output and the status.
+    Repeated(&'static str, &'static str, u32, &'static str, &'static str, u8),
+    /// An input without an end.
+    Endless,
+}
+
+// The groups of rows. A caller is proved over any rows, since a proof that looks at each is too long.
+
+pub fn command_lines() -> &'static [Row] {
+    COMMAND_LINES
+}
+
+pub fn script_lines() -> &'static [Row] {
+    SCRIPT_LINES
+}
+
+pub fn policies() -> &'static [Row] {
+    POLICIES
+}
+
+pub fn operators() -> &'static [Row] {
+    OPERATORS
+}
+
+pub fn expressions() -> &'static [Row] {
+    EXPRESSIONS
+}
+
+pub fn limits() -> &'static [Row] {
+    LIMITS
+}
+
+pub fn whole_runs() -> &'static [Row] {
+    WHOLE_RUNS
+}
+
+const COMMAND_LINES: &[Row] = &[
+    // A miss, an answer and hits.
+    Row::Run(&["sim"], "policy { drop; }", "end\n", DONE),
+    Row::Run(
+        &["sim"],
+        "policy { out 2; }\n%%\npacket 1 1\npacket 1 1\n",
+        "miss c1 1 0\nanswer s1 1 out 2 learned\nhit c1 1 out 2\nend\n",
+        DONE,
+    ),
+    Row::Run(
+        &["sim"],
+        "policy { drop; }\n%%\npacket 1 007 tp_dst=80\npacket 1 65535 dl_type=2054",
+        "miss c1 7 0\nanswer s1 7 drop learned\nhit c1 65535 drop\nend\n",
+        DONE,
+    ),
+    Row::Run(&["sim"], "", "refused policy 1:1 Syntax\n", POLICY),
+    // Words.
+    Row::Usage(&[]),
+    Row::Usage(&["simm"]),
+    Row::Usage(&["sim", "sim"]),
+    Row::Usage(&["--"]),
+    Row::Usage(&[""]),
+    Row::Usage(&["SIM"]),
+    Row::Usage(&["check", "check"]),
+    Row::Usage(&["check", "--budget=4"]),
+    Row::Usage(&["checks"]),
+    Row::Usage(&["sim", "check"]),
+    Row::Usage(&["sim", "--budget", "0"]),
+    Row::Usage(&["sim", "--budget", "65537"]),
+    Row::Usage(&["sim", "--budget", "18446744073709551616"]),
+    Row::Usage(&["sim", "--budget", "000000000000000000004"]),
+    Row::Usage(&["sim", "--budget", "0x4"]),
+    Row::Usage(&["sim", "--budget", "4 "]),
+    Row::Usage(&["sim", "--budget", "+4"]),
+    Row::Usage(&["sim", "--budget", ""]),
+    Row::Usage(&["sim", "--budget", "4", "4"]),
+    Row::Usage(&["sim", "--budget"]),
+    Row::Usage(&["sim", "--budget="]),
+    Row::Usage(&["sim", "--budget=0"]),
+    Row::Usage(&["sim", "--budget=65537"]),
+    Row::Usage(&["sim", "--budget=4 x"]),
+    Row::Usage(&["sim", "--budget=4", "x"]),
+    Row::Usage(&["sim", "--budget=", "4"]),
+    Row::Usage(&["sim", "--Budget", "4"]),
+    Row::Usage(&["sim", "-budget", "4"]),
+    Row::Usage(&["sim", "4"]),
+    Row::Usage(&["--budget", "4", "sim"]),
+    // Budgets: a packet to port 80 takes 5 steps, and one to port 22 takes 4.
+    Row::Run(&["sim", "--budget", "4"], TO_PORT_80, SPENT, DONE),
+    Row::Run(&["sim", "--budget=4"], TO_PORT_80, SPENT, DONE),
+    Row::Run(&["sim", "--budget", "00004"], TO_PORT_80, SPENT, DONE),
+    Row::Run(
+        &["sim", "--budget=00000000000000000004"],
+        TO_PORT_80,
+        SPENT,
+        DONE,
+    ),
+    Row::Run(&["sim", "--budget=1"], TO_PORT_80, SPENT, DONE),
+    Row::Run(&["sim", "--budget", "5"], TO_PORT_80, ANSWERED, DONE),
+    Row::Run(&["sim", "--budget=5"], TO_PORT_80, ANSWERED, DONE),
+    Row::Run(&["sim", "--budget", "65536"], TO_PORT_80, ANSWERED, DONE),
+    Row::Run(&["sim"], TO_PORT_80, ANSWERED, DONE),
+    // Of a run that was spent nothing is learned; what was learned stays.
+    Row::Run(
+        &["sim", "--budget", "4"],
+        "policy { if pkt.tp_dst is 22 { drop; } out 2; }
+%%
+packet 1 1 tp_dst=80
+packet 1 1 tp_dst=80
+packet 1 1 tp_dst=22
+packet 1 9 tp_dst=80
+packet 1 1 tp_dst=22
+",
+        "miss c1 1 0
+spent s1 1
+miss c1 1 0
+spent s1 1
+miss c1 1 0
+answer s1 1 drop learned
+miss c1 9 0
+spent s1 9
+hit c1 1 drop
+end
+",
+        DONE,
+    ),
+];
+
+const SCRIPT_LINES: &[Row] = &[
+    // Lines of a script.
+    Row::Packet(
+        "packet 1 1 dl_src=281474976710655 dl_dst=1 dl_vlan=4095 nw_tos=252 nw_src=4294967295",
+    ),
+    Row::Packet("packet 1 1 dl_vlan=65535"),
+    Row::Packet("packet 1 1 dl_type=1536"),
+    Row::Packet("packet 01 0x1 nw_proto=17 tp_src=65535 tp_dst=053"),
+    Row::Packet("packet 1 1 nw_proto=1 tp_src=255 tp_dst=0"),
+    Row::Packet("packet 1 1 nw_proto=2 nw_dst=10.0.0.1 dl_dst=02:00:00:00:00:09"),
+    Row::Line("fly 1", "Grammar"),
+    Row::Line("packet 1", "Grammar"),
+    Row::Line("packet 1 65536", "Grammar"),
+    Row::Line("packet 1 1 ", "Grammar"),
+    Row::Line("packet 1  1", "Grammar"),
+    Row::Line("packet 1 1\r", "Grammar"),
+    Row::Line("packet 1 1 tp_dst=65536", "Grammar"),
+    Row::Line("packet 1 1 tp_dst=80 tp_dst=80", "Grammar"),
+    Row::Line("packet 1 1 in_port=1", "Grammar"),
+    Row::Line("packet 1 1 dl_type=1535", "Grammar"),
+    Row::Line("packet 1 1 nw_proto=2 tp_dst=1", "Grammar"),
+    Row::Line("packet 2 1 tp_dst", "Grammar"),
+    Row::Line("frame 1 1 000", "Grammar"),
+    Row::Line("turn 1 0", "Grammar"),
+    Row::Line(" # a comment", "Grammar"),
+    Row::Line("%%", "Grammar"),
+    Row::Line("packet 2 1", "Switch"),
+    Row::Line("packet 0 1", "Switch"),
+    Row::Line("frame 65 1 00", "Switch"),
+    Row::Line("plug 1", "Later"),
+    Row::Line("unplug 2", "Later"),
+    Row::Line("turn 1 1", "Later"),
+    Row::Line("settle", "Later"),
+    Row::Line("host 1 1 1", "Later"),
+    Row::Line("nohost 1", "Later"),
+    Row::Line("link 1 1 2 1", "Later"),
+    Row::Line("nolink 1 1", "Later"),
+    Row::Line("set t 1 2", "Later"),
+    Row::Line("unset t 1", "Later"),
+    Row::Line("newpolicy", "Later"),
+    Row::Line("rules 1", "Later"),
+    Row::Line("quit", "Later"),
+    // A line of 8,192 bytes, and one of a byte more.
+    Row::Repeated("policy { drop; }\n%%\n#", "x", 8191, "\n", "end\n", DONE),
+    Row::Repeated(
+        "policy { out 2; }\n%%\npacket 1 1\n#",
+        "x",
+        8192,
+        "\npacket 1 1\n",
+        "miss c1 1 0\nanswer s1 1 out 2 learned\nrefused script 4 TooLong\n",
+        SCRIPT,
+    ),
+    // The lines of the policy, its end, empty lines and comments have numbers too.
+    Row::Run(
+        &["sim"],
+        "policy {\n out 2;\n}\n%%\n\n# a comment\npacket 1 1\nfly 1\nfly 2",
+        "miss c1 1 0\nanswer s1 1 out 2 learned\nrefused script 8 Grammar\n",
+        SCRIPT,
+    ),
+    Row::Run(
+        &["sim"],
+        "policy { drop; }\n%%\nfly 1",
+        "refused script 3 Grammar\n",
+        SCRIPT,
+    ),
+    // A first fragment of a TCP packet to port 22, which has no ports, and the same packet whole.
+    Row::Run(
+        &["sim"],
+        "policy { if pkt.tp_dst is 22 { drop; } out 2; }
+%%
+frame 1 1 02000000000202000000000108004500002800002000400600000a0000010a00000204d20016
+",
+        "miss c1 1 0\nanswer s1 1 out 2 learned\nend\n",
+        DONE,
+    ),
+    Row::Run(
+        &["sim"],
+        "policy { if pkt.tp_dst is 22 { drop; } out 2; }
+%%
+frame 1 1 02000000000202000000000108004500002800000000400600000a0000010a00000204d20016
+packet 1 1 dl_dst=02:00:00:00:00:02 tp_dst=22
+",
+        "miss c1 1 0\nanswer s1 1 drop learned\nhit c1 1 drop\nend\n",
+        DONE,
+    ),
+    // A frame cut short in each header.
+    Row::Malformed("00", 1),
+    Row::Malformed("0200000000020200000000018100", 2),
+    Row::Malformed(
+        "02000000000202000000000108004500002800002000400600000a0000010a0000",
+        3,
+    ),
+    Row::Malformed(
+        "02000000000202000000000108004500002800000000400600000a0000010a00000204d2",
+        4,
+    ),
+];
+
+const POLICIES: &[Row] = &[
+    // Policies.
+    Row::Decision("policy{out 2;}", "out 2"),
+    Row::Decision(
+        "\tpolicy\r\n{ # a comment; out 3;\n out 2 ; drop ; }\n",
+        "out 2",
+    ),
+    Row::Decision("policy { }", "drop"),
+    Row::Decision("policy { drop; out 2; }", "drop"),
+    Row::Decision("policy { out 0; }", "drop"),
+    Row::Decision("policy { out 65280; }", "out 65280"),
+    Row::Decision("policy { out 65281; }", "drop"),
+    Row::Decision("policy { out 18446744073709551615; }", "drop"),
+    Row::Decision("policy { out 0002; } # end", "out 2"),
+    Row::Decision("policy { out 0x2; }", "out 2"),
+    Row::Decision("policy { out (2); }", "out 2"),
+    Row::Refused("policy { out x; }", "1:14 UnknownName"),
+    Row::Refused("policy { if 1 { drop; } }", "1:13 TypeMismatch"),
+    Row::Refused("policy { if pkt.dl_pcp is 1 { drop; } }", "1:13 Token"),
+    Row::Refused("policy { if pkt.tp_dst is 22 drop; }", "1:30 Syntax"),
+    Row::Refused("policy { out 18446744073709551616; }", "1:14 NumberRange"),
+    Row::Refused("policy { out; }", "1:13 Syntax"),
+    Row::Refused("policy { drop }", "1:15 Syntax"),
+    Row::Refused("policy { drop;", "1:15 Syntax"),
+    Row::Refused("policy { drop; } }", "1:18 Syntax"),
+    Row::Refused("policy { drop; } drop;", "1:18 Syntax"),
+    Row::Refused("policy { ; }", "1:10 Syntax"),
+    Row::Refused("Policy { drop; }", "1:1 Token"),
+    Row::Refused("policy { dropp; }", "1:15 Syntax"),
+    Row::Refused("policy { drop.; }", "1:10 Token"),
+    Row::Refused("policy { drop; } # caf\u{e9}", "1:23 NotAscii"),
+    Row::Refused("policy { drop; } \u{0}", "1:18 NotAscii"),
+    Row::Refused("# policy { drop; }", "1:19 Syntax"),
+    Row::Refused("%%\npolicy { drop; }", "1:1 Syntax"),
+    Row::Refused("table t;\ntable t;\npolicy { drop; }", "2:7 Twice"),
+    Row::Later(
+        "policy { if pkt.tp_dst is 22 { drop; } else { out 2; } }",
+        "policy {\n  if pkt.tp_dst is 22 {\n    drop;\n  } else {\n    out 2;\n  }\n}\n",
+    ),
+    Row::Later(
+        "policy { if pkt.tp_dst == 22 { drop; } }",
+        "policy {\n  if pkt.tp_dst == 22 {\n    drop;\n  }\n}\n",
+    ),
+    Row::Later("policy { out 1, 2; }", "policy {\n  out 1, 2;\n}\n"),
+    Row::Later("policy { flood; }", "policy {\n  flood;\n}\n"),
+    Row::Later(
+        "policy { let x = 1; out x; }",
+        "policy {\n  let x = 1;\n  out x;\n}\n",
+    ),
+    Row::Later(
+        "policy { route at(1, 2); }",
+        "policy {\n  route at(1, 2);\n}\n",
+    ),
+    Row::Later(
+        "policy { while up(1, 2) { } }",
+        "policy {\n  while up(1, 2) {\n  }\n}\n",
+    ),
+    Row::Later(
+        "policy learning { drop; }",
+        "policy learning {\n  drop;\n}\n",
+    ),
+    Row::Later(
+        "table t; policy { drop; }",
+        "table t;\npolicy {\n  drop;\n}\n",
+    ),
+    // Printed forms.
+    Row::Form(
+        "policy{if pkt.tp_dst is 0x16{drop;}out 2;}",
+        "policy {\n  if pkt.tp_dst is 22 {\n    drop;\n  }\n  out 2;\n}\n",
+    ),
+    Row::Form(
+        "policy { } # no script is looked at\n%%\nno line\n",
+        "policy {\n}\n",
+    ),
+    Row::Form(
+        "table t;policy learning{if t[1]as x{out(x),1+(2+3);}else{flood;}}",
+        "table t;\npolicy learning {\n  if t[1] as x {\n    out x, 1 + (2 + 3);\n  } else {\n    flood;\n  }\n}\n",
+    ),
+    Row::Form(
+        "policy{if host(pkt.dl_dst)as p{let q=p;q=at(p.switch,(p.port));route q;}if hop(pkt.switch)as n{out n;}}",
+        "policy {\n  if host(pkt.dl_dst) as p {\n    let q = p;\n    q = at(p.switch, p.port);\n    route q;\n  }\n  if hop(pkt.switch) as n {\n    out n;\n  }\n}\n",
+    ),
+];
+
+const OPERATORS: &[Row] = &[
+    // An operator inside another, as its left and as its right part.
+    Row::Value("(1 + 1)+ 2", "1 + 1 + 2"),
+    Row::Value("2 +(1 + 1)", "2 + (1 + 1)"),
+    Row::Value("(1 - 1)+ 2", "1 - 1 + 2"),
+    Row::Value("2 +(1 - 1)", "2 + (1 - 1)"),
+    Row::Value("(1 + 1)- 2", "1 + 1 - 2"),
+    Row::Value("2 -(1 + 1)", "2 - (1 + 1)"),
+    Row::Value("(1 - 1)- 2", "1 - 1 - 2"),
+    Row::Value("2 -(1 - 1)", "2 - (1 - 1)"),
+    Row::Value("(1 + 1)== 2", "1 + 1 == 2"),
+    Row::Value("2 ==(1 + 1)", "2 == 1 + 1"),
+    Row::Value("(1 - 1)== 2", "1 - 1 == 2"),
+    Row::Value("2 ==(1 - 1)", "2 == 1 - 1"),
+    Row::Value("(1 + 1)!= 2", "1 + 1 != 2"),
+    Row::Value("2 !=(1 + 1)", "2 != 1 + 1"),
+    Row::Value("(1 - 1)!= 2", "1 - 1 != 2"),
+    Row::Value("2 !=(1 - 1)", "2 != 1 - 1"),
+    Row::Value("(1 + 1)< 2", "1 + 1 < 2"),
+    Row::Value("2 <(1 + 1)", "2 < 1 + 1"),
+    Row::Value("(1 - 1)< 2", "1 - 1 < 2"),
+    Row::Value("2 <(1 - 1)", "2 < 1 - 1"),
+    Row::Value("(1 + 1)<= 2", "1 + 1 <= 2"),
+    Row::Value("2 <=(1 + 1)", "2 <= 1 + 1"),
+    Row::Value("(1 - 1)<= 2", "1 - 1 <= 2"),
+    Row::Value("2 <=(1 - 1)", "2 <= 1 - 1"),
+    Row::Value("(1 == 1)and up(1, 2)", "1 == 1 and up(1, 2)"),
+    Row::Value("up(1, 2) and(1 == 1)", "up(1, 2) and 1 == 1"),
+    Row::Value("(1 != 1)and up(1, 2)", "1 != 1 and up(1, 2)"),
+    Row::Value("up(1, 2) and(1 != 1)", "up(1, 2) and 1 != 1"),
+    Row::Value("(1 < 1)and up(1, 2)", "1 < 1 and up(1, 2)"),
+    Row::Value("up(1, 2) and(1 < 1)", "up(1, 2) and 1 < 1"),
+    Row::Value("(1 <= 1)and up(1, 2)", "1 <= 1 and up(1, 2)"),
+    Row::Value("up(1, 2) and(1 <= 1)", "up(1, 2) and 1 <= 1"),
+    Row::Value(
+        "(up(1, 2) and up(1, 2))and up(3, 4)",
+        "up(1, 2) and up(1, 2) and up(3, 4)",
+    ),
+    Row::Value(
+        "up(3, 4) and(up(1, 2) and up(1, 2))",
+        "up(3, 4) and (up(1, 2) and up(1, 2))",
+    ),
+    Row::Value("(1 == 1)or up(1, 2)", "1 == 1 or up(1, 2)"),
+    Row::Value("up(1, 2) or(1 == 1)", "up(1, 2) or 1 == 1"),
+    Row::Value("(1 != 1)or up(1, 2)", "1 != 1 or up(1, 2)"),
+    Row::Value("up(1, 2) or(1 != 1)", "up(1, 2) or 1 != 1"),
+    Row::Value("(1 < 1)or up(1, 2)", "1 < 1 or up(1, 2)"),
+    Row::Value("up(1, 2) or(1 < 1)", "up(1, 2) or 1 < 1"),
+    Row::Value("(1 <= 1)or up(1, 2)", "1 <= 1 or up(1, 2)"),
+    Row::Value("up(1, 2) or(1 <= 1)", "up(1, 2) or 1 <= 1"),
+    Row::Value(
+        "(up(1, 2) or up(1, 2))or up(3, 4)",
+        "up(1, 2) or up(1, 2) or up(3, 4)",
+    ),
+    Row::Value(
+        "up(3, 4) or(up(1, 2) or up(1, 2))",
+        "up(3, 4) or (up(1, 2) or up(1, 2))",
+    ),
+    Row::Value(
+        "(up(1, 2) or up(1, 2))and up(3, 4)",
+        "(up(1, 2) or up(1, 2)) and up(3, 4)",
+    ),
+    Row::Value(
+        "up(3, 4) and(up(1, 2) or up(1, 2))",
+        "up(3, 4) and (up(1, 2) or up(1, 2))",
+    ),
+    Row::Value(
+        "(up(1, 2) and up(1, 2))or up(3, 4)",
+        "up(1, 2) and up(1, 2) or up(3, 4)",
+    ),
+    Row::Value(
+        "up(3, 4) or(up(1, 2) and up(1, 2))",
+        "up(3, 4) or up(1, 2) and up(1, 2)",
+    ),
+];
+
+const EXPRESSIONS: &[Row] = &[
+    // Negations, tests, and spellings of numbers.
+    Row::Condition("not not up(1, 2)", "not not up(1, 2)"),
+    Row::Condition("not (1 < 2)", "not 1 < 2"),
+    Row::Condition("not (1 <= 2)", "not 1 <= 2"),
+    Row::Condition("not (1 == 2)", "not 1 == 2"),
+    Row::Condition("not (1 != 2)", "not 1 != 2"),
+    Row::Condition(
+        "(pkt.tp_dst is 1) or (pkt.tp_src is 2)",
+        "pkt.tp_dst is 1 or pkt.tp_src is 2",
+    ),
+    Row::Condition("not (up(1, 2) and up(3, 4))", "not (up(1, 2) and up(3, 4))"),
+    Row::Condition("not (up(1, 2) or up(3, 4))", "not (up(1, 2) or up(3, 4))"),
+    Row::Condition(
+        "(not up(1, 2)) and (not up(3, 4))",
+        "not up(1, 2) and not up(3, 4)",
+    ),
+    Row::Condition(
+        "(not up(1, 2)) or (not up(3, 4))",
+        "not up(1, 2) or not up(3, 4)",
+    ),
+    Row::Condition("not (pkt.tp_dst is 1)", "not pkt.tp_dst is 1"),
+    Row::Condition("pkt.tp_dst is (1 + 2)", "pkt.tp_dst is 1 + 2"),
+    Row::Condition(
+        "pkt.tp_dst is (1 - 2) and pkt.tp_src is 1",
+        "pkt.tp_dst is 1 - 2 and pkt.tp_src is 1",
+    ),
+    Row::Condition("pkt.tp_dst is (pkt.tp_src)", "pkt.tp_dst is pkt.tp_src"),
+    Row::Condition("up((1 + 2), ((3)))", "up(1 + 2, 3)"),
+    Row::Condition("pkt.nw_src == 10.0.0.1", "pkt.nw_src == 167772161"),
+    Row::Condition("pkt.dl_src == 00:00:00:00:01:00", "pkt.dl_src == 256"),
+    Row::Condition("pkt.switch == 0x0010", "pkt.switch == 16"),
+];
+
+const LIMITS: &[Row] = &[
+    // Limits of a policy: 4,096 nodes and one more, 65,536 bytes and one more, and of its form.
+    Row::Repeated("policy {", " out 1;", 2048, " }", "end\n", DONE),
+    Row::Repeated(
+        "policy {",
+        " out 1;",
+        2048,
+        " drop; }",
+        "refused policy 1:14346 Nodes\n",
+        POLICY,
+    ),
+    Row::Repeated("policy { drop; }", " ", 65_520, "", "end\n", DONE),
+    Row::Repeated(
+        "policy { drop; }",
+        " ",
+        65_521,
+        "",
+        "refused policy 1:65537 TooLong\n",
+        POLICY,
+    ),
+    Row::Deep,
+    // A tree that needs 1,024 rules, and one that needs one more.
+    Row::FalseTests(
+        1023,
+        "miss c1 1 0\nanswer s1 1 out 2 learned\nhit c1 1 out 2\nend\n",
+    ),
+    Row::FalseTests(
+        1024,
+        "miss c1 1 0\nanswer s1 1 out 2 unlearned rows 1025 1024\nmiss c1 1 0\nanswer s1 1 out 2 unlearned rows 1025 1024\nend\n",
+    ),
+];
+
+const WHOLE_RUNS: &[Row] = &[
+    // Tests of all fields, chained and nested. The first packet fails them all; a later one misses for
+    // reason 1 where it leaves the path of that packet at a test, and for 0 where it does at a read.
+    Row::Run(
+        &["sim"],
+        "policy {
+  if pkt.in_port is 9 { out 109; }
+  if pkt.dl_src is 5 { out 101; }
+  if pkt.dl_dst is 6 { out 102; }
+  if pkt.dl_vlan is 7 { out 103; }
+  if pkt.dl_type is 2054 { out 104; }
+  if pkt.nw_tos is 4 { out 105; }
+  if pkt.nw_proto is 6 { if pkt.tp_dst is 22 { drop; } if pkt.tp_src is 1000 { out 106; } }
+  if pkt.nw_src is 1 { if pkt.nw_dst is 2 { out 107; } }
+  out 2;
+}
+%%
+packet 1 1 nw_proto=17 tp_dst=80 nw_src=3
+packet 1 1 nw_proto=17 tp_dst=80 nw_src=3
+packet 1 9 nw_proto=17 tp_dst=80 nw_src=3
+packet 1 9 nw_proto=17 tp_dst=80 nw_src=3
+packet 1 1 dl_src=5
+packet 1 1 dl_src=5
+packet 1 1 dl_dst=6
+packet 1 1 dl_dst=6
+packet 1 1 dl_vlan=7
+packet 1 1 dl_vlan=7
+packet 1 1 dl_type=2054
+packet 1 1 dl_type=2054
+packet 1 1 nw_tos=4 nw_proto=17
+packet 1 1 nw_tos=4 nw_proto=17
+packet 1 1 nw_proto=6 tp_dst=22 nw_src=3
+packet 1 1 nw_proto=6 tp_dst=22 nw_src=3
+packet 1 1 nw_proto=6 tp_dst=80 tp_src=1000
+packet 1 1 nw_proto=6 tp_dst=80 tp_src=1000
+packet 1 1 nw_proto=6 tp_dst=80 tp_src=2000 nw_src=3
+packet 1 1 nw_proto=6 tp_dst=80 tp_src=2000 nw_src=3
+packet 1 1 nw_proto=17 nw_src=1 nw_dst=2
+packet 1 1 nw_proto=17 nw_src=1 nw_dst=2
+packet 1 1 nw_proto=17 nw_src=1 nw_dst=3
+packet 1 1 nw_proto=17 nw_src=1 nw_dst=3
+packet 1 1 dl_type=34525
+packet 1 1 dl_type=34525
+packet 1 1 nw_proto=17 tp_dst=80 nw_src=3
+packet 1 9 nw_proto=17 tp_dst=80 nw_src=3
+packet 1 1 dl_src=5
+packet 1 1 dl_dst=6
+packet 1 1 dl_vlan=7
+packet 1 1 dl_type=2054
+packet 1 1 nw_tos=4 nw_proto=17
+packet 1 1 nw_proto=6 tp_dst=22 nw_src=3
+packet 1 1 nw_proto=6 tp_dst=80 tp_src=1000
+packet 1 1 nw_proto=6 tp_dst=80 tp_src=2000 nw_src=3
+packet 1 1 nw_proto=17 nw_src=1 nw_dst=2
+packet 1 1 nw_proto=17 nw_src=1 nw_dst=3
+packet 1 1 dl_type=34525
+",
+        "miss c1 1 0
+answer s1 1 out 2 learned
+hit c1 1 out 2
+miss c1 9 1
+answer s1 9 out 109 learned
+hit c1 9 out 109
+miss c1 1 1
+answer s1 1 out 101 learned
+hit c1 1 out 101
+miss c1 1 1
+answer s1 1 out 102 learned
+hit c1 1 out 102
+miss c1 1 1
+answer s1 1 out 103 learned
+hit c1 1 out 103
+miss c1 1 1
+answer s1 1 out 104 learned
+hit c1 1 out 104
+miss c1 1 1
+answer s1 1 out 105 learned
+hit c1 1 out 105
+miss c1 1 1
+answer s1 1 drop learned
+hit c1 1 drop
+miss c1 1 1
+answer s1 1 out 106 learned
+hit c1 1 out 106
+miss c1 1 1
+answer s1 1 out 2 learned
+hit c1 1 out 2
+miss c1 1 1
+answer s1 1 out 107 learned
+hit c1 1 out 107
+miss c1 1 1
+answer s1 1 out 2 learned
+hit c1 1 out 2
+miss c1 1 0
+answer s1 1 out 2 learned
+hit c1 1 out 2
+hit c1 1 out 2
+hit c1 9 out 109
+hit c1 1 out 101
+hit c1 1 out 102
+hit c1 1 out 103
+hit c1 1 out 104
+hit c1 1 out 105
+hit c1 1 drop
+hit c1 1 out 106
+hit c1 1 out 2
+hit c1 1 out 107
+hit c1 1 out 2
+hit c1 1 out 2
+end
+",
+        DONE,
+    ),
+    // The files of the folder `examples`.
+    Row::Run(
+        &["sim"],
+        "policy { if pkt.tp_dst is 80 { out 2; } drop; }
+%%
+packet 1 1 tp_dst=80
+packet 1 1 tp_dst=80
+packet 1 3 tp_dst=443
+packet 1 3 tp_dst=22
+packet 1 3 tp_dst=80
+",
+        "miss c1 1 0
+answer s1 1 out 2 learned
+hit c1 1 out 2
+miss c1 3 0
+answer s1 3 drop learned
+hit c1 3 drop
+hit c1 3 out 2
+end
+",
+        DONE,
+    ),
+    Row::Run(
+        &["sim"],
+        "policy { if pkt.tp_dst is 22 { drop; } out 2; }
+%%
+# A first fragment of a TCP packet to port 22: it has no ports.
+frame 1 1 02000000000202000000000108004500002800002000400600000a0000010a00000204d20016
+# The same packet whole.
+frame 1 1 02000000000202000000000108004500002800000000400600000a0000010a00000204d20016
+# Its first 33 bytes: the IP header is cut short.
+frame 1 1 02000000000202000000000108004500002800000000400600000a0000010a0000
+packet 1 1 tp_dst=22
+",
+        "miss c1 1 0
+answer s1 1 out 2 learned
+miss c1 1 1
+answer s1 1 drop learned
+miss c1 1 0
+malformed c1 3
+hit c1 1 drop
+end
+",
+        DONE,
+    ),
+    Row::Run(
+        &["check"],
+        "# SSH is closed but at switch 1; known hosts get their packets along shortest ways.
+table seen;
+policy learning {
+  if pkt.tp_dst is 0x16 and (not (pkt.switch == 1)) { drop; }
+  if seen[pkt.nw_src] as port { if up(pkt.switch, port) { out port, (port + 1); } }
+  if host(pkt.dl_dst) as to { route to; } else { flood; } # to all else
+}
+",
+        "table seen;
+policy learning {
+  if pkt.tp_dst is 22 and not pkt.switch == 1 {
+    drop;
+  }
+  if seen[pkt.nw_src] as port {
+    if up(pkt.switch, port) {
+      out port, port + 1;
+    }
+  }
+  if host(pkt.dl_dst) as to {
+    route to;
+  } else {
+    flood;
+  }
+}
+",
+        DONE,
+    ),
+    Row::Endless,
+];
+
+const TO_PORT_80: &str =
+    "policy { if pkt.tp_dst is 22 { drop; } out 2; }\n%%\npacket 1 1 tp_dst=80\n";
+
+const SPENT: &str = "miss c1 1 0\nspent s1 1\nend\n";
+
+const ANSWERED: &str = "miss c1 1 0\nanswer s1 1 out 2 learned\nend\n";
+
+/// A run whose device fails.
+pub struct Fault {
+    pub words: &'static [&'static str],
+    pub input: &'static str,
+    /// The numbers of the reads that fail.
+    pub reads: &'static [u64],
+    /// The numbers of the writes that fail.
+    pub writes: &'static [u64],
+    pub output: &'static str,
+    pub status: u8,
+}
+
+pub const FAULTS: &[Fault] = &[
+    Fault {
+        words: &["sim"],
+        input: HIT,
+        reads: &[1],
+        writes: &[],
+        output: "refused read\n",
+        status: READ_FAULT,
+    },
+    Fault {
+        words: &["sim"],
+        input: HIT,
+        reads: &[2],
+        writes: &[],
+        output: "refused read\n",
+        status: READ_FAULT,
+    },
+    Fault {
+        words: &["sim"],
+        input: HIT,
+        reads: &[1],
+        writes: &[1],
+        output: "",
+        status: WRITE_FAULT,
+    },
+    Fault {
+        words: &["sim"],
+        input: HIT,
+        reads: &[2],
+        writes: &[1],
+        output: "",
+        status: WRITE_FAULT,
+    },
+    Fault {
+        words: &["sim"],
+        input: "policy { drop; }",
+        reads: &[],
+        writes: &[1],
+        output: "",
+        status: WRITE_FAULT,
+    },
+    Fault {
+        words: &["sim"],
+        input: HIT,
+        reads: &[],
+        writes: &[1],
+        output: "",
+        status: WRITE_FAULT,
+    },
+    Fault {
+        words: &["sim"],
+        input: HIT,
+        reads: &[],
+        writes: &[2],
+        output: "miss c1 1 0\nanswer s1 1 out 2 learned\n",
+        status: WRITE_FAULT,
+    },
+    Fault {
+        words: &["sim"],
+        input: HIT,
+        reads: &[],
+        writes: &[3],
+        output: "miss c1 1 0\nanswer s1 1 out 2 learned\nhit c1 1 out 2\n",
+        status: WRITE_FAULT,
+    },
+    Fault {
+        words: &["check"],
+        input: "policy { drop; }",
+        reads: &[],
+        writes: &[1],
+        output: "",
+        status: WRITE_FAULT,
+    },
+];
+
+const HIT: &str = "policy { out 2; }\n%%\npacket 1 1\npacket 1 1\n";

@@ -1,0 +1,4 @@
+pub mod Addresses
+pub mod Digits
+pub mod PartsOf
+pub mod Splits

@@ -1,0 +1,408 @@
+// A tree of runs beside a plain list of them, and what a run has to be to be put into a tree.
+ghost use Rattle.std.specs.Prelude.{◌≡◌, ◌+◌, ◌^◌, ◌≤◌, ◌<◌, [], length, IsTrue, IfOk, IfErr, OnOk, OnErr, MatchResult};
+ghost use Rattle.trace_tree.specs.TreeOf.{branches, child_trees, values_of};
+ghost use Rattle.std.specs.List.{list_all, list_any};
+ghost use Rattle.maple_base.specs.Questions.{asks_once, field_number, same_field, within_domain};
+ghost use Rattle.net_tests.specs.Fixed.{is_new, fixed_behind};
+ghost use Rattle.trace_tree.specs.Growth.{admits, leaves_of, place_of, AreOrdered};
+ghost use Rattle.trace_tree.specs.Bounds.{items_within};
+ghost use Rattle.rule_builder.specs.Rules.{levels_of, rules_needed};
+
+use crate::packets::item_of;
+use maple_base::{Cells, Decision, Field, Item, Items, Key, NoMemory, RuleList};
+use rule_builder::{levels, rules, rules_needed, rules_needed_with};
+use std::alloc::{AllocError, Global};
+use std::marker::Model;
+use std::mem;
+use std::test::Fail;
+use trace_tree::{Node, Trace, Tree};
+
+const MOST_RULES: u64 = 0xffff_ffff;
+
+/// A tree of runs, the same runs in a plain list, and what the next run asks.
+#[derive(Drop)]
+pub struct Learned {
+    tree: Tree,
+    runs: Vec<(u64, Vec<Item>)>,
+    asked: Vec<Item>,
+    // not below the number of rules
+    bound: u64,
+    alloc: Global,
+}
+
+impl Model for Learned {
+    ghost use Rattle.std.specs.Prelude.{◌≤◌};
+    ghost use Rattle.trace_tree.specs.Shape.{Shape};
+    ghost use Rattle.trace_tree.specs.ShapeCode.{coded_shape};
+    ghost use Rattle.rule_builder.specs.Rules.{rules_needed};
+
+    ghost Value = { Shape };
+
+    ghost coded = { coded_shape };
+
+    ghost view = { λ a. a.tree };
+
+    ghost invariant = { λ a. rules_needed a.tree ≤ a.bound };
+}
+
+impl Learned {
+    /// No run.
+    pub fn new(alloc: Global) -> Learned {
+        Learned {
+            tree: Tree::new(alloc),
+            runs: Vec::new(alloc),
+            asked: Vec::new(alloc),
+            bound: 0,
+            alloc,
+        }
+    }
+
+    /// The next run asks these questions too.
+    pub fn ask(&mut self, words: &[&str]) -> Result<(), Fail> {
+        for word in words {
+            self.asked.push(item_of(word)?)?;
+        }
+        Ok(())
+    }
+
+    /// The next run also asks whether the source address is each number below this one, and it isn't.
+    pub fn ask_many(&mut self, count: u64) -> Result<(), AllocError> {
+        for value in 0..count {
+            self.asked.push(Item::Test {
+                field: Field::DlSrc,
+                value,
+                outcome: false,
+            })?;
+        }
+        Ok(())
+    }
+
+    /// Puts the run into the tree and the list.
+    pub fn add(&mut self, number: u64, decision: Decision) -> Result<(), Fail> {
+        if self.bound > MOST_RULES {
+            return Err(Fail::from("too many runs"));
+        }
+        let items = mem::replace(&mut self.asked, Vec::new(self.alloc));
+        self.runs
+            .push((number, Vec::from_slice(self.alloc, &items)?))?;
+        let trace = Trace {
+            number,
+            items: Items::new(items),
+            cells: Cells::new(Vec::new(self.alloc)),
+            decision,
+        };
+        self.bound += 262_145;
+        put(self.alloc, &mut self.tree, trace)
+    }
+
+    /// The number of the run that the tree finds for a packet, where a scan of the list finds it too.
+    pub fn find(&self, key: &Key) -> Result<Option<u64>, Fail> {
+        let found = match self.tree.search(key) {
+            Some(leaf) => Some(leaf.number),
+            None => None,
+        };
+        if found == scanned(&self.runs, key) {
+            Ok(found)
+        } else {
+            Err(Fail::from("a scan finds another run"))
+        }
+    }
+
+    /// How many runs the tree has.
+    pub fn leaves(&self) -> u32 {
+        self.tree.leaves()
+    }
+
+    /// How many rules the tree has.
+    pub fn rules_needed(&self) -> Result<u64, Fail> {
+        if self.bound <= MOST_RULES {
+            Ok(rules_needed(&self.tree))
+        } else {
+            Err(Fail::from("too many rules"))
+        }
+    }
+
+    /// How many rules the tree has with the next run.
+    pub fn rules_needed_with(&self) -> Result<u64, Fail> {
+        let items = Items::new(Vec::from_slice(self.alloc, &self.asked)?);
+        if self.bound <= MOST_RULES && is_run_for(self.alloc, &self.tree, &items)? {
+            Ok(needed_with(&self.tree, &items))
+        } else {
+            Err(Fail::from("no run for the tree"))
+        }
+    }
+
+    /// How many priorities the rules take.
+    pub fn levels(&self) -> Result<u64, Fail> {
+        if self.bound <= MOST_RULES {
+            Ok(levels_in(&self.tree))
+        } else {
+            Err(Fail::from("too many rules"))
+        }
+    }
+
+    /// The rules of the tree.
+    pub fn rules(&self) -> Result<RuleList, Fail> {
+        if self.bound <= MOST_RULES {
+            rules_in(self.alloc, &self.tree)
+        } else {
+            Err(Fail::from("too many rules"))
+        }
+    }
+}
+
+fn levels_in(tree: &Tree) -> u64
+    requires { rules_needed tree.now < 2 ^ 64 }
+    ensures { result ≡ levels_of tree.now }
+{
+    levels(tree)
+}
+
+fn rules_in(alloc: Global, tree: &Tree) -> Result<RuleList, Fail>
+    requires { rules_needed tree.now < 2 ^ 64 }
+{
+    if levels_in(tree) <= 65_000 {
+        Ok(rules(alloc, tree)?)
+    } else {
+        Err(Fail::from("too many levels"))
+    }
+}
+
+// The number of the first run of a list that the packet meets.
+fn scanned(runs: &[(u64, Vec<Item>)], key: &Key) -> Option<u64> {
+    for (number, items) in runs {
+        if meets(key, items) {
+            return Some(*number);
+        }
+    }
+    None
+}
+
+// Whether the packet answers each question as it was recorded.
+fn meets(key: &Key, items: &[Item]) -> bool {
+    for item in items {
+        let same = match *item {
+            Item::Read { field, value } => key.get(field) == value,
+            Item::Test {
+                field,
+                value,
+                outcome,
+            } => (key.get(field) == value) == outcome,
+        };
+        if !same {
+            return false;
+        }
+    }
+    true
+}
+
+fn needed_with(tree: &Tree, items: &Items) -> u64
+    requires admitted { IsTrue (admits items.now tree.now) }
+    requires room { rules_needed tree.now + length items.now + 1 < 2 ^ 64 }
+{
+    // shows that the tree's values rise
+    let _root = tree.root();
+    rules_needed_with(tree, items)
+}
+
+// Puts a run into a tree; where memory runs out at the first try, at the second.
+fn put(alloc: Global, tree: &mut Tree, trace: Trace) -> Result<(), Fail>
+    ensures { rules_needed tree.new ≤ rules_needed tree.old + 262145 }
+{
+    if !is_run_for(alloc, tree, &trace.items)? || tree.leaves() >= 1_000 {
+        return Err(Fail::from("no run for the tree"));
+    }
+    let number = trace.number;
+    let leaves = tree.leaves();
+    match grow(tree, trace) {
+        Ok(()) => Ok(()),
+        Err(back) => {
+            if back.number == number && tree.leaves() == leaves && grow(tree, back).is_ok() {
+                Ok(())
+            } else {
+                Err(Fail::from(NoMemory))
+            }
+        }
+    }
+}
+
+#[tactic(auto, using(crate::proofs::Runs::few_further))]
+fn grow(tree: &mut Tree, trace: Trace) -> Result<(), Trace>
+    requires admitted { IsTrue (admits trace.items tree.old) }
+    requires within { IsTrue (items_within trace.items) }
+    requires once { IsTrue (asks_once [] trace.items) }
+    requires short { length trace.items ≤ 262144 }
+    requires room { leaves_of tree.old + 1 < 2 ^ 32 }
+    ensures few { rules_needed tree.new ≤ rules_needed tree.old + 262145 }
+    ensures err { IfErr result (λ back. back ≡ trace) }
+    ensures unchanged { OnErr result (tree.new ≡ tree.old) }
+{
+    tree.augment(trace)
+}
+
+// Whether a run of these questions may be put into a tree.
+fn is_run_for(alloc: Global, tree: &Tree, items: &Items) -> Result<bool, AllocError>
+    ensures admitted { IfOk result (λ b. IsTrue b → IsTrue (admits items.now tree.now)) }
+    ensures within { IfOk result (λ b. IsTrue b → IsTrue (items_within items.now)) }
+    ensures once { IfOk result (λ b. IsTrue b → IsTrue (asks_once [] items.now)) }
+    ensures short { IfOk result (λ b. IsTrue b → length items.now ≤ 262144) }
+{
+    let list = items.items();
+    let once = asks_once(alloc, list)?;
+    Ok(once && leads(tree, list) && are_within(list) && list.len() <= 262_144)
+}
+
+#[tactic(auto, using(crate::proofs::Runs::all_within))]
+fn are_within(items: &[Item]) -> bool
+    ensures { IsTrue result → IsTrue (items_within items.now) }
+{
+    all_within_domain(items)
+}
+
+fn all_within_domain(items: &[Item]) -> bool
+    ensures { result ≡ list_all within_domain items.now }
+{
+    items.iter().all(|item| within_domain(item))
+}
+
+fn within_domain(item: &Item) -> bool
+    ensures { result ≡ within_domain item.now }
+{
+    match *item {
+        Item::Read { field, value } => field.in_domain(value),
+        Item::Test { field, value, .. } => field.in_domain(value),
+    }
+}
+
+// Whether no item asks of a field that was fixed before it.
+fn asks_once(alloc: Global, items: &[Item]) -> Result<bool, AllocError>
+    ensures { IfOk result (λ b. IsTrue b → IsTrue (asks_once [] items.now)) }
+{
+    let mut fixed = Vec::new(alloc);
+    for item in items {
+        if !is_new(&fixed, item) {
+            return Ok(false);
+        }
+        fix(&mut fixed, item)?;
+    }
+    Ok(true)
+}
+
+// Whether an item's field is not among the fixed ones.
+fn is_new(fixed: &[Field], item: &Item) -> bool
+    ensures { result ≡ is_new fixed.now item.now }
+{
+    match *item {
+        Item::Read { field, .. } => !is_among(fixed, field),
+        Item::Test { field, .. } => !is_among(fixed, field),
+    }
+}
+
+fn is_among(fields: &[Field], field: Field) -> bool
+    ensures { result ≡ list_any (λ one. same_field one field) fields.now }
+{
+    fields.iter().any(|one| same_field(*one, field))
+}
+
+fn same_field(field: Field, other: Field) -> bool
+    ensures { result ≡ same_field field other }
+{
+    field_number(field) == field_number(other)
+}
+
+fn field_number(field: Field) -> u8
+    ensures { result ≡ field_number field }
+{
+    match field {
+        Field::InPort => 0,
+        Field::DlSrc => 1,
+        Field::DlDst => 2,
+        Field::DlVlan => 3,
+        Field::DlType => 4,
+        Field::NwTos => 5,
+        Field::NwProto => 6,
+        Field::NwSrc => 7,
+        Field::NwDst => 8,
+        Field::TpSrc => 9,
+        Field::TpDst => 10,
+    }
+}
+
+// Puts an item's field ahead of the fixed ones, where its answer fixes it.
+fn fix(fixed: &mut Vec<Field>, item: &Item) -> Result<(), AllocError>
+    ensures { OnOk result (fixed.new.items ≡ fixed_behind item.now fixed.old.items) }
+{
+    match *item {
+        Item::Read { field, .. } => fixed.insert(0, field)?,
+        Item::Test { field, outcome, .. } => {
+            if outcome {
+                fixed.insert(0, field)?;
+            }
+        }
+    }
+    Ok(())
+}
+
+// Whether the items were seen to lead to an empty place.
+fn leads(tree: &Tree, items: &[Item]) -> bool
+    ensures { IsTrue result → IsTrue (admits items.now tree.now) }
+{
+    let mut node = tree.root();
+    for item in items {
+        match node {
+            Node::Empty => return true,
+            Node::Leaf(_) => return false,
+            Node::Values { field, children } => {
+                let Item::Read {
+                    field: asked,
+                    value,
+                } = *item
+                else {
+                    return false;
+                };
+                if !same(asked, *field) {
+                    return false;
+                }
+                match place(children, value) {
+                    Ok(at) => node = &children[at].1,
+                    Err(_) => return true,
+                }
+            }
+            Node::Test {
+                field,
+                value,
+                no,
+                yes,
+            } => {
+                let Item::Test {
+                    field: asked,
+                    value: tested,
+                    outcome,
+                } = *item
+                else {
+                    return false;
+                };
+                if !same(asked, *field) || tested != *value {
+                    return false;
+                }
+                node = if outcome { yes } else { no };
+            }
+        }
+    }
+    matches!(node, Node::Empty)
+}
+
+fn same(field: Field, other: Field) -> bool
+    ensures { IsTrue result → field ≡ other }
+{
+    field == other
+}
+
+// Where the value's child stands, or where it would.
+fn place(children: &[(u64, Node)], value: u64) -> Result<usize, usize>
+    requires { AreOrdered (branches (child_trees children.now)) }
+    ensures place { result ≡ place_of value (values_of children.now) }
+    ensures bound { MatchResult result (λ at. at < length children.now) (λ at. at ≤ length children.now) }
+{
+    children.binary_search_by_key(&value, |child| child.0)
+}

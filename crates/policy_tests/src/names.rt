@@ -1,0 +1,135 @@
+// Names: what is wrong with those of a policy by the places of a text, and what those in force stand
+// for in an evaluation.
+use maple_base::{Name, NoMemory, Place, Value};
+use policy_eval::heads::{bind, number_in_table, place_of_host, port_of_hop};
+use policy_eval::{Datum, Scope};
+use policy_lang::{Policy, Site, SiteOrder, TreeOrder, first_name_fault};
+use policy_text::read_policy;
+use std::alloc::Global;
+use std::test::Fail;
+
+// All parts of a policy at one place.
+#[derive(Clone, Copy)]
+struct OnePlace;
+
+impl SiteOrder for OnePlace {
+    ghost place_of = { λ order site. 0 };
+
+    fn index(&self, _site: Site) -> u64 {
+        0
+    }
+}
+
+// The tables of these names, of which each is one byte.
+fn tables_of(alloc: Global, names: &str) -> Result<Vec<Name>, Fail> {
+    let mut tables = Vec::new(alloc);
+    for byte in names.as_bytes() {
+        tables.push(Name::new(&[*byte]).ok_or("a name")?)?;
+    }
+    Ok(tables)
+}
+
+// The node and the kind of the first fault of names, if a policy had these tables in place of its own.
+fn fault_with<P: SiteOrder>(
+    alloc: Global,
+    policy: &Policy,
+    tables: &[Name],
+    order: &P,
+) -> Result<(u32, u8), NoMemory> {
+    let body = policy.body();
+    match first_name_fault(alloc, tables, body, order)? {
+        Some(fault) => Ok((fault.site.node(), fault.kind.number())),
+        None => Ok((0, 0)),
+    }
+}
+
+// With other tables than its own: in the order of the tree, and where all stands at one place, so that
+// the kind decides, and then the node.
+#[test]
+fn faults_of_names_by_places(rt: HostRuntime) -> Result<(), Fail> {
+    let alloc = rt.alloc();
+    let both = "table t; policy { let x = 1; if t[2] as y { } }";
+    let two = "table t; table u; policy { if t[1] as x { } if u[2] as y { } }";
+    let rows = [
+        ("policy { out 1; }", "", (0, 0), (0, 0)),
+        (both, "t", (0, 0), (0, 0)),
+        (both, "x", (1, 5), (4, 4)),
+        (both, "uu", (0, 5), (4, 4)),
+        (both, "tt", (0, 5), (0, 5)),
+        (two, "", (2, 4), (2, 4)),
+        (two, "t", (5, 4), (5, 4)),
+    ];
+    for (text, names, ordered, at_one) in rows {
+        let policy = read_policy(alloc, text.as_bytes())?;
+        let tables = tables_of(alloc, names)?;
+        let first = fault_with(alloc, &policy, &tables, &TreeOrder)?;
+        assert_eq!(rt; first, ordered, "{text} with {names}");
+        let first = fault_with(alloc, &policy, &tables, &OnePlace)?;
+        assert_eq!(rt; first, at_one, "{text} with {names} at one place");
+    }
+    Ok(())
+}
+
+// What `b` stands for behind `a` for 1, `b` for 2, what is found for `b`, and 4 assigned to `a`.
+fn named_behind(
+    alloc: Global,
+    found: Option<Datum>,
+    kept: usize,
+) -> Result<(bool, Datum, Datum), Fail> {
+    let a = Name::new(b"a").ok_or("a name")?;
+    let b = Name::new(b"b").ok_or("a name")?;
+    let mut scope = Scope::new(alloc);
+    scope.declare(a, Datum::Number(1))?;
+    scope.declare(b, Datum::Number(2))?;
+    let held = bind(&b, found, &mut scope)?;
+    scope.assign(&a, Datum::Number(4));
+    scope.truncate(kept);
+    Ok((held, scope.named(&a), scope.named(&b)))
+}
+
+#[test]
+fn names_in_force(rt: HostRuntime) -> Result<(), Fail> {
+    let place = Place { switch: 3, port: 6 };
+    let four = Datum::Number(4);
+    let rows = [
+        (
+            place_of_host(Value::At(place)),
+            3,
+            (true, four, Datum::At(place)),
+        ),
+        (
+            port_of_hop(Value::At(place)),
+            3,
+            (true, four, Datum::Number(6)),
+        ),
+        (
+            number_in_table(Value::Number(80)),
+            3,
+            (true, four, Datum::Number(80)),
+        ),
+        (
+            number_in_table(Value::Nothing),
+            3,
+            (false, four, Datum::Number(2)),
+        ),
+        (
+            port_of_hop(Value::At(place)),
+            2,
+            (true, four, Datum::Number(2)),
+        ),
+        (
+            place_of_host(Value::Nothing),
+            1,
+            (false, four, Datum::Number(0)),
+        ),
+        (
+            place_of_host(Value::Nothing),
+            0,
+            (false, Datum::Number(0), Datum::Number(0)),
+        ),
+    ];
+    for (found, kept, want) in rows {
+        assert_eq!(rt; named_behind(rt.alloc(), found, kept)?, want, "{kept}");
+    }
+    Ok(())
+}
