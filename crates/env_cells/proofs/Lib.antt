@@ -2,7 +2,6 @@ pub mod Maps
 pub mod Sets
 pub mod Places
 pub mod PlaceOrder
-pub mod Firsts
 pub mod NamedTables
 pub mod Limits
 pub mod LinkFacts

@@ -11,9 +11,9 @@ use Rattle.std.specs.FinMap.{nat_cmp-IsAntisymmetric}
 use Rattle.std.specs.FinMap.Entries.{find, is_sorted, below_all}
 use Rattle.std.proofs.lemmas.List.{length-map}
 use Rattle.maple_base.specs.declared.cells.Place.{Place}
-use Rattle.env_cells.specs.Environment.{Environment, PortSet, knows}
+use Rattle.env_cells.specs.Environment.{Environment, PortSet, place_cmp, knows}
 use Rattle.env_cells.specs.Limits.{IsWithinLimits}
-use Rattle.env_cells.specs.Lists.{StartApart, IsBetweenPorts, IsKnown, NamesFewSwitches}
+use Rattle.env_cells.specs.Lists.{StartApart, RiseByPlace, IsBetweenPorts, IsKnown, NamesFewSwitches}
 use Rattle.env_cells.proofs.Places.{truth, rises}
 use Rattle.env_cells.proofs.PlaceOrder.{place_cmp_total}
 
@@ -60,6 +60,9 @@ module _ (e : Environment) (within : IsWithinLimits e) where
 
   pub links_apart : StartApart links
   links_apart i j d lt inside = keys_apart place_cmp_total e.links i j d lt inside
+
+  pub links_rise : RiseByPlace links
+  links_rise i j d lt inside = rises place_cmp links i j d (entries_sorted place_cmp_total e.links) lt inside
 
   pub links_few : length links ≤ 4096
   links_few = omega (arith, map.len-entries e.links, within.links)

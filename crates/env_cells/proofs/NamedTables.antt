@@ -1,18 +1,19 @@
 -- Tables kept as a list of entries, sought by their names.
 use Rattle.std.proofs.Common.{◌≡◌, ℕ, ◌+◌, ◌<◌, Bool, true, false, cond, Option, Some, None, List, [], ◌∷◌, ◌++◌, length, get_or, take, set, sym, ap, subst, ◌∙◌, refl}
-use Rattle.std.specs.Prelude.{is_some, unwrap_or, ◌||◌, IfSome, IfNone, filter}
+use Rattle.std.specs.Prelude.{T, is_ok, is_some, unwrap_or, ◌||◌, IfOk, IfErr, Result, Ok, Err, filter, insert}
 use Rattle.std.specs.declared.cmp.Ordering.{Ordering}
 use Rattle.std.specs.declared.cmp.Ordering.TheVariants.{Less, Equal, Greater}
 use Rattle.std.specs.List.{list_any}
-use Rattle.std.specs.FinMap.Entries.{find-where_key}
+use Rattle.std.specs.FinMap.Entries.{put, is_sorted, find-where_key, is_sorted-where_key}
 use Rattle.std.proofs.lemmas.List.{take_more}
 use Rattle.std.specs.Ordering.{eq_by_cmp, is_eq}
 use Rattle.std.specs.Cmp.Lexicographic.{nat_list_cmp_total}
 use Rattle.std.specs.FinMap as map
 use Rattle.std.specs.FinMap.{nat_cmp-IsAntisymmetric, slice_cmp-IsAntisymmetric, find}
 use Rattle.env_cells.specs.Environment.{NumberTable, name_cmp}
-use Rattle.env_cells.specs.Named.{IsFirst, numbers_in, tables_named, with_empty}
-use Rattle.env_cells.proofs.Firsts.{find_first, from_entries-set}
+use Rattle.env_cells.specs.Sorted.{IsHit, IsGap}
+use Rattle.env_cells.specs.Named.{numbers_in, tables_named, with_empty}
+use Rattle.env_cells.proofs.Places.{truth, hit_value, find_hit, find_gap, put_gap, set_is_put, sorted_put, from_entries-put}
 
 pub name_cmp-IsAntisymmetric : map.IsAntisymmetric name_cmp
 name_cmp-IsAntisymmetric = slice_cmp-IsAntisymmetric nat_cmp-IsAntisymmetric
@@ -23,29 +24,38 @@ named es = map.from_entries es
 pub get-named : (es : List (List ℕ × NumberTable)) (name : List ℕ) → map.get (named es) name ≡ find name_cmp name es
 get-named es name = map.get-from_entries nat_list_cmp_total es name
 
-module _ (es ds : List (List ℕ × NumberTable)) (same : ds ≡ es) (name : List ℕ) where
-  pub get_first : (at : ℕ) (t : List ℕ × NumberTable) → IsFirst name_cmp ds name at → t ≡ get_or es at t → Some t.1 ≡ map.get (named es) name
-  get_first at t first is =
-      ap (λ (e : List ℕ × NumberTable). Some e.1) is
-      ∙ sym (get-named es name ∙ find_first nat_list_cmp_total es name at t (subst (λ l. IsFirst name_cmp l name at) same first))
+module _ (es ds : List (List ℕ × NumberTable)) (lent : ds ≡ es) (name : List ℕ) (at : ℕ) where
+  pub get_gap : IsGap name_cmp ds name at → None ≡ map.get (named es) name
+  get_gap gap = sym (get-named es name ∙ find_gap nat_list_cmp_total es name at (subst (λ l. IsGap name_cmp l name at) lent gap))
 
-  pub get_none : find name_cmp name ds ≡ None → None ≡ map.get (named es) name
-  get_none none = sym (get-named es name ∙ ap (find name_cmp name) (sym same) ∙ none)
+  pub not_gap : IsGap name_cmp ds name at → map.contains_key (named es) name ≡ true → ⊥
+  not_gap gap declared = let h : false ≡ true = ap is_some (get_gap gap) ∙ declared in cc
 
-  pub named-set : (at : ℕ) (t : List ℕ × NumberTable) (v : NumberTable) → IsFirst name_cmp ds name at → t ≡ get_or es at t → named (set es at (t.0, v)) ≡ map.insert (named es) name v
-  named-set at t v first is =
-      let here = subst (λ l. IsFirst name_cmp l name at) same first in
-      from_entries-set nat_list_cmp_total name_cmp-IsAntisymmetric es name at t.0 v here (ap (λ (e : List ℕ × NumberTable). eq_by_cmp name_cmp name e.0) is ∙ here.here t)
+  module _ (t : List ℕ × NumberTable) (hit : IsHit name_cmp ds name at) (is : t ≡ get_or es at t) where
+    here : IsHit name_cmp es name at
+    here = subst (λ l. IsHit name_cmp l name at) lent hit
 
-  pub numbers_first : (at : ℕ) (t : List ℕ × NumberTable) → IsFirst name_cmp ds name at → t ≡ get_or es at t → t.1 ≡ numbers_in (named es) name
-  numbers_first at t first is = ap (λ x. unwrap_or x map.empty) (get_first at t first is)
+    pub get_hit : Some t.1 ≡ map.get (named es) name
+    get_hit = ap (λ (e : List ℕ × NumberTable). Some e.1) is ∙ sym (get-named es name ∙ hit_value nat_list_cmp_total es name at t here)
 
-  pub not_none : find name_cmp name ds ≡ None → map.contains_key (named es) name ≡ true → ⊥
-  not_none none declared = let h : false ≡ true = ap is_some (get_none none) ∙ declared in cc
+    pub numbers_hit : t.1 ≡ numbers_in (named es) name
+    numbers_hit = ap (λ x. unwrap_or x map.empty) get_hit
 
-pub declared_by : (es : List (List ℕ × NumberTable)) (name : List ℕ) (r : Option ℕ) → IfSome r (IsFirst name_cmp es name) → IfNone r (find name_cmp name es ≡ None) → is_some r ≡ is_some (find name_cmp name es)
-declared_by es name None found absent = sym (ap is_some absent)
-declared_by es name (Some at) found absent = sym (ap is_some (find_first nat_list_cmp_total es name at (name, map.empty) found))
+    put_here : (v : NumberTable) → set es at (t.0, v) ≡ put name_cmp name v es
+    put_here v = set_is_put nat_list_cmp_total name_cmp-IsAntisymmetric es name t.0 v at here (ap (λ (e : List ℕ × NumberTable). name_cmp name e.0) is ∙ here.here t)
+
+    pub named-set : (v : NumberTable) → named (set es at (t.0, v)) ≡ map.insert (named es) name v
+    named-set v = ap named (put_here v) ∙ from_entries-put nat_list_cmp_total name_cmp-IsAntisymmetric es name v
+
+    pub sorted-set : (v : NumberTable) → is_sorted name_cmp es ≡ true → is_sorted name_cmp (set es at (t.0, v)) ≡ true
+    sorted-set v sorted = ap (is_sorted name_cmp) (put_here v) ∙ sorted_put nat_list_cmp_total name v es sorted
+
+pub declared_by : (es ds : List (List ℕ × NumberTable)) → ds ≡ es → (name : List ℕ) (r : Result ℕ ℕ) → IfOk r (IsHit name_cmp ds name) → IfErr r (IsGap name_cmp ds name) → is_ok r ≡ map.contains_key (named es) name
+declared_by es ds lent name (Ok at) found absent = sym (ap is_some (get-named es name) ∙ find_hit nat_list_cmp_total es name at (subst (λ l. IsHit name_cmp l name at) lent found))
+declared_by es ds lent name (Err at) found absent = ap is_some (get_gap es ds lent name at absent)
+
+pub sorted-kept : (names : List (List ℕ)) (es : List (List ℕ × NumberTable)) → is_sorted name_cmp es ≡ true → is_sorted name_cmp (filter (λ t. list_any (eq_by_cmp name_cmp t.0) names) es) ≡ true
+sorted-kept names es sorted = truth _ (is_sorted-where_key name_cmp (λ x. list_any (eq_by_cmp name_cmp x) names) es (subst T (sym sorted) tt))
 
 any_push : {K : Type 0} (p : K → Bool) (xs : List K) (x : K) → list_any p (xs ++ x ∷ []) ≡ (list_any p xs || p x)
 any_push p [] x = or_false (p x)
@@ -90,22 +100,23 @@ module _ (m : map.FinMap name_cmp NumberTable) (names : List (List ℕ)) (i : �
       is_equal Equal h = refl
       is_equal Greater h = cc
 
-  pub added_there : is_some (find name_cmp name es) ≡ true → (q : List ℕ) → map.get (named es) q ≡ with_empty m (take (i + 1) names) q
-  added_there there q =
+  pub added_there : (at : ℕ) → IsHit name_cmp es name at → (q : List ℕ) → map.get (named es) q ≡ with_empty m (take (i + 1) names) q
+  added_there at hit q =
+      let there = find_hit nat_list_cmp_total es name at hit in
       present (map.get (named es) q) (map.get m q) (list_any (eq_by_cmp name_cmp q) (take i names)) (eq_by_cmp name_cmp q name) map.empty (so_far q) (λ tied. ap is_some (tied_name q tied) ∙ there)
       ∙ sym (one_more q)
 
-  none_of : (o : Option NumberTable) → is_some o ≡ false → o ≡ None
-  none_of None h = refl
-  none_of (Some x) h = cc
-
-  pub added_new : is_some (find name_cmp name es) ≡ false → (q : List ℕ) → map.get (named (es ++ (name, map.empty) ∷ [])) q ≡ with_empty m (take (i + 1) names) q
-  added_new absent q =
-      let none = none_of _ absent in
-      missing (map.get (named (es ++ (name, map.empty) ∷ [])) q) (map.get (named es) q) (map.get m q) (list_any (eq_by_cmp name_cmp q) (take i names)) (eq_by_cmp name_cmp q name) map.empty
-      (ap (λ n. map.get n q) (map.from_entries_push nat_list_cmp_total name_cmp-IsAntisymmetric es name map.empty none) ∙ map.get-insert nat_list_cmp_total (named es) name map.empty q)
+  pub added_new : (at : ℕ) → IsGap name_cmp es name at → (q : List ℕ) → map.get (named (insert es at (name, map.empty))) q ≡ with_empty m (take (i + 1) names) q
+  added_new at gap q =
+      let none = find_gap nat_list_cmp_total es name at gap in
+      let put_is = ap named (sym (put_gap nat_list_cmp_total es name map.empty at gap)) ∙ from_entries-put nat_list_cmp_total name_cmp-IsAntisymmetric es name map.empty in
+      missing (map.get (named (insert es at (name, map.empty))) q) (map.get (named es) q) (map.get m q) (list_any (eq_by_cmp name_cmp q) (take i names)) (eq_by_cmp name_cmp q name) map.empty
+      (ap (λ n. map.get n q) put_is ∙ map.get-insert nat_list_cmp_total (named es) name map.empty q)
       (so_far q) (λ tied. tied_name q tied ∙ none)
       ∙ sym (one_more q)
+
+pub sorted-new : (es : List (List ℕ × NumberTable)) (name : List ℕ) (at : ℕ) → is_sorted name_cmp es ≡ true → IsGap name_cmp es name at → is_sorted name_cmp (insert es at (name, map.empty)) ≡ true
+sorted-new es name at sorted gap = ap (is_sorted name_cmp) (sym (put_gap nat_list_cmp_total es name map.empty at gap)) ∙ sorted_put nat_list_cmp_total name map.empty es sorted
 
 get-tables_named : (m : map.FinMap name_cmp NumberTable) (names : List (List ℕ)) (q : List ℕ) → map.get (tables_named m names) q ≡ cond (list_any (eq_by_cmp name_cmp q) names) (Some (numbers_in m q)) None
 get-tables_named m [] q = map.get-empty name_cmp q

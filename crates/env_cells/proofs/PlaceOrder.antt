@@ -1,5 +1,5 @@
 -- Places are in one order, and links keyed by them are a finite map.
-use Rattle.std.proofs.Common.{◌≡◌, ℕ, ◌+◌, Bool, true, false, cond, List, length, set, ap, sym, ◌∙◌, refl}
+use Rattle.std.proofs.Common.{◌≡◌, ℕ, ◌+◌, Bool, true, false, cond, Some, None, List, length, get_or, set, ap, sym, ◌∙◌, refl}
 use Rattle.std.specs.Prelude.{insert, remove, is_some}
 use Rattle.std.specs.declared.cmp.Ordering.{Ordering}
 use Rattle.std.specs.declared.cmp.Ordering.TheVariants.{Less, Equal, Greater}
@@ -11,7 +11,7 @@ use Rattle.maple_base.specs.declared.cells.Place.{Place}
 use Rattle.env_cells.specs.Environment.{place_cmp}
 use Rattle.env_cells.specs.Sorted.{IsHit, IsGap}
 use Rattle.env_cells.proofs.Maps.{len-from_entries, entries-from_entries}
-use Rattle.env_cells.proofs.Places.{put_hit, put_gap, find_hit, find_gap, sorted_put, sorted_removed, from_entries-put, from_entries-removed, remove_absent}
+use Rattle.env_cells.proofs.Places.{put_hit, put_gap, find_hit, hit_value, find_gap, sorted_put, sorted_removed, from_entries-put, from_entries-removed, remove_absent}
 
 pub place_cmp_total : IsTotalOrder place_cmp
 place_cmp_total = then_total (on_total (λ (p : Place). p.switch) nat_cmp_total) (on_total (λ (p : Place). p.port) nat_cmp_total)
@@ -29,6 +29,12 @@ Pairs = List (Place × Place)
 
 abbrev pub linked : List (Place × Place) → map.FinMap place_cmp Place
 linked es = map.from_entries es
+
+pub linked-hit : (es : List (Place × Place)) (from : Place) (at : ℕ) (d : Place × Place) → IsHit place_cmp es from at → Some (get_or es at d).1 ≡ map.get (linked es) from
+linked-hit es from at d hit = sym (map.get-from_entries place_cmp_total es from ∙ hit_value place_cmp_total es from at d hit)
+
+pub linked-gap : (es : List (Place × Place)) (from : Place) (at : ℕ) → IsGap place_cmp es from at → None ≡ map.get (linked es) from
+linked-gap es from at gap = sym (map.get-from_entries place_cmp_total es from ∙ find_gap place_cmp_total es from at gap)
 
 pub linked-set : (es : List (Place × Place)) (from to : Place) (at : ℕ) → IsHit place_cmp es from at → linked (set es at (from, to)) ≡ map.insert (linked es) from to
 linked-set es from to at hit =

@@ -99,6 +99,13 @@ module _ {K X : Type 0} {R : K → K → Ordering} (o : IsTotalOrder R) where
       ap (λ r. is_some (cond (is_eq r) (Some e.1) (find R k es))) (hit.before 0 e (omega arith))
       ∙ find_hit es k at (record { within = omega (arith, hit.within); before = λ j d lt. hit.before (suc j) d (omega arith); here = hit.here })
 
+  pub hit_value : (es : List (K × X)) (k : K) (at : ℕ) (d : K × X) → IsHit R es k at → find R k es ≡ Some (get_or es at d).1
+  hit_value [] k at d hit = absurd (omega (arith, hit.within))
+  hit_value (e ∷ es) k zero d hit = ap (λ r. cond (is_eq r) (Some e.1) (find R k es)) (hit.here e)
+  hit_value (e ∷ es) k (suc at) d hit =
+      ap (λ r. cond (is_eq r) (Some e.1) (find R k es)) (hit.before 0 e (omega arith))
+      ∙ hit_value es k at d (record { within = omega (arith, hit.within); before = λ j d lt. hit.before (suc j) d (omega arith); here = hit.here })
+
   pub find_gap : (es : List (K × X)) (k : K) (at : ℕ) → IsGap R es k at → find R k es ≡ None
   find_gap [] k at gap = refl
   find_gap (e ∷ es) k zero gap =
@@ -160,6 +167,10 @@ module _ {K X : Type 0} {R : K → K → Ordering} (o : IsTotalOrder R) where
   sorted_put k v es h = truth _ (is_sorted-put R o k v es (subst T (sym h) tt))
 
   module _ (same : map.IsAntisymmetric R) where
+    -- a value written at the entry of its key
+    pub set_is_put : (es : List (K × X)) (k x : K) (v : X) (at : ℕ) → IsHit R es k at → R k x ≡ Equal → set es at (x, v) ≡ put R k v es
+    set_is_put es k x v at hit tied = ap (λ y. set es at (y, v)) (sym (same k x tied)) ∙ sym (put_hit same es k v at hit)
+
     pub from_entries-put : (es : List (K × X)) (k : K) (v : X) → map.from_entries {R = R} (put R k v es) ≡ map.insert (map.from_entries es) k v
     from_entries-put es k v =
         map.same_map o same _ _ (λ q. map.get-from_entries o _ q ∙ find-put R o q k v es

@@ -17,7 +17,7 @@ ghost use Rattle.env_cells.specs.Answers.{Answers, Tells};
 ghost use Rattle.env_cells.specs.Values.{value_in, IsNoHop};
 ghost use Rattle.env_cells.specs.Limits.{IsWithinLimits};
 ghost use Rattle.env_cells.specs.Most.{most_links, most_switches};
-ghost use Rattle.env_cells.specs.Lists.{StartApart, IsBetweenPorts, IsKnown, NamesFewSwitches};
+ghost use Rattle.env_cells.specs.Lists.{StartApart, RiseByPlace, IsBetweenPorts, IsKnown, NamesFewSwitches};
 
 use crate::link_map::LinkMap;
 use crate::number_map::NumberMap;
@@ -124,8 +124,17 @@ impl Env {
         ensures known { All (IsKnown self.now) result.now }
         ensures switches { map.len self.now.switches ≤ most_switches }
         ensures named { NamesFewSwitches result.now }
+        ensures order { RiseByPlace result.now }
+        ensures limits { IsWithinLimits self.now }
     {
         self.links.links()
+    }
+
+    /// Where the link from a place ends, if one begins there.
+    pub fn link(&self, from: Place) -> Option<Place>
+        ensures { result ≡ map.get self.now.links from }
+    {
+        self.links.get(from)
     }
 
     /// Whether a switch is known.

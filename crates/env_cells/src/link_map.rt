@@ -50,6 +50,16 @@ impl LinkMap {
         &self.links
     }
 
+    /// Where the link from a place ends.
+    pub fn get(&self, from: Place) -> Option<Place>
+        ensures { result ≡ map.get self.now from }
+    {
+        match search(&self.links, &from) {
+            Ok(place) => Some(self.links.items()[place].1),
+            Err(_) => None,
+        }
+    }
+
     /// How many links there are once one begins at the place.
     pub fn len_with(&self, from: Place) -> u64
         ensures { (to : Place) → result ≡ map.len (map.insert self.now from to) }

@@ -1,21 +1,23 @@
 // Tables of numbers by their names.
-ghost use Rattle.std.specs.Prelude.{◌≡◌, ℕ, ◌+◌, ◌≤◌, None, IsTrue, IfSome, IfNone, IfOk, OnOk, OnErr, List, length, filter, is_some, vec_len, vec_capacity};
+ghost use Rattle.std.specs.Prelude.{◌≡◌, ◌+◌, ◌≤◌, true, IsTrue, IfOk, IfErr, OnOk, OnErr, length, filter, vec_len, vec_capacity};
 ghost use Rattle.std.specs.List.{list_any};
 ghost use Rattle.std.specs.Option.{option_copied};
 ghost use Rattle.std.specs.Ordering.{eq_by_cmp};
 ghost use Rattle.std.specs.FinMap as map;
-ghost use Rattle.std.specs.FinMap.{find};
+ghost use Rattle.std.specs.FinMap.{is_sorted};
 ghost use Rattle.env_cells.specs.Environment.{name_cmp};
-ghost use Rattle.env_cells.specs.Named.{IsFirst, numbers_in, tables_named, with_empty};
+ghost use Rattle.env_cells.specs.Named.{HaveAdded, numbers_in, tables_named};
+ghost use Rattle.env_cells.specs.Sorted.{IsHit, IsGap};
 
 use crate::number_map::NumberMap;
 use maple_base::{Name, NoMemory};
 use std::alloc::Global;
+use std::cmp::Ordering;
 use std::marker::Model;
 
 type NamedTable = (Name, NumberMap<u64>);
 
-/// The declared tables. There are few, so a table is sought among all of them.
+/// The declared tables, in the order of their names.
 #[derive(Drop)]
 pub struct TableMap {
     tables: Vec<NamedTable>,
@@ -27,12 +29,16 @@ impl Model for TableMap {
     ghost use Rattle.std.specs.Coded.{coded_ℕ, coded_list};
     ghost use Rattle.std.specs.FinMap as map;
     ghost use Rattle.env_cells.specs.Environment.{name_cmp, table_code};
+    ghost use Rattle.std.specs.Prelude.{◌≡◌, true};
+    ghost use Rattle.std.specs.FinMap.{is_sorted};
 
     ghost Value = { map.FinMap name_cmp (map.FinMap nat_cmp ℕ) };
 
     ghost coded = { map.code (coded_list coded_ℕ) table_code };
 
     ghost view = { λ a. map.from_entries a.tables.items };
+
+    ghost invariant = { λ a. is_sorted name_cmp a.tables.items ≡ true };
 }
 
 impl TableMap {
@@ -49,16 +55,16 @@ impl TableMap {
     pub fn has(&self, name: &Name) -> bool
         ensures { result ≡ map.contains_key self.now name.now }
     {
-        is_declared(&self.tables, name)
+        search(&self.tables, name).is_ok()
     }
 
     /// The numbers of a table.
     pub fn get(&self, name: &Name) -> Option<&NumberMap<u64>>
         ensures { option_copied result ≡ map.get self.now name.now }
     {
-        match place_of(&self.tables, name) {
-            Some(place) => Some(&self.tables[place].1),
-            None => None,
+        match search(&self.tables, name) {
+            Ok(place) => Some(&self.tables[place].1),
+            Err(_) => None,
         }
     }
 
@@ -68,7 +74,7 @@ impl TableMap {
         ensures ok { OnOk result (self.new ≡ map.insert self.old name.now (map.insert (numbers_in self.old name.now) key value)) }
         ensures err { OnErr result (self.new ≡ self.old) }
     {
-        let Some(place) = place_of(&self.tables, name) else {
+        let Ok(place) = search(&self.tables, name) else {
             return Ok(());
         };
         let (_, numbers) = &mut self.tables[place];
@@ -81,7 +87,7 @@ impl TableMap {
         requires declared { IsTrue (map.contains_key self.old name.now) }
         ensures { self.new ≡ map.insert self.old name.now (map.remove (numbers_in self.old name.now) key) }
     {
-        let Some(place) = place_of(&self.tables, name) else {
+        let Ok(place) = search(&self.tables, name) else {
             return;
         };
         let (_, numbers) = &mut self.tables[place];
@@ -123,44 +129,39 @@ fn keep(tables: &mut Vec<NamedTable>, names: &[Name])
 
 // Adds an empty table for each name that has none.
 fn add(tables: &mut Vec<NamedTable>, names: &[Name])
+    requires sorted { is_sorted name_cmp tables.old.items ≡ true }
     requires room { vec_len tables.old + length names.now ≤ vec_capacity tables.old }
-    ensures added { (q : List ℕ) → map.get (map.from_entries {R = name_cmp} tables.new.items) q ≡ with_empty (map.from_entries tables.old.items) names.now q }
+    ensures sorted { is_sorted name_cmp tables.new.items ≡ true }
+    ensures added { HaveAdded tables.old.items names.now tables.new.items }
 {
     for name in names {
-        if !is_declared(tables, name) {
+        if let Err(place) = search(tables, name) {
             let numbers = NumberMap::new(*tables.allocator());
-            tables.push_reserved((*name, numbers));
+            match tables.insert(place, (*name, numbers)) {
+                Ok(()) => {}
+                Err(_) => unreachable!(),
+            }
         }
     }
 }
 
-fn is_declared(tables: &[NamedTable], name: &Name) -> bool
-    ensures { result ≡ is_some (find name_cmp name.now tables.now) }
+// Where the table of a name stands, or where it would go.
+fn search(tables: &[NamedTable], name: &Name) -> Result<usize, usize>
+    requires { is_sorted name_cmp tables.now ≡ true }
+    ensures found { IfOk result (IsHit name_cmp tables.now name.now) }
+    ensures absent { IfErr result (IsGap name_cmp tables.now name.now) }
 {
-    place_of(tables, name).is_some()
+    tables.binary_search_by(|table| order(&table.0, name))
 }
 
-// Where the first table of the name stands.
-fn place_of(tables: &[NamedTable], name: &Name) -> Option<usize>
-    ensures found { IfSome result (IsFirst name_cmp tables.now name.now) }
-    ensures absent { IfNone result (find name_cmp name.now tables.now ≡ None) }
+fn order(name: &Name, other: &Name) -> Ordering
+    ensures { result ≡ name_cmp name.now other.now }
 {
-    for (place, table) in tables.iter().enumerate() {
-        if is_same(name, &table.0) {
-            return Some(place);
-        }
-    }
-    None
+    name.text().cmp(other.text())
 }
 
 fn is_among(names: &[Name], name: &Name) -> bool
     ensures { result ≡ list_any (eq_by_cmp name_cmp name.now) names.now }
 {
-    names.iter().any(|other| is_same(name, other))
-}
-
-fn is_same(name: &Name, other: &Name) -> bool
-    ensures { result ≡ eq_by_cmp name_cmp name.now other.now }
-{
-    name.text() == other.text()
+    names.iter().any(|other| order(name, other).is_eq())
 }

@@ -47,6 +47,11 @@ effect (Add r) rules = r ∷ others r.of r.priority rules
 effect (DeleteStrict of priority) rules = others of priority rules
 effect DeleteAll rules = []
 
+-- the rules behind changes that are carried out one after the other
+abbrev pub after : List TableMod → List Rule → List Rule
+after [] rules = rules
+after (m ∷ ms) rules = after ms (effect m rules)
+
 -- what a change of a table with room for so many rules answers, where memory suffices
 abbrev pub answer_of : TableMod → List Rule → ℕ → Applied
 answer_of (Add r) rules capacity = if has_at r.of r.priority rules then Replaced else (if nat_lt (length rules) capacity then Added else Full)

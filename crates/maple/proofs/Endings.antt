@@ -1,6 +1,7 @@
 -- How the ends of parts of a run join.
-use Rattle.std.proofs.Common.{ℕ, List, ◌++◌, refl, sym, ap, ◌∙◌, append_assoc}
+use Rattle.std.proofs.Common.{ℕ, List, [], ◌++◌, refl, sym, ap, ◌∙◌, append_assoc}
 use Rattle.maple_io.specs.Views.{SinkView, WriteFailed, Wrote}
+use Rattle.std.proofs.lemmas.List.{append-nil}
 use Rattle.std.proofs.KnownBytes.{Appends-trans}
 use Rattle.maple.specs.declared.status.Status.{Status}
 use Rattle.maple.specs.declared.status.Status.TheVariants.{Done, Usage, Policy, Script, ReadFault, WriteFault, NoMemory, TooLong}
@@ -34,3 +35,18 @@ ends_behind old mid new first text due ReadFault f a e = (e.0, Appends-trans old
 ends_behind old mid new first text due WriteFault f a e = (f e.0, front_behind old mid new first text a e.1)
 ends_behind old mid new first text due NoMemory f a e = front_behind old mid new first text a e
 ends_behind old mid new first text due TooLong f a e = (e.0, Appends-trans old.taken mid.taken new.taken first text a e.1)
+
+-- a whole text is a front of itself
+wrote_front : (old new : SinkView) (text : List ℕ) → Wrote old new text → WroteFront old new text
+wrote_front old new text a = (text, ([], append-nil text), a)
+
+-- however a part ends, it wrote a front of its text
+pub ends_front : (old new : SinkView) (due : Status) (text : List ℕ) (s : Status) → Ends old new due text s → WroteFront old new text
+ends_front old new due text Done e = wrote_front old new text e.1
+ends_front old new due text Usage e = wrote_front old new text e.1
+ends_front old new due text Policy e = wrote_front old new text e.1
+ends_front old new due text Script e = wrote_front old new text e.1
+ends_front old new due text ReadFault e = wrote_front old new text e.1
+ends_front old new due text WriteFault e = e.1
+ends_front old new due text NoMemory e = e
+ends_front old new due text TooLong e = wrote_front old new text e.1

@@ -2,6 +2,7 @@
 use Rattle.std.proofs.Common.{◌≡◌, ℕ, ◌<◌, List, ◌++◌, length, Option, Some, None, sym, ap, ◌∙◌, arith, length-append}
 use Rattle.std.specs.Prelude.{IfSome}
 use Rattle.std.specs.Io.KnownBytes.{Consumes, Keeps, IsAtEnd}
+use Rattle.std.proofs.KnownBytes.{Consumes-trans}
 use Rattle.std.proofs.lemmas.List.{append-nil}
 
 -- what came off is all there was
@@ -15,6 +16,10 @@ end_kept None mid new bs h e k = tt
 end_kept (Some xs) None new bs h e k = absurd h
 end_kept (Some xs) (Some ys) None bs h e k = absurd k
 end_kept (Some xs) (Some ys) (Some zs) bs h e k = k ∙ e
+
+-- what came off, and what a further read gave
+pub some_more : (old mid new : Option (List ℕ)) (bs cs : List ℕ) → Consumes old mid bs → Consumes mid new cs → (some : List ℕ) × Consumes old new some
+some_more old mid new bs cs h k = (bs ++ cs, Consumes-trans old mid new bs cs h k)
 
 -- what came off is no longer than what there was
 pub consumed_longer : (n : ℕ) (old mid : Option (List ℕ)) (bs : List ℕ) → Consumes old mid bs → n < length bs → IfSome old (λ xs. n < length xs)

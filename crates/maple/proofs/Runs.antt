@@ -1,5 +1,5 @@
 -- A run of a script, a line further.
-use Rattle.std.proofs.Common.{◌≡◌, ℕ, ◌+◌, ◌≤◌, List, [], ◌∷◌, ◌++◌, refl, sym, ap, ◌∙◌, subst, append_assoc, arith}
+use Rattle.std.proofs.Common.{◌≡◌, ℕ, ◌+◌, List, [], ◌∷◌, ◌++◌, refl, sym, ap, ◌∙◌, subst, append_assoc}
 use Rattle.std.specs.Prelude.{Ok, Err}
 use Rattle.std.proofs.KnownBytes.{Appends-trans}
 use Rattle.maple_base.specs.Counts.{HasRisen}
@@ -28,14 +28,14 @@ pub record Stands (old new : SinkView) (policy : Policy) (budget : ℕ) (world :
   pub refused : refused_from number rest ≡ refused_from first lines
   pub told : written ++ told_of policy budget traces number rest ≡ told_of policy budget [] first lines
   pub appended : Wrote old new written
-  pub count : old.failed ≤ new.failed
+  pub spared : new.failed ≡ old.failed
 
 text_more : (ls ms : List Line) → text_of (ls ++ ms) ≡ text_of ls ++ text_of ms
 text_more [] ms = refl
 text_more (l ∷ ls) ms = ap (λ t. spelled l ++ t) (text_more ls ms) ∙ sym (append_assoc (spelled l) (text_of ls) (text_of ms))
 
-risen_later : (a b c : ℕ) → a ≤ b → HasRisen b c → HasRisen a c
-risen_later a b c h r = omega (arith, h, r)
+risen_later : (a b c : ℕ) → b ≡ a → HasRisen b c → HasRisen a c
+risen_later a b c h r = subst (λ n. HasRisen n c) h r
 
 module _ (old mid new : SinkView) (policy : Policy) (budget : ℕ) (world : World) (first : ℕ) (lines : List (List ℕ)) (number : ℕ) (traces : List Trace) (written : List ℕ) where
   abbrev Ended : Status → Type 0
@@ -48,7 +48,7 @@ module _ (old mid new : SinkView) (policy : Policy) (budget : ℕ) (world : Worl
       let whole : written ++ text ≡ told_of policy budget [] first lines = ap (λ x. written ++ x) (sym t) ∙ s.told in
       let same : due ≡ due_of (refused_from first lines) = sym d ∙ ap due_of s.refused in
       subst (λ x. Ends old new x (told_of policy budget [] first lines) result) same
-      (subst (λ x. Ends old new due x result) whole (ends_behind old mid new written text due result (risen_later old.failed mid.failed new.failed s.count) s.appended e))
+      (subst (λ x. Ends old new due x result) whole (ends_behind old mid new written text due result (risen_later old.failed mid.failed new.failed s.spared) s.appended e))
 
   pub ends_after : Stands old mid policy budget world first lines number [] traces written → (result : Status) → Ends mid new Done (last_line Done) result → Ended result
   ends_after s result e = ends_here [] s Done (last_line Done) result refl refl e
@@ -78,7 +78,7 @@ module _ (old mid new : SinkView) (policy : Policy) (budget : ℕ) (world : Worl
           ∙ ap (λ t. t ++ end_of (refused_from (number + 1) others)) (text_more (step_said policy budget traces step) (report policy budget (step_after policy budget traces step) (steps_of others)))
           ∙ append_assoc (text_of (step_said policy budget traces step)) (text_of (report policy budget (step_after policy budget traces step) (steps_of others))) (end_of (refused_from (number + 1) others))
 
-      pub stands_further : (known : World) → Knows policy budget (step_after policy budget traces step) known → Wrote mid new (text_of (step_said policy budget traces step)) → mid.failed ≤ new.failed
+      pub stands_further : (known : World) → Knows policy budget (step_after policy budget traces step) known → Wrote mid new (text_of (step_said policy budget traces step)) → new.failed ≡ mid.failed
           → Stands old new policy budget known first lines (number + 1) others (step_after policy budget traces step) (written ++ text_of (step_said policy budget traces step))
       unfolding piece
       stands_further known h a c =
@@ -87,7 +87,7 @@ module _ (old mid new : SinkView) (policy : Policy) (budget : ℕ) (world : Worl
             refused = sym left_refused ∙ s.refused;
             told = append_assoc written piece further ∙ ap (λ t. written ++ t) (sym told_further) ∙ s.told;
             appended = Appends-trans old.taken mid.taken new.taken written piece s.appended a;
-            count = omega (arith, s.count, c);
+            spared = c ∙ s.spared;
           }
 
       -- the lines of a step can't be written
@@ -107,7 +107,7 @@ module _ (old mid new : SinkView) (policy : Policy) (budget : ℕ) (world : Worl
           within PolicyRefused n e = absurd (n e.0)
           within Script n e = absurd (n e.0)
           within ReadFault n e = absurd (n e.0)
-          within WriteFault n e = (risen_later old.failed mid.failed new.failed s.count e.0, front e.1)
+          within WriteFault n e = (risen_later old.failed mid.failed new.failed s.spared e.0, front e.1)
           within NoMemory n e = front e
           within TooLong n e = absurd (n e.0)
 

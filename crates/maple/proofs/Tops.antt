@@ -16,6 +16,7 @@ use Rattle.maple.specs.Due.{HasCommand, AreWords, most_bytes, IsFit, HasPolicy, 
 use Rattle.maple.specs.Ends.{Ends, IsGiven, WroteFront}
 use Rattle.maple.specs.Running.{due_of}
 use Rattle.maple.specs.Statuses.{last_line}
+use Rattle.maple.proofs.Endings.{ends_front}
 use Rattle.maple.specs.Runs.{IsRunOf, RunsText, refused_words, failed_read, read_too_long, lacked_memory, ran}
 
 given_is : (old new : SinkView) (due : Status) (text : List ℕ) (s : Status) → IsGiven s → Ends old new due text s → (s ≡ due) × Wrote old new text
@@ -29,13 +30,13 @@ given_is old new due text NoMemory h e = absurd h
 given_is old new due text TooLong h e = e
 
 -- what a run of a text that ended with its own status is due and wrote
-abbrev RanAs : List (List ℕ) → Command → SinkView → SinkView → List ℕ → Status → Type 0
+abbrev pub RanAs : List (List ℕ) → Command → SinkView → SinkView → List ℕ → Status → Type 0
 RanAs words command old new input PolicyRefused = HasNone command input × Refuses words old new input
 RanAs words command old new input Script = ((policy : Policy) × HasPolicy command policy input) × Reports words old new input × IsNoScript command input
 RanAs words command old new input Done = ((policy : Policy) × HasPolicy command policy input) × Reports words old new input × IsScript command input
 RanAs words command old new input s = ⊥
 
-ran_as : (words : List (List ℕ)) (command : Command) → HasCommand command words → (old new : SinkView) (input : List ℕ) (s : Status) → IsGiven s → RunsText old new command input s → RanAs words command old new input s
+pub ran_as : (words : List (List ℕ)) (command : Command) → HasCommand command words → (old new : SinkView) (input : List ℕ) (s : Status) → IsGiven s → RunsText old new command input s → RanAs words command old new input s
 ran_as words command w old new input s h (inl (policy, has, e)) =
     let g = given_is old new (due_of (refused command input)) (report_text policy command input) s h e in ran_by (refused command input) refl g.0 g.1
   where
@@ -60,6 +61,13 @@ told (Some xs) P bytes e h = let same : xs ≡ bytes = cc in subst P same h
 module _ (before after : SourceView) (old new : SinkView) (words : List (List ℕ)) where
   abbrev Run : Status → Type 0
   Run s = IsRunOf before after old new words s
+
+  pub usage_front : (s : Status) → Run s → ¬ (AreWords words) → WroteFront old new (last_line Usage)
+  usage_front s (refused_words n e) no_words = ends_front old new Usage (last_line Usage) s e
+  usage_front s (failed_read w h e) no_words = absurd (no_words w)
+  usage_front s (read_too_long w h e) no_words = absurd (no_words w)
+  usage_front s (lacked_memory w e a) no_words = absurd (no_words w)
+  usage_front s (ran command w input fit same end text) no_words = absurd (no_words (command, w))
 
   -- the whole input was run by the words' command
   abbrev RanWhole : List ℕ → Status → Type 0

@@ -1,12 +1,13 @@
 -- Which status a run of the program is due, and what it writes.
 use Rattle.std.specs.Prelude.{◌≡◌, ◌⊎◌, ℕ, ◌<◌, ◌≤◌, true, List, [], length, Option, Some, None, IfSome}
-use Rattle.maple_io.specs.Views.{SourceView, SinkView, ReadFailed, Wrote}
+use Rattle.maple_io.specs.Views.{SourceView, SinkView, ReadFailed, NoReadFailed, Gave, Wrote}
 use Rattle.policy_lang.specs.declared.Policy.{Policy}
 use Rattle.policy_text.specs.Basic.{is_basic}
 use Rattle.maple.specs.declared.status.Status.{Status}
 use Rattle.maple.specs.declared.status.Status.TheVariants.{Done, Usage, Policy as PolicyRefused, Script, ReadFault, WriteFault, NoMemory, TooLong}
 use Rattle.maple.specs.declared.words.Command.{Command}
 use Rattle.maple.specs.declared.words.Command.TheVariants.{Sim, Check}
+use Rattle.maple.specs.Ends.{WroteFront}
 use Rattle.maple.specs.Fronts.{IsFront}
 use Rattle.maple.specs.Lines.{policy_part, script_lines, first_number}
 use Rattle.policy_text.specs.Texts.{IsTextOf}
@@ -31,6 +32,14 @@ AreWords words = (command : Command) × HasCommand command words
 -- the most bytes that an input may have
 abbrev pub most_bytes : ℕ
 most_bytes = 67108864
+
+-- some bytes were read, none of them lost and none twice
+abbrev pub ReadSome : SourceView → SourceView → Type 0
+ReadSome before after = (bytes : List ℕ) × Gave before after bytes
+
+-- more bytes were read than an input may have
+abbrev pub ReadOver : SourceView → SourceView → Type 0
+ReadOver before after = (bytes : List ℕ) × (most_bytes < length bytes) × Gave before after bytes
 
 -- the input has no more
 abbrev pub IsFit : List ℕ → Type 0
@@ -120,6 +129,10 @@ Refuses words old new input = (text : List ℕ) × IsRefusalText words input tex
 -- a front of what some run on this input writes was written
 abbrev pub WritesSome : Type 0 → List (List ℕ) → List ℕ → SinkView → SinkView → Type 0
 WritesSome unread words input old new = (front : List ℕ) × IsFrontOfText unread words input front × Wrote old new front
+
+-- where a failed read was counted, a front of the line that tells it was written, and nothing else
+abbrev pub StopsAtRead : SourceView → SourceView → SinkView → SinkView → Type 0
+StopsAtRead before after old new = ¬ (NoReadFailed before after) → WroteFront old new (last_line ReadFault)
 
 -- of the input that the source told ahead of the run: the report of its policy was written
 abbrev pub WritesReport : List (List ℕ) → SourceView → SinkView → SinkView → Type 0

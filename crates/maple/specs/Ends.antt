@@ -2,7 +2,7 @@
 use Rattle.std.specs.Prelude.{◌≡◌, ℕ, List}
 use Rattle.maple_io.specs.Views.{SinkView, WriteFailed, Wrote}
 use Rattle.maple.specs.declared.status.Status.{Status}
-use Rattle.maple.specs.declared.status.Status.TheVariants.{WriteFault, NoMemory}
+use Rattle.maple.specs.declared.status.Status.TheVariants.{Done, Policy, Script, ReadFault, WriteFault, NoMemory}
 use Rattle.maple.specs.Fronts.{IsFront}
 
 -- a front of this text was written
@@ -20,3 +20,17 @@ abbrev pub IsGiven : Status → Type 0
 IsGiven WriteFault = ⊥
 IsGiven NoMemory = ⊥
 IsGiven status = Unit {0}
+
+-- a status of a run that met no fault of a device and had memory enough
+abbrev pub IsUnhindered : Status → Type 0
+IsUnhindered ReadFault = ⊥
+IsUnhindered WriteFault = ⊥
+IsUnhindered NoMemory = ⊥
+IsUnhindered status = Unit {0}
+
+-- a status that speaks of the whole input
+abbrev pub IsOfWhole : Status → Type 0
+IsOfWhole Done = Unit {0}
+IsOfWhole Policy = Unit {0}
+IsOfWhole Script = Unit {0}
+IsOfWhole status = ⊥

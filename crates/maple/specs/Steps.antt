@@ -3,7 +3,7 @@ use Rattle.std.specs.Prelude.{◌≡◌, ℕ, ◌+◌, ◌==◌, nat_lt, if◌th
 use Rattle.script_text.specs.declared.command.Command.{Command}
 use Rattle.script_text.specs.declared.command.Command.TheVariants.{Nothing, Packet, Frame}
 use Rattle.script_text.specs.Frames.{frame}
-use Rattle.script_text.specs.Grammar.{line_command}
+use Rattle.script_text.specs.Reading.{line_command}
 use Rattle.report_text.specs.declared.line.ScriptRefusal.{ScriptRefusal}
 use Rattle.report_text.specs.declared.line.ScriptRefusal.TheVariants.{Grammar, TooLong, Switch, Later}
 use Rattle.maple.specs.declared.step.Step.{Step}

@@ -1,5 +1,6 @@
 // The last line of a run.
-ghost use Rattle.std.specs.Prelude.{◌≡◌, ◌≤◌};
+ghost use Rattle.std.specs.Prelude.{◌≡◌, ◌≢◌, ◌≤◌};
+ghost use Rattle.maple_io.specs.Views.{NoWriteFailed};
 ghost use Rattle.maple.specs.Ends.{Ends, IsGiven};
 ghost use Rattle.maple.specs.Statuses.{last_line};
 
@@ -11,7 +12,8 @@ use maple_io::Sink;
 /// `NoMemory` where the line can't be written.
 pub fn finish<O: Sink>(output: &mut O, status: Status) -> Status
     requires { IsGiven status }
-    ensures { Ends (O.tells output.old) (O.tells output.new) status (last_line status) result }
+    ensures ends { Ends (O.tells output.old) (O.tells output.new) status (last_line status) result }
+    ensures spared { result ≢ Status.WriteFault → NoWriteFailed (O.tells output.old) (O.tells output.new) }
 {
     put_text(output, last_line(status), status)
 }
@@ -21,6 +23,7 @@ pub fn put_text<O: Sink>(output: &mut O, text: &[u8], status: Status) -> Status
     requires { IsGiven status }
     ensures ends { Ends (O.tells output.old) (O.tells output.new) status text.now result }
     ensures count { (O.tells output.old).failed ≤ (O.tells output.new).failed }
+    ensures spared { result ≢ Status.WriteFault → NoWriteFailed (O.tells output.old) (O.tells output.new) }
 {
     match put_all(output, text) {
         Ok(()) => status,

@@ -1,8 +1,8 @@
 // How an input is read to its end.
-ghost use Rattle.std.specs.Prelude.{◌≡◌, ◌<◌, ◌≤◌, length, IfOk, OnOk, IfSome};
+ghost use Rattle.std.specs.Prelude.{◌≡◌, ◌≢◌, ◌<◌, ◌≤◌, length, IfOk, OnOk, IfSome};
 ghost use Rattle.std.specs.Io.KnownBytes.{IsAtEnd};
-ghost use Rattle.maple_io.specs.Views.{ReadFailed};
-ghost use Rattle.maple.specs.Due.{IsFit, most_bytes};
+ghost use Rattle.maple_io.specs.Views.{NoReadFailed, ReadFailed};
+ghost use Rattle.maple.specs.Due.{IsFit, ReadOver, ReadSome, most_bytes};
 
 use maple_io::{Got, Source};
 use std::alloc::Global;
@@ -28,6 +28,12 @@ pub fn read_all<I: Source>(alloc: Global, input: &mut I) -> Result<Vec<u8>, Read
     ensures fit { IfOk result (λ all. IsFit all.items) }
     ensures long { result ≡ Err ReadStop.TooLong → IfSome (I.tells input.old).left (λ bytes. most_bytes < length bytes) }
     ensures cause { result ≡ Err ReadStop.Failed → ReadFailed (I.tells input.old) (I.tells input.new) }
+
+    // What was read, and what of it failed.
+    ensures over { result ≡ Err ReadStop.TooLong → ReadOver (I.tells input.old) (I.tells input.new) }
+    ensures some { ReadSome (I.tells input.old) (I.tells input.new) }
+    ensures count { (I.tells input.old).failed ≤ (I.tells input.new).failed }
+    ensures spared { result ≢ Err ReadStop.Failed → NoReadFailed (I.tells input.old) (I.tells input.new) }
 {
     let mut all = Vec::new(alloc);
     let mut piece = [0u8; 4096];

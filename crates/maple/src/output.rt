@@ -1,6 +1,6 @@
 // How bytes are written.
-ghost use Rattle.std.specs.Prelude.{◌≡◌, ℕ, ◌≤◌, List, OnOk, OnErr};
-ghost use Rattle.maple_io.specs.Views.{WriteFailed, Wrote};
+ghost use Rattle.std.specs.Prelude.{◌≡◌, ◌≢◌, ℕ, ◌≤◌, List, OnOk, OnErr};
+ghost use Rattle.maple_io.specs.Views.{NoWriteFailed, WriteFailed, Wrote};
 ghost use Rattle.maple.specs.Fronts.{IsFront};
 
 use maple_io::{Put, Sink};
@@ -20,6 +20,7 @@ pub fn put_all<O: Sink>(output: &mut O, bytes: &[u8]) -> Result<(), PutStop>
     ensures front { OnErr result ((front : List ℕ) × IsFront front bytes.now × Wrote (O.tells output.old) (O.tells output.new) front) }
     ensures cause { result ≡ Err PutStop.Failed → WriteFailed (O.tells output.old) (O.tells output.new) }
     ensures count { (O.tells output.old).failed ≤ (O.tells output.new).failed }
+    ensures spared { result ≢ Err PutStop.Failed → NoWriteFailed (O.tells output.old) (O.tells output.new) }
 {
     let mut at = 0;
     while at < bytes.len() {

@@ -1,5 +1,6 @@
 // What is written of a policy alone.
-ghost use Rattle.std.specs.Prelude.{◌≡◌};
+ghost use Rattle.std.specs.Prelude.{◌≡◌, ◌≢◌};
+ghost use Rattle.maple_io.specs.Views.{NoWriteFailed};
 ghost use Rattle.policy_print.specs.Printed.{policy_text};
 ghost use Rattle.report_text.specs.Report.{spelled};
 ghost use Rattle.report_text.specs.declared.line.Line.{Line as LineOf};
@@ -15,7 +16,8 @@ use std::alloc::Global;
 
 /// Writes the printed form of a policy.
 pub fn put_policy<O: Sink>(alloc: Global, policy: &Policy, output: &mut O) -> Status
-    ensures { Ends (O.tells output.old) (O.tells output.new) Status.Done (policy_text policy.now) result }
+    ensures ends { Ends (O.tells output.old) (O.tells output.new) Status.Done (policy_text policy.now) result }
+    ensures spared { result ≢ Status.WriteFault → NoWriteFailed (O.tells output.old) (O.tells output.new) }
 {
     let mut text = Vec::new(alloc);
     let Ok(()) = print_policy(policy, &mut text) else {
@@ -32,7 +34,8 @@ pub fn refuse_policy<O: Sink>(
     column: u32,
     kind: PolicyRefusal,
 ) -> Status
-    ensures { Ends (O.tells output.old) (O.tells output.new) Status.Policy (spelled (LineOf.RefusedPolicy line column kind)) result }
+    ensures ends { Ends (O.tells output.old) (O.tells output.new) Status.Policy (spelled (LineOf.RefusedPolicy line column kind)) result }
+    ensures spared { result ≢ Status.WriteFault → NoWriteFailed (O.tells output.old) (O.tells output.new) }
 {
     let mut text = Vec::new(alloc);
     let refusal = Line::RefusedPolicy { line, column, kind };

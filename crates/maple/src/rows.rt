@@ -701,7 +701,11 @@ pub struct Fault {
     pub status: u8,
 }
 
-pub const FAULTS: &[Fault] = &[
+pub fn faults() -> &'static [Fault] {
+    FAULTS
+}
+
+const FAULTS: &[Fault] = &[
     Fault {
         words: &["sim"],
         input: HIT,

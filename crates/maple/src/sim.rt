@@ -1,5 +1,6 @@
 // A run of a policy and a script.
-ghost use Rattle.std.specs.Prelude.{◌≡◌, true, ◌+◌, ◌<◌, ◌^◌, [], map, length};
+ghost use Rattle.std.specs.Prelude.{◌≡◌, ◌≢◌, true, ◌+◌, ◌<◌, ◌^◌, [], map, length};
+ghost use Rattle.maple_io.specs.Views.{NoWriteFailed};
 ghost use Rattle.policy_lang.specs.Plain.{is_plain};
 ghost use Rattle.policy_eval.specs.Answers.{IsBudget};
 ghost use Rattle.maple.specs.Ends.{Ends};
@@ -32,7 +33,8 @@ pub fn run_script<O: Sink>(
     requires plain { is_plain policy.now ≡ true }
     requires budget { IsBudget budget }
     requires numbers { first + length script.now < 2 ^ 32 }
-    ensures { RunsScript policy.now budget first (lines_of script.now) (O.tells output.old) (O.tells output.new) result }
+    ensures runs { RunsScript policy.now budget first (lines_of script.now) (O.tells output.old) (O.tells output.new) result }
+    ensures spared { result ≢ Status.WriteFault → NoWriteFailed (O.tells output.old) (O.tells output.new) }
 {
     let mut rest = script;
     let mut number = first;
@@ -60,7 +62,8 @@ pub fn run_script<O: Sink>(
 
 // Writes the last line of a script whose line of this number is refused.
 fn refuse<O: Sink>(alloc: Global, output: &mut O, line: u32, kind: ScriptRefusal) -> Status
-    ensures { Ends (O.tells output.old) (O.tells output.new) Status.Script (spelled (LineOf.RefusedScript line kind)) result }
+    ensures ends { Ends (O.tells output.old) (O.tells output.new) Status.Script (spelled (LineOf.RefusedScript line kind)) result }
+    ensures spared { result ≢ Status.WriteFault → NoWriteFailed (O.tells output.old) (O.tells output.new) }
 {
     let mut text = Vec::new(alloc);
     let Ok(()) = write_line(&Line::RefusedScript { line, kind }, &mut text) else {

@@ -2,7 +2,7 @@
 ghost use Rattle.std.specs.Prelude.{None};
 
 use crate::example_rows;
-use crate::rows::{self, DONE, FAULTS, Fault, POLICY, Row, SCRIPT, TOO_LONG, USAGE};
+use crate::rows::{self, DONE, Fault, POLICY, Row, SCRIPT, TOO_LONG, USAGE};
 use crate::top::maple;
 use maple_base::{Bytes, Words};
 use maple_io::{Got, MemSink, MemSource, Source};
@@ -12,41 +12,55 @@ use std::test::Fail;
 
 #[test]
 fn runs(rt: HostRuntime) -> Result<(), Fail> {
-    let groups = [
-        rows::command_lines(),
-        rows::script_lines(),
-        rows::policies(),
-        rows::operators(),
-        rows::expressions(),
-        rows::limits(),
-        rows::whole_runs(),
-        example_rows::examples(),
-    ];
-    for group in groups {
-        for row in group {
-            check(&rt, rt.alloc(), row)?;
-        }
+    let alloc = rt.alloc();
+    check_all(&rt, alloc, rows::command_lines())?;
+    check_all(&rt, alloc, rows::script_lines())?;
+    check_all(&rt, alloc, rows::policies())?;
+    check_all(&rt, alloc, rows::operators())?;
+    check_all(&rt, alloc, rows::expressions())?;
+    check_all(&rt, alloc, rows::limits())?;
+    check_all(&rt, alloc, rows::whole_runs())?;
+    check_all(&rt, alloc, example_rows::examples())?;
+    Ok(())
+}
+
+fn check_all(rt: &impl Abort, alloc: Global, group: &[Row]) -> Result<(), AllocError> {
+    for row in group {
+        check(rt, alloc, row)?;
     }
     Ok(())
 }
 
 #[test]
 fn runs_with_failing_devices(rt: HostRuntime) -> Result<(), Fail> {
-    let alloc = rt.alloc();
-    for fault in FAULTS {
-        let content = Vec::from_slice(alloc, fault.input.as_bytes())?;
-        let mut source = MemSource::new(content, Vec::from_slice(alloc, fault.reads)?);
-        let (got, sink) = run_on(alloc, fault.words, &mut source, fault.writes)?;
-        let Fault { reads, writes, .. } = fault;
-        assert_eq!(rt; got, fault.status, "{reads:?} {writes:?}: {}", fault.input);
-        assert_eq!(rt;
-            sink.bytes(),
-            fault.output.as_bytes(),
-            "{reads:?} {writes:?}: {}",
-            fault.input
-        );
+    for fault in rows::faults() {
+        check_fault(&rt, rt.alloc(), fault)?;
     }
     Ok(())
+}
+
+fn check_fault(rt: &impl Abort, alloc: Global, fault: &Fault) -> Result<(), AllocError> {
+    let Fault { reads, writes, .. } = fault;
+    let (got, sink) = run_with_faults(alloc, fault)?;
+    assert_eq!(rt; got, fault.status, "{reads:?} {writes:?}: {}", fault.input);
+    assert_eq!(rt;
+        sink.bytes(),
+        fault.output.as_bytes(),
+        "{reads:?} {writes:?}: {}",
+        fault.input
+    );
+    Ok(())
+}
+
+fn run_with_faults(alloc: Global, fault: &Fault) -> Result<(u8, MemSink), AllocError> {
+    let mut source = source_of(alloc, fault.input, fault.reads)?;
+    run_on(alloc, fault.words, &mut source, fault.writes)
+}
+
+// A source of a text, where the reads of these numbers fail.
+fn source_of(alloc: Global, text: &str, reads: &[u64]) -> Result<MemSource, AllocError> {
+    let content = Vec::from_slice(alloc, text.as_bytes())?;
+    Ok(MemSource::new(content, Vec::from_slice(alloc, reads)?))
 }
 
 // Runs these words on a source, where the writes of these numbers fail.
@@ -56,41 +70,27 @@ fn run_on<I: Source>(
     source: &mut I,
     writes: &[u64],
 ) -> Result<(u8, MemSink), AllocError> {
+    let words = words_of(alloc, texts)?;
+    let mut sink = MemSink::new(Vec::from_slice(alloc, writes)?);
+    let status = maple(&(), alloc, &words, source, &mut sink);
+    Ok((status.number(), sink))
+}
+
+fn words_of(alloc: Global, texts: &[&str]) -> Result<Words, AllocError> {
     let mut words = Vec::new(alloc);
     for text in texts {
         words.push(Bytes::new(Vec::from_slice(alloc, text.as_bytes())?))?;
     }
-    let mut sink = MemSink::new(Vec::from_slice(alloc, writes)?);
-    let status = maple(&(), alloc, &Words::new(words), source, &mut sink);
-    Ok((status.number(), sink))
+    Ok(Words::new(words))
 }
 
 fn check(rt: &impl Abort, alloc: Global, row: &Row) -> Result<(), AllocError> {
     match *row {
         Row::Run(words, input, output, status) => run(rt, alloc, words, input, output, status),
-        Row::Usage(words) => {
-            run(
-                rt,
-                alloc,
-                words,
-                "policy { drop; }",
-                "refused usage\n",
-                USAGE,
-            )
-        }
+        Row::Usage(words) => check_usage(rt, alloc, words),
         Row::Decision(policy, decision) => check_decision(rt, alloc, policy, decision),
         Row::Refused(policy, why) => check_refused(rt, alloc, policy, why),
-        Row::Later(policy, form) => {
-            run(
-                rt,
-                alloc,
-                &["sim"],
-                policy,
-                "refused policy 1:1 Later\n",
-                POLICY,
-            )?;
-            check_form(rt, alloc, policy, form)
-        }
+        Row::Later(policy, form) => check_later(rt, alloc, policy, form),
         Row::Form(policy, form) => check_form(rt, alloc, policy, form),
         Row::Condition(expr, form) => check_condition(rt, alloc, expr, form),
         Row::Value(expr, form) => check_value(rt, alloc, expr, form),
@@ -116,11 +116,38 @@ fn run(
     output: &str,
     status: u8,
 ) -> Result<(), AllocError> {
-    let mut source = MemSource::new(Vec::from_slice(alloc, input.as_bytes())?, Vec::new(alloc));
-    let (got, sink) = run_on(alloc, words, &mut source, &[])?;
+    let (got, sink) = run_over(alloc, words, input)?;
     assert_eq!(rt; got, status, "{words:?}: {input}");
     assert_eq!(rt; sink.bytes(), output.as_bytes(), "{words:?}: {input}");
     Ok(())
+}
+
+fn run_over(alloc: Global, words: &[&str], input: &str) -> Result<(u8, MemSink), AllocError> {
+    let mut source = source_of(alloc, input, &[])?;
+    run_on(alloc, words, &mut source, &[])
+}
+
+fn check_usage(rt: &impl Abort, alloc: Global, words: &[&str]) -> Result<(), AllocError> {
+    run(
+        rt,
+        alloc,
+        words,
+        "policy { drop; }",
+        "refused usage\n",
+        USAGE,
+    )
+}
+
+fn check_later(rt: &impl Abort, alloc: Global, policy: &str, form: &str) -> Result<(), AllocError> {
+    run(
+        rt,
+        alloc,
+        &["sim"],
+        policy,
+        "refused policy 1:1 Later\n",
+        POLICY,
+    )?;
+    check_form(rt, alloc, policy, form)
 }
 
 fn check_decision(

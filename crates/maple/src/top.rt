@@ -1,13 +1,13 @@
 // The top call.
-ghost use Rattle.std.specs.Prelude.{◌≡◌, ◌+◌, ◌^◌, ◌<◌, ◌≤◌, IfSome, length, map};
+ghost use Rattle.std.specs.Prelude.{◌≡◌, ◌≢◌, ◌+◌, ◌^◌, ◌<◌, ◌≤◌, IfSome, length, map};
 ghost use Rattle.std.specs.Io.KnownBytes.{IsAtEnd};
-ghost use Rattle.maple_io.specs.Views.{ReadFailed, WriteFailed, Wrote};
+ghost use Rattle.maple_io.specs.Views.{NoReadFailed, NoWriteFailed, ReadFailed, WriteFailed, Wrote};
 ghost use Rattle.policy_eval.specs.Answers.{IsBudget};
 ghost use Rattle.maple.specs.declared.status.Status.{Status as StatusOf};
-ghost use Rattle.maple.specs.Ends.{WroteFront};
+ghost use Rattle.maple.specs.Ends.{IsOfWhole, IsUnhindered, WroteFront};
 ghost use Rattle.maple.specs.Lines.{lines_of};
 ghost use Rattle.maple.specs.Runs.{IsRunOf, RunsText, Sims};
-ghost use Rattle.maple.specs.Due.{AreWords, BeginsReport, IsDue, IsFit, IsOrFails, IsOrUnwritten, WritesRefusal, WritesReport};
+ghost use Rattle.maple.specs.Due.{AreWords, BeginsReport, IsDue, IsFit, IsOrFails, IsOrUnwritten, ReadOver, ReadSome, StopsAtRead, WritesRefusal, WritesReport};
 ghost use Rattle.maple.specs.Statuses.{last_line};
 ghost use Rattle.maple.specs.Words.{IsCommand};
 
@@ -44,11 +44,13 @@ pub fn maple<R, I: Source, O: Sink>(
     ensures usage_exact { ¬ (AreWords words.now) → IsOrUnwritten Status.Usage result }
     ensures usage_front { ¬ (AreWords words.now) → WroteFront (O.tells output.old) (O.tells output.new) (last_line Status.Usage) }
     ensures usage_text { result ≡ Status.Usage → Wrote (O.tells output.old) (O.tells output.new) (last_line Status.Usage) }
+    ensures unread { ¬ (AreWords words.now) → I.tells input.new ≡ I.tells input.old }
 
     // A read that fails, and an input that is too long.
     ensures read_fault { result ≡ Status.ReadFault → ReadFailed (I.tells input.old) (I.tells input.new) }
     ensures read_text { result ≡ Status.ReadFault → Wrote (O.tells output.old) (O.tells output.new) (last_line Status.ReadFault) }
     ensures too_long { result ≡ Status.TooLong → IfSome (I.tells input.old).left (λ bytes. IsDue Status.TooLong words.now bytes) }
+    ensures too_long_read { result ≡ Status.TooLong → ReadOver (I.tells input.old) (I.tells input.new) }
     ensures too_long_text { result ≡ Status.TooLong → Wrote (O.tells output.old) (O.tells output.new) (last_line Status.TooLong) }
 
     // The policy, and then the script.
@@ -58,7 +60,16 @@ pub fn maple<R, I: Source, O: Sink>(
     ensures script_text { result ≡ Status.Script → WritesReport words.now (I.tells input.old) (O.tells output.old) (O.tells output.new) }
     ensures done { result ≡ Status.Done → IfSome (I.tells input.old).left (λ bytes. IsDue Status.Done words.now bytes) }
     ensures done_text { result ≡ Status.Done → WritesReport words.now (I.tells input.old) (O.tells output.old) (O.tells output.new) }
-    ensures read_whole { result ≡ Status.Done → IfSome (I.tells input.old).left (λ bytes. IsAtEnd (I.tells input.new).left) }
+
+    // What was read, and the first cause: after a read that fails nothing but its line is written.
+    ensures read_whole { IsOfWhole result → IfSome (I.tells input.old).left (λ bytes. IsAtEnd (I.tells input.new).left) }
+    ensures read_some { ReadSome (I.tells input.old) (I.tells input.new) }
+    ensures read_first { StopsAtRead (I.tells input.old) (I.tells input.new) (O.tells output.old) (O.tells output.new) }
+
+    // The counts of faults.
+    ensures reads_spared { IsUnhindered result → NoReadFailed (I.tells input.old) (I.tells input.new) }
+    ensures reads_count { (I.tells input.old).failed ≤ (I.tells input.new).failed }
+    ensures writes_spared { result ≢ Status.WriteFault → NoWriteFailed (O.tells output.old) (O.tells output.new) }
 
     // Each of these comes exactly where it is due, but for a fault or want of memory.
     ensures exact { IfSome (I.tells input.old).left (λ bytes. (status : StatusOf) → IsDue status words.now bytes → IsOrFails status result) }
@@ -77,7 +88,15 @@ fn run_words<I: Source, O: Sink>(
     input: &mut I,
     output: &mut O,
 ) -> Status
-    ensures { IsRunOf (I.tells input.old) (I.tells input.new) (O.tells output.old) (O.tells output.new) words.now result }
+    ensures run { IsRunOf (I.tells input.old) (I.tells input.new) (O.tells output.old) (O.tells output.new) words.now result }
+    ensures unread { ¬ (AreWords words.now) → I.tells input.new ≡ I.tells input.old }
+    ensures whole { IsOfWhole result → IfSome (I.tells input.old).left (λ _. IsAtEnd (I.tells input.new).left) }
+    ensures over { result ≡ Status.TooLong → ReadOver (I.tells input.old) (I.tells input.new) }
+    ensures some { ReadSome (I.tells input.old) (I.tells input.new) }
+    ensures first { StopsAtRead (I.tells input.old) (I.tells input.new) (O.tells output.old) (O.tells output.new) }
+    ensures reads { IsUnhindered result → NoReadFailed (I.tells input.old) (I.tells input.new) }
+    ensures count { (I.tells input.old).failed ≤ (I.tells input.new).failed }
+    ensures spared { result ≢ Status.WriteFault → NoWriteFailed (O.tells output.old) (O.tells output.new) }
 {
     let Some(command) = command_of(words) else {
         return finish(output, Status::Usage);
@@ -94,7 +113,8 @@ fn run_words<I: Source, O: Sink>(
 fn run_text<O: Sink>(alloc: Global, command: Command, text: &[u8], output: &mut O) -> Status
     requires budget { IsCommand command }
     requires fit { IsFit text.now }
-    ensures { RunsText (O.tells output.old) (O.tells output.new) command text.now result }
+    ensures run { RunsText (O.tells output.old) (O.tells output.new) command text.now result }
+    ensures spared { result ≢ Status.WriteFault → NoWriteFailed (O.tells output.old) (O.tells output.new) }
 {
     let (text, script) = split_input(text);
     match read_policy(alloc, text) {
@@ -125,7 +145,8 @@ fn sim<O: Sink>(
 ) -> Status
     requires budget { IsBudget budget }
     requires numbers { first + length script.now < 2 ^ 32 }
-    ensures { Sims (O.tells output.old) (O.tells output.new) policy.now budget first (lines_of script.now) result }
+    ensures sims { Sims (O.tells output.old) (O.tells output.new) policy.now budget first (lines_of script.now) result }
+    ensures spared { result ≢ Status.WriteFault → NoWriteFailed (O.tells output.old) (O.tells output.new) }
 {
     if is_basic(policy) {
         run_script(alloc, policy, budget, first, script, output)

@@ -36,6 +36,7 @@ impl<R: Read> Source for ReadSource<R> {
             result into.new }
         ensures cause { result ≡ Got.Failed → HasRisen (read_faults self.old) (read_faults self.new) }
         ensures count { read_faults self.old ≤ read_faults self.new }
+        ensures spared { result ≢ Got.Failed → read_faults self.new ≡ read_faults self.old }
 
         // Only a failure is counted, and it counts as one.
         ensures faults { read_faults self.new ≡ failed_reads (read_faults self.old) result }
@@ -83,7 +84,7 @@ impl<W: Write> Sink for WriteSink<W> {
             result piece.now }
         ensures cause { result ≡ Put.Failed → HasRisen (write_faults self.old) (write_faults self.new) }
         ensures count { write_faults self.old ≤ write_faults self.new }
-        ensures spared { result ≡ Put.NoMemory → write_faults self.new ≡ write_faults self.old }
+        ensures spared { result ≢ Put.Failed → write_faults self.new ≡ write_faults self.old }
 
         // Only a failure is counted, and it counts as one. A writer that lacks memory failed too.
         ensures faults { write_faults self.new ≡ failed_writes (write_faults self.old) result }

@@ -1,5 +1,5 @@
 // A source and a sink over memory, whose failures are chosen ahead.
-ghost use Rattle.std.specs.Prelude.{◌≡◌, ◌<◌, ◌≤◌, ◌↔◌, [], IsTrue, Some, length, min, take, drop, ◌++◌, ◌+◌, ◌-◌};
+ghost use Rattle.std.specs.Prelude.{◌≡◌, ◌≢◌, ◌<◌, ◌≤◌, ◌↔◌, [], IsTrue, Some, length, min, take, drop, ◌++◌, ◌+◌, ◌-◌};
 ghost use Rattle.std.specs.List.{Contains};
 ghost use Rattle.maple_base.specs.Counts.{HasRisen, next_count};
 ghost use Rattle.maple_io.specs.Reads.{FillsUp, GivesWithin, ReadsBytes, failed_reads};
@@ -58,6 +58,7 @@ impl Source for MemSource {
         ensures bytes { ReadsBytes (Some self.old.left) (Some self.new.left) result into.new }
         ensures cause { result ≡ Got.Failed → HasRisen self.old.failed self.new.failed }
         ensures count { self.old.failed ≤ self.new.failed }
+        ensures spared { result ≢ Got.Failed → self.new.failed ≡ self.old.failed }
 
         // The read fails where its number is listed, and else gives all that fits.
         ensures listed { (result ≡ Got.Failed) ↔ Contains self.old.fails self.new.calls }
@@ -138,7 +139,7 @@ impl Sink for MemSink {
         ensures bytes { WritesBytes (Some self.old.taken) (Some self.new.taken) result piece.now }
         ensures cause { result ≡ Put.Failed → HasRisen self.old.failed self.new.failed }
         ensures count { self.old.failed ≤ self.new.failed }
-        ensures spared { result ≡ Put.NoMemory → self.new.failed ≡ self.old.failed }
+        ensures spared { result ≢ Put.Failed → self.new.failed ≡ self.old.failed }
 
         // The write fails where its number is listed, and else takes all, or memory runs out.
         ensures listed { (result ≡ Put.Failed) ↔ Contains self.old.fails self.new.calls }

@@ -1,6 +1,6 @@
 // What takes bytes.
-ghost use Rattle.std.specs.Prelude.{◌≡◌, ◌<◌, ◌≤◌, length};
-ghost use Rattle.maple_io.specs.Views.{SinkView, WriteFailed};
+ghost use Rattle.std.specs.Prelude.{◌≡◌, ◌≢◌, ◌<◌, ◌≤◌, length};
+ghost use Rattle.maple_io.specs.Views.{NoWriteFailed, SinkView, WriteFailed};
 ghost use Rattle.maple_io.specs.Writes.{TakesWithin, WritesBytes};
 
 /// What became of a piece.
@@ -22,14 +22,14 @@ pub trait Sink {
 
     /// Writes a piece that is not empty, once. `Put::Took(n)` says that its first n bytes were taken,
     /// with n from 1 to the piece's length; `Put::Failed` that none was and that `faults` rose;
-    /// `Put::NoMemory` that none was and that `faults` stayed.
+    /// `Put::NoMemory` that none was. Where the answer is not `Failed`, `faults` stayed.
     fn write(&mut self, piece: &[u8]) -> Put
         requires { 0 < length piece.now }
         ensures room { TakesWithin result (length piece.now) }
         ensures bytes { WritesBytes (tells self.old).taken (tells self.new).taken result piece.now }
         ensures cause { result ≡ Put.Failed → WriteFailed (tells self.old) (tells self.new) }
         ensures count { (tells self.old).failed ≤ (tells self.new).failed }
-        ensures spared { result ≡ Put.NoMemory → (tells self.new).failed ≡ (tells self.old).failed };
+        ensures spared { result ≢ Put.Failed → NoWriteFailed (tells self.old) (tells self.new) };
 
     /// How many writes failed, up to 2^64 - 1.
     fn faults(&self) -> u64

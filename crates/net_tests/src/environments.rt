@@ -1,40 +1,65 @@
 // Updates of an environment, their refusals at the limits, and what it has afterwards.
 ghost use Rattle.std.specs.Prelude.{◌≤◌, length, IsTrue};
+ghost use Rattle.std.specs.FinSet as set;
+ghost use Rattle.env_cells.specs.Environment.{name_cmp};
+ghost use Rattle.env_cells.specs.Most.{most_tables};
 ghost use Rattle.env_cells.specs.Refusals.{HasRoomForTables};
 
 use crate::scripts::{Subject, follow, number};
 use crate::updates::{name, spelled_answer, spelled_flag, spelled_links, spelled_value, update_of};
 use env_cells::{Env, Update, UpdateError};
-use maple_base::{Cell, Name, Place};
+use maple_base::{Cell, Name, Names, Place};
 use std::alloc::Global;
 use std::test::Fail;
 
 impl Subject for Env {
     fn answer(&mut self, alloc: Global, command: &[&str]) -> Result<String, Fail> {
         match command {
-            ["host?", mac] => {
-                let mac = number(mac)?;
-                Ok(spelled_value(alloc, self.value(Cell::Host(mac)))?)
-            }
-            ["up?", switch, port] => {
-                let (switch, port) = (number(switch)?, number(port)?);
-                Ok(spelled_value(alloc, self.value(Cell::Up { switch, port }))?)
-            }
-            ["number?", table, key] => {
-                let (table, key) = (name(table)?, number(key)?);
-                Ok(spelled_value(alloc, self.value(Cell::Num { table, key }))?)
-            }
-            ["knows?", switch] => Ok(spelled_flag(alloc, self.knows(number(switch)?))?),
-            ["links?"] => Ok(spelled_links(alloc, self.links().items())?),
-            ["many", kind, count] => {
-                Ok(spelled_answer(alloc, make_many(self, kind, number(count)?))?)
-            }
-            _ => {
-                let update = update_of(alloc, command)?;
-                Ok(spelled_answer(alloc, make(self, &update))?)
-            }
+            ["host?", mac] => asked_host(alloc, self, mac),
+            ["up?", switch, port] => asked_port(alloc, self, switch, port),
+            ["number?", table, key] => asked_number(alloc, self, table, key),
+            ["knows?", switch] => asked_switch(alloc, self, switch),
+            ["links?"] => asked_links(alloc, self),
+            ["many", kind, count] => told_many(alloc, self, kind, count),
+            _ => told(alloc, self, command),
         }
     }
+}
+
+fn asked_host(alloc: Global, env: &Env, mac: &str) -> Result<String, Fail> {
+    let mac = number(mac)?;
+    spelled_value(alloc, env.value(Cell::Host(mac)))
+}
+
+fn asked_port(alloc: Global, env: &Env, switch: &str, port: &str) -> Result<String, Fail> {
+    let switch = number(switch)?;
+    let port = number(port)?;
+    spelled_value(alloc, env.value(Cell::Up { switch, port }))
+}
+
+fn asked_number(alloc: Global, env: &Env, table: &str, key: &str) -> Result<String, Fail> {
+    let table = name(table)?;
+    let key = number(key)?;
+    spelled_value(alloc, env.value(Cell::Num { table, key }))
+}
+
+fn asked_switch(alloc: Global, env: &Env, switch: &str) -> Result<String, Fail> {
+    let switch = number(switch)?;
+    spelled_flag(alloc, env.knows(switch))
+}
+
+fn asked_links(alloc: Global, env: &Env) -> Result<String, Fail> {
+    spelled_links(alloc, env.links().items())
+}
+
+fn told_many(alloc: Global, env: &mut Env, kind: &str, count: &str) -> Result<String, Fail> {
+    let count = number(count)?;
+    spelled_answer(alloc, make_many(env, kind, count))
+}
+
+fn told(alloc: Global, env: &mut Env, command: &[&str]) -> Result<String, Fail> {
+    let update = update_of(alloc, command)?;
+    spelled_answer(alloc, make(env, &update))
 }
 
 fn make(env: &mut Env, update: &Update) -> Result<(), UpdateError> {
@@ -71,14 +96,20 @@ fn make_many(env: &mut Env, kind: &str, count: u64) -> Result<(), UpdateError> {
 }
 
 /// Whether an update declares at most 16 tables.
-#[tactic(auto, using(env_cells::specs::FewNames::few_names))]
 pub fn has_room(update: &Update) -> bool
     ensures { IsTrue result → HasRoomForTables update.now }
 {
     match update {
-        Update::Tables(names) => names.items().len() <= 16,
+        Update::Tables(names) => is_few(names),
         _ => true,
     }
+}
+
+#[tactic(auto, using(env_cells::specs::FewNames::few_names))]
+fn is_few(names: &Names) -> bool
+    ensures { IsTrue result → set.len (set.from_list {R = name_cmp} names.now) ≤ most_tables }
+{
+    names.items().len() <= 16
 }
 
 fn check(alloc: Global, scripts: &[&str]) -> Result<(), Fail> {

@@ -14,33 +14,58 @@ impl Subject for Scene {
             ["cell?", from, to] => asked_cell(alloc, self, from, to),
             ["hop?", from, to] => asked_hop(alloc, self, from, to),
             ["way?", from, to] => asked_way(alloc, self, from, to),
-            ["knows?", switch] => Ok(spelled_flag(alloc, self.knows(number(switch)?))?),
-            ["links?"] => Ok(spelled_links(alloc, self.links().items())?),
+            ["knows?", switch] => asked_switch(alloc, self, switch),
+            ["links?"] => spelled_links(alloc, self.links().items()),
             _ => asked_update(alloc, self, command),
         }
     }
 }
 
 fn asked_cell(alloc: Global, scene: &Scene, from: &str, to: &str) -> Result<String, Fail> {
-    let (from, to) = (number(from)?, number(to)?);
-    Ok(spelled_value(alloc, scene.cell(Cell::Hop { from, to }))?)
+    let cell = hop_cell(from, to)?;
+    spelled_value(alloc, scene.cell(cell))
+}
+
+fn hop_cell(from: &str, to: &str) -> Result<Cell, Fail> {
+    let from = number(from)?;
+    let to = number(to)?;
+    Ok(Cell::Hop { from, to })
+}
+
+fn asked_switch(alloc: Global, scene: &Scene, switch: &str) -> Result<String, Fail> {
+    let switch = number(switch)?;
+    spelled_flag(alloc, scene.knows(switch))
 }
 
 fn asked_hop(alloc: Global, scene: &Scene, from: &str, to: &str) -> Result<String, Fail> {
+    let from = number(from)?;
+    let to = number(to)?;
+    spelled_value(alloc, hop_in(alloc, scene, from, to)?)
+}
+
+fn hop_in(alloc: Global, scene: &Scene, from: u64, to: u64) -> Result<Value, Fail> {
     let hops = Hops::build(alloc, scene.links())?;
-    let hop = hops.hop(number(from)?, number(to)?);
-    Ok(spelled_value(alloc, hop.map_or(Value::Nothing, |place| Value::At(place)))?)
+    match hops.hop(from, to) {
+        Some(place) => Ok(Value::At(place)),
+        None => Ok(Value::Nothing),
+    }
 }
 
 fn asked_way(alloc: Global, scene: &Scene, from: &str, to: &str) -> Result<String, Fail> {
-    let hops = Hops::build(alloc, scene.links())?;
-    let path = hops.path(number(from)?, number(to)?)?;
+    let from = number(from)?;
+    let to = number(to)?;
+    let path = way_in(alloc, scene, from, to)?;
     Ok(spelled_way(alloc, &path)?)
+}
+
+fn way_in(alloc: Global, scene: &Scene, from: u64, to: u64) -> Result<Option<Path>, Fail> {
+    let hops = Hops::build(alloc, scene.links())?;
+    Ok(hops.path(from, to)?)
 }
 
 fn asked_update(alloc: Global, scene: &mut Scene, command: &[&str]) -> Result<String, Fail> {
     let update = update_of(alloc, command)?;
-    Ok(spelled_answer(alloc, make(scene, &update))?)
+    spelled_answer(alloc, make(scene, &update))
 }
 
 /// Makes an update of at most 16 tables.
@@ -75,24 +100,29 @@ fn spelled_hops(alloc: Global, hops: &[Place]) -> Result<String, AllocError> {
     Ok(text)
 }
 
+fn scripts() -> &'static [&'static str] {
+    SCRIPTS
+}
+
+const SCRIPTS: &[&str] = &[
+    // three switches, there and back
+    "1 4 each switch #; link 1 1 2 1; link 2 1 1 1; link 2 2 3 1; link 3 1 2 2; way? 1 3 = 1 1, 2 2;
+         way? 3 1 = 3 1, 2 1; hop? 1 3 = 2 1; hop? 1 4 = nothing",
+    // a ring of one way
+    "1 5 each switch #; link 1 1 2 2; link 2 1 3 2; link 3 1 4 2; link 4 1 1 2;
+         way? 1 4 = 1 1, 2 1, 3 1; way? 4 1 = 4 1; way? 3 3 = none",
+    // two ways of two links lead from 1 to 4, and one of three by the least port
+    "1 6 each switch #; link 1 1 5 1; link 1 2 3 1; link 1 3 2 1; link 2 1 4 1; link 3 2 4 2; link 5 2 2 2; hop? 1 4 = 3 2",
+    // two links lead from 1 to 2, one from 1 to itself, and none back
+    "1 4 each switch #; link 1 1 1 9; link 1 5 2 1; link 1 3 2 2; hop? 1 2 = 2 3; hop? 1 1 = nothing; hop? 2 1 = nothing",
+    // a scene keeps up with its links, and a refused one changes nothing
+    "1 4 each switch #; link 1 1 2 2; link 2 1 3 2; link 1 7 3 7; cell? 1 3 = 3 7; link 1 0 3 7 = PortRange;
+         cell? 1 3 = 3 7; nolink 1 7; cell? 1 3 = 2 1; nolink 2 1; cell? 1 3 = nothing",
+];
+
 #[test]
 fn hops_and_ways(rt: HostRuntime) -> Result<(), Fail> {
-    let rows = [
-        // three switches, there and back
-        "1 4 each switch #; link 1 1 2 1; link 2 1 1 1; link 2 2 3 1; link 3 1 2 2; way? 1 3 = 1 1, 2 2;
-         way? 3 1 = 3 1, 2 1; hop? 1 3 = 2 1; hop? 1 4 = nothing",
-        // a ring of one way
-        "1 5 each switch #; link 1 1 2 2; link 2 1 3 2; link 3 1 4 2; link 4 1 1 2;
-         way? 1 4 = 1 1, 2 1, 3 1; way? 4 1 = 4 1; way? 3 3 = none",
-        // two ways of two links lead from 1 to 4, and one of three by the least port
-        "1 6 each switch #; link 1 1 5 1; link 1 2 3 1; link 1 3 2 1; link 2 1 4 1; link 3 2 4 2; link 5 2 2 2; hop? 1 4 = 3 2",
-        // two links lead from 1 to 2, one from 1 to itself, and none back
-        "1 4 each switch #; link 1 1 1 9; link 1 5 2 1; link 1 3 2 2; hop? 1 2 = 2 3; hop? 1 1 = nothing; hop? 2 1 = nothing",
-        // a scene keeps up with its links, and a refused one changes nothing
-        "1 4 each switch #; link 1 1 2 2; link 2 1 3 2; link 1 7 3 7; cell? 1 3 = 3 7; link 1 0 3 7 = PortRange;
-         cell? 1 3 = 3 7; nolink 1 7; cell? 1 3 = 2 1; nolink 2 1; cell? 1 3 = nothing",
-    ];
-    for script in rows {
+    for script in scripts() {
         follow(rt.alloc(), &mut Scene::new(rt.alloc())?, script)?;
     }
     Ok(())

@@ -1,4 +1,4 @@
-// A tree of runs beside a plain list of them, and what a run has to be to be put into a tree.
+// A tree of traces beside a plain list of them, and what a trace has to be to be put into a tree.
 ghost use Rattle.std.specs.Prelude.{◌≡◌, ◌+◌, ◌^◌, ◌≤◌, ◌<◌, [], length, IsTrue, IfOk, IfErr, OnOk, OnErr, MatchResult};
 ghost use Rattle.trace_tree.specs.TreeOf.{branches, child_trees, values_of};
 ghost use Rattle.std.specs.List.{list_all, list_any};
@@ -19,11 +19,11 @@ use trace_tree::{Node, Trace, Tree};
 
 const MOST_RULES: u64 = 0xffff_ffff;
 
-/// A tree of runs, the same runs in a plain list, and what the next run asks.
+/// A tree of traces, the same traces in a plain list, and what the next trace asks.
 #[derive(Drop)]
 pub struct Learned {
     tree: Tree,
-    runs: Vec<(u64, Vec<Item>)>,
+    traces: Vec<(u64, Vec<Item>)>,
     asked: Vec<Item>,
     // not below the number of rules
     bound: u64,
@@ -46,18 +46,18 @@ impl Model for Learned {
 }
 
 impl Learned {
-    /// No run.
+    /// No trace.
     pub fn new(alloc: Global) -> Learned {
         Learned {
             tree: Tree::new(alloc),
-            runs: Vec::new(alloc),
+            traces: Vec::new(alloc),
             asked: Vec::new(alloc),
             bound: 0,
             alloc,
         }
     }
 
-    /// The next run asks these questions too.
+    /// The next trace asks these questions too.
     pub fn ask(&mut self, words: &[&str]) -> Result<(), Fail> {
         for word in words {
             self.asked.push(item_of(word)?)?;
@@ -65,7 +65,7 @@ impl Learned {
         Ok(())
     }
 
-    /// The next run also asks whether the source address is each number below this one, and it isn't.
+    /// The next trace also asks whether the source address is each number below this one, and it isn't.
     pub fn ask_many(&mut self, count: u64) -> Result<(), AllocError> {
         for value in 0..count {
             self.asked.push(Item::Test {
@@ -77,13 +77,13 @@ impl Learned {
         Ok(())
     }
 
-    /// Puts the run into the tree and the list.
+    /// Puts the trace into the tree and the list.
     pub fn add(&mut self, number: u64, decision: Decision) -> Result<(), Fail> {
         if self.bound > MOST_RULES {
-            return Err(Fail::from("too many runs"));
+            return Err(Fail::from("too many traces"));
         }
         let items = mem::replace(&mut self.asked, Vec::new(self.alloc));
-        self.runs
+        self.traces
             .push((number, Vec::from_slice(self.alloc, &items)?))?;
         let trace = Trace {
             number,
@@ -95,20 +95,20 @@ impl Learned {
         put(self.alloc, &mut self.tree, trace)
     }
 
-    /// The number of the run that the tree finds for a packet, where a scan of the list finds it too.
+    /// The number of the trace that the tree finds for a packet, where a scan of the list finds it too.
     pub fn find(&self, key: &Key) -> Result<Option<u64>, Fail> {
         let found = match self.tree.search(key) {
             Some(leaf) => Some(leaf.number),
             None => None,
         };
-        if found == scanned(&self.runs, key) {
+        if found == scanned(&self.traces, key) {
             Ok(found)
         } else {
-            Err(Fail::from("a scan finds another run"))
+            Err(Fail::from("a scan finds another trace"))
         }
     }
 
-    /// How many runs the tree has.
+    /// How many traces the tree has.
     pub fn leaves(&self) -> u32 {
         self.tree.leaves()
     }
@@ -122,13 +122,13 @@ impl Learned {
         }
     }
 
-    /// How many rules the tree has with the next run.
+    /// How many rules the tree has with the next trace.
     pub fn rules_needed_with(&self) -> Result<u64, Fail> {
         let items = Items::new(Vec::from_slice(self.alloc, &self.asked)?);
-        if self.bound <= MOST_RULES && is_run_for(self.alloc, &self.tree, &items)? {
+        if self.bound <= MOST_RULES && is_trace_for(self.alloc, &self.tree, &items)? {
             Ok(needed_with(&self.tree, &items))
         } else {
-            Err(Fail::from("no run for the tree"))
+            Err(Fail::from("no trace for the tree"))
         }
     }
 
@@ -168,9 +168,9 @@ fn rules_in(alloc: Global, tree: &Tree) -> Result<RuleList, Fail>
     }
 }
 
-// The number of the first run of a list that the packet meets.
-fn scanned(runs: &[(u64, Vec<Item>)], key: &Key) -> Option<u64> {
-    for (number, items) in runs {
+// The number of the first trace of a list that the packet meets.
+fn scanned(traces: &[(u64, Vec<Item>)], key: &Key) -> Option<u64> {
+    for (number, items) in traces {
         if meets(key, items) {
             return Some(*number);
         }
@@ -205,12 +205,12 @@ fn needed_with(tree: &Tree, items: &Items) -> u64
     rules_needed_with(tree, items)
 }
 
-// Puts a run into a tree; where memory runs out at the first try, at the second.
+// Puts a trace into a tree; where memory runs out at the first try, at the second.
 fn put(alloc: Global, tree: &mut Tree, trace: Trace) -> Result<(), Fail>
     ensures { rules_needed tree.new ≤ rules_needed tree.old + 262145 }
 {
-    if !is_run_for(alloc, tree, &trace.items)? || tree.leaves() >= 1_000 {
-        return Err(Fail::from("no run for the tree"));
+    if !is_trace_for(alloc, tree, &trace.items)? || tree.leaves() >= 1_000 {
+        return Err(Fail::from("no trace for the tree"));
     }
     let number = trace.number;
     let leaves = tree.leaves();
@@ -226,7 +226,7 @@ fn put(alloc: Global, tree: &mut Tree, trace: Trace) -> Result<(), Fail>
     }
 }
 
-#[tactic(auto, using(crate::proofs::Runs::few_further))]
+#[tactic(auto, using(crate::proofs::Traces::few_further))]
 fn grow(tree: &mut Tree, trace: Trace) -> Result<(), Trace>
     requires admitted { IsTrue (admits trace.items tree.old) }
     requires within { IsTrue (items_within trace.items) }
@@ -240,8 +240,8 @@ fn grow(tree: &mut Tree, trace: Trace) -> Result<(), Trace>
     tree.augment(trace)
 }
 
-// Whether a run of these questions may be put into a tree.
-fn is_run_for(alloc: Global, tree: &Tree, items: &Items) -> Result<bool, AllocError>
+// Whether a trace of these questions may be put into a tree.
+fn is_trace_for(alloc: Global, tree: &Tree, items: &Items) -> Result<bool, AllocError>
     ensures admitted { IfOk result (λ b. IsTrue b → IsTrue (admits items.now tree.now)) }
     ensures within { IfOk result (λ b. IsTrue b → IsTrue (items_within items.now)) }
     ensures once { IfOk result (λ b. IsTrue b → IsTrue (asks_once [] items.now)) }
@@ -252,7 +252,7 @@ fn is_run_for(alloc: Global, tree: &Tree, items: &Items) -> Result<bool, AllocEr
     Ok(once && leads(tree, list) && are_within(list) && list.len() <= 262_144)
 }
 
-#[tactic(auto, using(crate::proofs::Runs::all_within))]
+#[tactic(auto, using(crate::proofs::Traces::all_within))]
 fn are_within(items: &[Item]) -> bool
     ensures { IsTrue result → IsTrue (items_within items.now) }
 {

@@ -1,4 +1,4 @@
-//! Tests of what the controller knows of its network: the environment, next hops, flow tables, recorded runs, their tree and its rules.
+//! Tests of what the controller knows of its network: the environment, next hops, flow tables, traces, their tree and its rules.
 #![tactic(auto)]
 
 #[cfg(test)]
@@ -11,6 +11,8 @@ mod hops;
 mod learning;
 #[cfg(test)]
 mod packets;
+#[cfg(test)]
+mod random_links;
 #[cfg(test)]
 mod recording;
 #[cfg(test)]

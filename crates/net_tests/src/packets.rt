@@ -1,58 +1,53 @@
 // Keys, matches and questions as text.
 use crate::scripts::number;
-use maple_base::{Field, Item, Key, Match};
+use maple_base::{Field, Item, Key, Match, Rule};
 use std::alloc::AllocError;
 use std::test::Fail;
 
 /// TCP to port 80.
-pub fn web() -> Key {
-    Key {
-        in_port: 1,
-        dl_src: 0x0200_0000_0001,
-        dl_dst: 0x0200_0000_0002,
-        dl_vlan: 0xffff,
-        dl_pcp: 0,
-        dl_type: 0x0800,
-        nw_tos: 8,
-        nw_proto: 6,
-        nw_src: 0x0a00_0001,
-        nw_dst: 0x0a00_0002,
-        tp_src: 1024,
-        tp_dst: 80,
-    }
-}
+pub const WEB: Key = Key {
+    in_port: 1,
+    dl_src: 0x0200_0000_0001,
+    dl_dst: 0x0200_0000_0002,
+    dl_vlan: 0xffff,
+    dl_pcp: 0,
+    dl_type: 0x0800,
+    nw_tos: 8,
+    nw_proto: 6,
+    nw_src: 0x0a00_0001,
+    nw_dst: 0x0a00_0002,
+    tp_src: 1024,
+    tp_dst: 80,
+};
+
+// IP without ports.
+const OSPF: Key = Key {
+    nw_proto: 89,
+    tp_src: 0,
+    tp_dst: 0,
+    ..WEB
+};
+
+const ARP: Key = Key {
+    dl_type: 0x0806,
+    nw_tos: 0,
+    nw_proto: 0,
+    nw_src: 0,
+    nw_dst: 0,
+    ..OSPF
+};
 
 /// TCP to port 80, but for some fields, each `name=number`; or `ospf`, IP without ports; or `arp`.
 pub fn key_of(fields: &[&str]) -> Result<Key, Fail> {
-    let mut key = web();
+    let mut key = WEB;
     for field in fields {
         key = match *field {
-            "ospf" => ospf(),
-            "arp" => arp(),
+            "ospf" => OSPF,
+            "arp" => ARP,
             _ => with_field(key, field)?,
         };
     }
     Ok(key)
-}
-
-fn ospf() -> Key {
-    Key {
-        nw_proto: 89,
-        tp_src: 0,
-        tp_dst: 0,
-        ..web()
-    }
-}
-
-fn arp() -> Key {
-    Key {
-        dl_type: 0x0806,
-        nw_tos: 0,
-        nw_proto: 0,
-        nw_src: 0,
-        nw_dst: 0,
-        ..ospf()
-    }
 }
 
 fn with_field(key: Key, text: &str) -> Result<Key, Fail> {
@@ -80,11 +75,11 @@ fn field_and_number(text: &str) -> Result<(Field, u64), Fail> {
     Ok((field, number(value)?))
 }
 
-/// `any`, `exact` for the match of `web` alone, or `tp_dst=number`.
+/// `any`, `exact` for the match of `WEB` alone, or `tp_dst=number`.
 pub fn match_of(text: &str) -> Result<Match, Fail> {
     match text {
         "any" => Ok(Match::any()),
-        "exact" => Ok(exact()),
+        "exact" => Ok(EXACT),
         _ => match field_and_number(text)? {
             (Field::TpDst, port) => {
                 let mut of = Match::any();
@@ -96,25 +91,27 @@ pub fn match_of(text: &str) -> Result<Match, Fail> {
     }
 }
 
-fn exact() -> Match {
-    let key = web();
-    Match {
-        in_port: Some(key.in_port),
-        dl_src: Some(key.dl_src),
-        dl_dst: Some(key.dl_dst),
-        dl_vlan: Some(key.dl_vlan),
-        dl_pcp: Some(key.dl_pcp),
-        dl_type: Some(key.dl_type),
-        nw_tos: Some(key.nw_tos),
-        nw_proto: Some(key.nw_proto),
-        nw_src: Some(key.nw_src),
-        nw_dst: Some(key.nw_dst),
-        tp_src: Some(key.tp_src),
-        tp_dst: Some(key.tp_dst),
-    }
+// The match of `WEB` alone.
+const EXACT: Match = Match {
+    in_port: Some(1),
+    dl_src: Some(0x0200_0000_0001),
+    dl_dst: Some(0x0200_0000_0002),
+    dl_vlan: Some(0xffff),
+    dl_pcp: Some(0),
+    dl_type: Some(0x0800),
+    nw_tos: Some(8),
+    nw_proto: Some(6),
+    nw_src: Some(0x0a00_0001),
+    nw_dst: Some(0x0a00_0002),
+    tp_src: Some(1024),
+    tp_dst: Some(80),
+};
+
+fn fields() -> &'static [(Field, &'static str)] {
+    FIELDS
 }
 
-const FIELDS: [(Field, &str); 11] = [
+const FIELDS: &[(Field, &str)] = &[
     (Field::InPort, "in_port"),
     (Field::DlSrc, "dl_src"),
     (Field::DlDst, "dl_dst"),
@@ -129,15 +126,15 @@ const FIELDS: [(Field, &str); 11] = [
 ];
 
 /// Appends a match: `any`, `exact`, or each fixed field, `name=number`, with commas between.
-pub fn push_match(text: &mut String, of: &Match) -> Result<(), AllocError> {
+fn push_match(text: &mut String, of: &Match) -> Result<(), AllocError> {
     if *of == Match::any() {
         return text.push_str("any");
     }
-    if *of == exact() {
+    if *of == EXACT {
         return text.push_str("exact");
     }
     let mut is_first = true;
-    for (field, name) in &FIELDS {
+    for (field, name) in fields() {
         if let Some(value) = of.fixed(*field) {
             if !is_first {
                 text.push_str(",")?;
@@ -145,6 +142,19 @@ pub fn push_match(text: &mut String, of: &Match) -> Result<(), AllocError> {
             write!(text, "{name}={value}")?;
             is_first = false;
         }
+    }
+    Ok(())
+}
+
+/// Appends a rule without a cookie and without an idle time: its match, its priority and its ports.
+pub fn push_rule(text: &mut String, rule: &Rule) -> Result<(), Fail> {
+    if rule.cookie != 0 || rule.idle != 0 {
+        return Err(Fail::from("a cookie or an idle time"));
+    }
+    push_match(text, &rule.of)?;
+    write!(text, " {}", rule.priority)?;
+    for port in rule.actions.items() {
+        write!(text, " {port}")?;
     }
     Ok(())
 }

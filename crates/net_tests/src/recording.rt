@@ -1,4 +1,4 @@
-// What runs of policies ask, and what they decide; plain evaluation decides the same.
+// What traces of policies ask, and what they decide; plain evaluation decides the same.
 use crate::packets::{item_of, key_of};
 use maple_base::{Blank, Decision, Item, Key, Outcome};
 use policy_eval::eval;
@@ -9,7 +9,7 @@ use std::alloc::{AllocError, Global};
 use std::test::Fail;
 use trace_record::{Run, record};
 
-// The questions of a run with their answers, and behind `then` what it decides.
+// The questions of a trace with their answers, and behind `then` what it decides.
 #[derive(Drop)]
 struct Wanted {
     items: Vec<Item>,
@@ -43,8 +43,8 @@ fn spelled_out(alloc: Global, ports: &[u16]) -> Result<String, AllocError> {
     Ok(text)
 }
 
-// A run of a policy with number 3, at switch 7.
-fn run_of(alloc: Global, policy: &Policy, budget: u32, key: &Key) -> Result<Run, Fail> {
+// A trace of a policy with number 3, at switch 7.
+fn trace_of(alloc: Global, policy: &Policy, budget: u32, key: &Key) -> Result<Run, Fail> {
     if is_plain(policy) && key.valid() && 1 <= budget && budget <= 65_536 {
         Ok(record(alloc, policy, 3, budget, 7, key, &mut Blank)?)
     } else {
@@ -60,7 +60,7 @@ fn outcome_of(alloc: Global, policy: &Policy, budget: u32, key: &Key) -> Result<
     }
 }
 
-// A row of a table: the body of a policy, a budget, a packet, and what is wanted of the run.
+// A row of a table: the body of a policy, a budget, a packet, and what is wanted of the trace.
 type Row = (&'static str, u32, &'static str, &'static str);
 
 fn check(alloc: Global, rows: &[Row]) -> Result<(), Fail> {
@@ -75,7 +75,7 @@ fn check_row(alloc: Global, row: &Row) -> Result<(), Fail> {
     let policy = policy_of(alloc, body)?;
     let key = key_of_packet(alloc, packet)?;
     let wanted = read_wanted(alloc, text)?;
-    check_run(alloc, &policy, &key, row, &wanted)?;
+    check_trace(alloc, &policy, &key, row, &wanted)?;
     check_outcome(alloc, &policy, &key, row, &wanted)
 }
 
@@ -84,24 +84,24 @@ fn policy_of(alloc: Global, body: &str) -> Result<Policy, Fail> {
     Ok(read_policy(alloc, text.as_bytes())?)
 }
 
-fn check_run(
+fn check_trace(
     alloc: Global,
     policy: &Policy,
     key: &Key,
     row: &Row,
     wanted: &Wanted,
 ) -> Result<(), Fail> {
-    let run = run_of(alloc, policy, row.1, key)?;
-    if is_wanted(alloc, &run, key, wanted)? {
+    let trace = trace_of(alloc, policy, row.1, key)?;
+    if is_wanted(alloc, &trace, key, wanted)? {
         Ok(())
     } else {
-        Err(unwanted(alloc, row, &run)?)
+        Err(unwanted(alloc, row, &trace)?)
     }
 }
 
-fn unwanted(alloc: Global, row: &Row, run: &Run) -> Result<Fail, Fail> {
+fn unwanted(alloc: Global, row: &Row, trace: &Run) -> Result<Fail, Fail> {
     let (body, _, packet, _) = row;
-    Ok(Fail::from(format!(in alloc; "{packet}: {body}: {:?}", run.items().items())?))
+    Ok(Fail::from(format!(in alloc; "{packet}: {body}: {:?}", trace.items().items())?))
 }
 
 fn check_outcome(
@@ -127,321 +127,330 @@ fn key_of_packet(alloc: Global, packet: &str) -> Result<Key, Fail> {
     key_of(&fields)
 }
 
-fn is_wanted(alloc: Global, run: &Run, key: &Key, wanted: &Wanted) -> Result<bool, AllocError> {
-    let outcome = spelled_outcome(alloc, run.outcome())?;
+fn is_wanted(alloc: Global, trace: &Run, key: &Key, wanted: &Wanted) -> Result<bool, AllocError> {
+    let outcome = spelled_outcome(alloc, trace.outcome())?;
     Ok(
-        run.items().items() == wanted.items.as_slice()
+        trace.items().items() == wanted.items.as_slice()
             && outcome.as_str() == wanted.decision.as_str()
-            && run.number() == 3
-            && run.switch() == 7
-            && *run.key() == *key
-            && run.cells().items().is_empty(),
+            && trace.number() == 3
+            && trace.switch() == 7
+            && *trace.key() == *key
+            && trace.cells().items().is_empty(),
     )
 }
 
+fn one_field() -> &'static [Row] {
+    ONE_FIELD
+}
+
+const ONE_FIELD: &[Row] = &[
+    (
+        "if pkt.in_port is 1 { drop; } out 2;",
+        5,
+        "tp_dst=80",
+        "in_port=1?yes then drop",
+    ),
+    (
+        "if pkt.in_port is 9 { drop; } out 2;",
+        5,
+        "tp_dst=80",
+        "in_port=9?no then out 2",
+    ),
+    (
+        "if pkt.dl_src is 02:00:00:00:00:01 { drop; } out 2;",
+        5,
+        "tp_dst=80",
+        "dl_src=02:00:00:00:00:01?yes then drop",
+    ),
+    (
+        "if pkt.dl_dst is 5 { drop; } out 2;",
+        5,
+        "tp_dst=80",
+        "dl_dst=5?no then out 2",
+    ),
+    (
+        "if pkt.dl_vlan is 0xffff { drop; } out 2;",
+        5,
+        "tp_dst=80",
+        "dl_vlan=0xffff?yes then drop",
+    ),
+    (
+        "if pkt.dl_type is 0x0800 { drop; } out 2;",
+        5,
+        "tp_dst=80",
+        "dl_type=0x0800?yes then drop",
+    ),
+    (
+        "if pkt.nw_tos is 8 { drop; } out 2;",
+        5,
+        "tp_dst=80",
+        "dl_type=0x0800 nw_tos=8?yes then drop",
+    ),
+    (
+        "if pkt.nw_proto is 17 { drop; } out 2;",
+        5,
+        "tp_dst=80",
+        "dl_type=0x0800 nw_proto=17?no then out 2",
+    ),
+    (
+        "if pkt.nw_src is 10.0.0.1 { drop; } out 2;",
+        5,
+        "tp_dst=80",
+        "dl_type=0x0800 nw_src=10.0.0.1?yes then drop",
+    ),
+    (
+        "if pkt.nw_dst is 0 { drop; } out 2;",
+        5,
+        "tp_dst=80",
+        "dl_type=0x0800 nw_dst=0?no then out 2",
+    ),
+    (
+        "if pkt.tp_src is 1024 { drop; } out 2;",
+        5,
+        "tp_dst=80",
+        "dl_type=0x0800 nw_proto=6 tp_src=1024?yes then drop",
+    ),
+    (
+        "if pkt.tp_dst is 22 { drop; } out 2;",
+        5,
+        "tp_dst=80",
+        "dl_type=0x0800 nw_proto=6 tp_dst=22?no then out 2",
+    ),
+    (
+        "if pkt.tp_dst is 22 { drop; } out 2;",
+        5,
+        "tp_dst=22",
+        "dl_type=0x0800 nw_proto=6 tp_dst=22?yes then drop",
+    ),
+    (
+        "if pkt.nw_proto is 89 { drop; } out 2;",
+        5,
+        "ospf",
+        "dl_type=0x0800 nw_proto=89?yes then drop",
+    ),
+    (
+        "if pkt.tp_dst is 22 { drop; } out 2;",
+        5,
+        "ospf",
+        "dl_type=0x0800 nw_proto=89 then out 2",
+    ),
+    (
+        "if pkt.tp_src is 0 { drop; } out 2;",
+        5,
+        "ospf",
+        "dl_type=0x0800 nw_proto=89 then drop",
+    ),
+    (
+        "if pkt.dl_type is 0x0800 { drop; } out 2;",
+        5,
+        "arp",
+        "dl_type=0x0800?no then out 2",
+    ),
+    (
+        "if pkt.nw_tos is 8 { drop; } out 2;",
+        5,
+        "arp",
+        "dl_type=0x0806 then out 2",
+    ),
+    (
+        "if pkt.nw_src is 0 { drop; } out 2;",
+        5,
+        "arp",
+        "dl_type=0x0806 then drop",
+    ),
+    (
+        "if pkt.tp_dst is 22 { drop; } out 2;",
+        5,
+        "arp",
+        "dl_type=0x0806 then out 2",
+    ),
+    (
+        "if pkt.tp_dst is 0 { drop; } out 2;",
+        5,
+        "arp",
+        "dl_type=0x0806 then drop",
+    ),
+    (
+        "if pkt.in_port is 65536 { drop; } out 2;",
+        5,
+        "tp_dst=80",
+        "then out 2",
+    ),
+    (
+        "if pkt.dl_vlan is 4096 { drop; } out 2;",
+        5,
+        "tp_dst=80",
+        "then out 2",
+    ),
+    (
+        "if pkt.nw_tos is 3 { drop; } out 2;",
+        5,
+        "tp_dst=80",
+        "then out 2",
+    ),
+    (
+        "if pkt.nw_src is 4294967296 { drop; } out 2;",
+        5,
+        "tp_dst=80",
+        "then out 2",
+    ),
+    (
+        "if pkt.tp_dst is 65536 { drop; } out 2;",
+        5,
+        "tp_dst=80",
+        "then out 2",
+    ),
+];
+
 #[test]
-fn runs_ask_of_one_field(rt: HostRuntime) -> Result<(), Fail> {
-    check(
-        rt.alloc(),
-        &[
-            (
-                "if pkt.in_port is 1 { drop; } out 2;",
-                5,
-                "tp_dst=80",
-                "in_port=1?yes then drop",
-            ),
-            (
-                "if pkt.in_port is 9 { drop; } out 2;",
-                5,
-                "tp_dst=80",
-                "in_port=9?no then out 2",
-            ),
-            (
-                "if pkt.dl_src is 02:00:00:00:00:01 { drop; } out 2;",
-                5,
-                "tp_dst=80",
-                "dl_src=02:00:00:00:00:01?yes then drop",
-            ),
-            (
-                "if pkt.dl_dst is 5 { drop; } out 2;",
-                5,
-                "tp_dst=80",
-                "dl_dst=5?no then out 2",
-            ),
-            (
-                "if pkt.dl_vlan is 0xffff { drop; } out 2;",
-                5,
-                "tp_dst=80",
-                "dl_vlan=0xffff?yes then drop",
-            ),
-            (
-                "if pkt.dl_type is 0x0800 { drop; } out 2;",
-                5,
-                "tp_dst=80",
-                "dl_type=0x0800?yes then drop",
-            ),
-            (
-                "if pkt.nw_tos is 8 { drop; } out 2;",
-                5,
-                "tp_dst=80",
-                "dl_type=0x0800 nw_tos=8?yes then drop",
-            ),
-            (
-                "if pkt.nw_proto is 17 { drop; } out 2;",
-                5,
-                "tp_dst=80",
-                "dl_type=0x0800 nw_proto=17?no then out 2",
-            ),
-            (
-                "if pkt.nw_src is 10.0.0.1 { drop; } out 2;",
-                5,
-                "tp_dst=80",
-                "dl_type=0x0800 nw_src=10.0.0.1?yes then drop",
-            ),
-            (
-                "if pkt.nw_dst is 0 { drop; } out 2;",
-                5,
-                "tp_dst=80",
-                "dl_type=0x0800 nw_dst=0?no then out 2",
-            ),
-            (
-                "if pkt.tp_src is 1024 { drop; } out 2;",
-                5,
-                "tp_dst=80",
-                "dl_type=0x0800 nw_proto=6 tp_src=1024?yes then drop",
-            ),
-            (
-                "if pkt.tp_dst is 22 { drop; } out 2;",
-                5,
-                "tp_dst=80",
-                "dl_type=0x0800 nw_proto=6 tp_dst=22?no then out 2",
-            ),
-            (
-                "if pkt.tp_dst is 22 { drop; } out 2;",
-                5,
-                "tp_dst=22",
-                "dl_type=0x0800 nw_proto=6 tp_dst=22?yes then drop",
-            ),
-            (
-                "if pkt.nw_proto is 89 { drop; } out 2;",
-                5,
-                "ospf",
-                "dl_type=0x0800 nw_proto=89?yes then drop",
-            ),
-            (
-                "if pkt.tp_dst is 22 { drop; } out 2;",
-                5,
-                "ospf",
-                "dl_type=0x0800 nw_proto=89 then out 2",
-            ),
-            (
-                "if pkt.tp_src is 0 { drop; } out 2;",
-                5,
-                "ospf",
-                "dl_type=0x0800 nw_proto=89 then drop",
-            ),
-            (
-                "if pkt.dl_type is 0x0800 { drop; } out 2;",
-                5,
-                "arp",
-                "dl_type=0x0800?no then out 2",
-            ),
-            (
-                "if pkt.nw_tos is 8 { drop; } out 2;",
-                5,
-                "arp",
-                "dl_type=0x0806 then out 2",
-            ),
-            (
-                "if pkt.nw_src is 0 { drop; } out 2;",
-                5,
-                "arp",
-                "dl_type=0x0806 then drop",
-            ),
-            (
-                "if pkt.tp_dst is 22 { drop; } out 2;",
-                5,
-                "arp",
-                "dl_type=0x0806 then out 2",
-            ),
-            (
-                "if pkt.tp_dst is 0 { drop; } out 2;",
-                5,
-                "arp",
-                "dl_type=0x0806 then drop",
-            ),
-            (
-                "if pkt.in_port is 65536 { drop; } out 2;",
-                5,
-                "tp_dst=80",
-                "then out 2",
-            ),
-            (
-                "if pkt.dl_vlan is 4096 { drop; } out 2;",
-                5,
-                "tp_dst=80",
-                "then out 2",
-            ),
-            (
-                "if pkt.nw_tos is 3 { drop; } out 2;",
-                5,
-                "tp_dst=80",
-                "then out 2",
-            ),
-            (
-                "if pkt.nw_src is 4294967296 { drop; } out 2;",
-                5,
-                "tp_dst=80",
-                "then out 2",
-            ),
-            (
-                "if pkt.tp_dst is 65536 { drop; } out 2;",
-                5,
-                "tp_dst=80",
-                "then out 2",
-            ),
-        ],
-    )
+fn traces_ask_of_one_field(rt: HostRuntime) -> Result<(), Fail> {
+    check(rt.alloc(), one_field())
 }
 
 // What is settled asks nothing, and a condition that earlier answers settle asks nothing.
+fn not_settled() -> &'static [Row] {
+    NOT_SETTLED
+}
+
+const NOT_SETTLED: &[Row] = &[
+    (
+        "if pkt.in_port is 9 { drop; } if pkt.in_port is 9 { drop; } out 2;",
+        9,
+        "tp_dst=80",
+        "in_port=9?no then out 2",
+    ),
+    (
+        "if pkt.in_port is 9 { drop; } if pkt.in_port is 1 { drop; } out 2;",
+        9,
+        "tp_dst=80",
+        "in_port=9?no in_port=1?yes then drop",
+    ),
+    (
+        "if pkt.in_port is 1 { if pkt.in_port is 2 { drop; } } out 2;",
+        9,
+        "tp_dst=80",
+        "in_port=1?yes then out 2",
+    ),
+    (
+        "if pkt.tp_dst is 22 { drop; } if pkt.dl_type is 0x0800 { drop; } out 2;",
+        9,
+        "tp_dst=80",
+        "dl_type=0x0800 nw_proto=6 tp_dst=22?no then drop",
+    ),
+    (
+        "if pkt.tp_dst is 22 { drop; } if pkt.dl_type is 0x0800 { drop; } out 2;",
+        9,
+        "arp",
+        "dl_type=0x0806 then out 2",
+    ),
+    (
+        "if pkt.dl_type is 0x0800 { if pkt.nw_src is 10.0.0.1 { drop; } } out 2;",
+        9,
+        "tp_dst=80",
+        "dl_type=0x0800?yes nw_src=10.0.0.1?yes then drop",
+    ),
+    (
+        "if pkt.dl_type is 0x0800 { } else { if pkt.nw_src is 0 { drop; } } out 2;",
+        9,
+        "arp",
+        "dl_type=0x0800?no then drop",
+    ),
+    (
+        "if pkt.dl_type is 0x0806 { } else { if pkt.nw_src is 0 { drop; } } out 2;",
+        9,
+        "tp_dst=80",
+        "dl_type=0x0806?no dl_type=0x0800 nw_src=0?no then out 2",
+    ),
+    (
+        "if pkt.nw_proto is 6 { if pkt.tp_dst is 80 { drop; } } out 2;",
+        9,
+        "tp_dst=80",
+        "dl_type=0x0800 nw_proto=6?yes tp_dst=80?yes then drop",
+    ),
+    (
+        "if pkt.nw_proto is 1 { drop; } if pkt.tp_dst is 80 { drop; } out 2;",
+        9,
+        "tp_dst=80",
+        "dl_type=0x0800 nw_proto=1?no nw_proto=6 tp_dst=80?yes then drop",
+    ),
+    (
+        "if pkt.nw_proto is 1 { drop; } if pkt.nw_proto is 6 { drop; } if pkt.nw_proto is 17 { drop; } if pkt.tp_dst is 0 { out 7; } out 2;",
+        15,
+        "ospf",
+        "dl_type=0x0800 nw_proto=1?no nw_proto=6?no nw_proto=17?no then out 7",
+    ),
+];
+
 #[test]
-fn runs_ask_what_is_not_settled(rt: HostRuntime) -> Result<(), Fail> {
-    check(
-        rt.alloc(),
-        &[
-            (
-                "if pkt.in_port is 9 { drop; } if pkt.in_port is 9 { drop; } out 2;",
-                9,
-                "tp_dst=80",
-                "in_port=9?no then out 2",
-            ),
-            (
-                "if pkt.in_port is 9 { drop; } if pkt.in_port is 1 { drop; } out 2;",
-                9,
-                "tp_dst=80",
-                "in_port=9?no in_port=1?yes then drop",
-            ),
-            (
-                "if pkt.in_port is 1 { if pkt.in_port is 2 { drop; } } out 2;",
-                9,
-                "tp_dst=80",
-                "in_port=1?yes then out 2",
-            ),
-            (
-                "if pkt.tp_dst is 22 { drop; } if pkt.dl_type is 0x0800 { drop; } out 2;",
-                9,
-                "tp_dst=80",
-                "dl_type=0x0800 nw_proto=6 tp_dst=22?no then drop",
-            ),
-            (
-                "if pkt.tp_dst is 22 { drop; } if pkt.dl_type is 0x0800 { drop; } out 2;",
-                9,
-                "arp",
-                "dl_type=0x0806 then out 2",
-            ),
-            (
-                "if pkt.dl_type is 0x0800 { if pkt.nw_src is 10.0.0.1 { drop; } } out 2;",
-                9,
-                "tp_dst=80",
-                "dl_type=0x0800?yes nw_src=10.0.0.1?yes then drop",
-            ),
-            (
-                "if pkt.dl_type is 0x0800 { } else { if pkt.nw_src is 0 { drop; } } out 2;",
-                9,
-                "arp",
-                "dl_type=0x0800?no then drop",
-            ),
-            (
-                "if pkt.dl_type is 0x0806 { } else { if pkt.nw_src is 0 { drop; } } out 2;",
-                9,
-                "tp_dst=80",
-                "dl_type=0x0806?no dl_type=0x0800 nw_src=0?no then out 2",
-            ),
-            (
-                "if pkt.nw_proto is 6 { if pkt.tp_dst is 80 { drop; } } out 2;",
-                9,
-                "tp_dst=80",
-                "dl_type=0x0800 nw_proto=6?yes tp_dst=80?yes then drop",
-            ),
-            (
-                "if pkt.nw_proto is 1 { drop; } if pkt.tp_dst is 80 { drop; } out 2;",
-                9,
-                "tp_dst=80",
-                "dl_type=0x0800 nw_proto=1?no nw_proto=6 tp_dst=80?yes then drop",
-            ),
-            (
-                "if pkt.nw_proto is 1 { drop; } if pkt.nw_proto is 6 { drop; } if pkt.nw_proto is 17 { drop; } if pkt.tp_dst is 0 { out 7; } out 2;",
-                15,
-                "ospf",
-                "dl_type=0x0800 nw_proto=1?no nw_proto=6?no nw_proto=17?no then out 7",
-            ),
-        ],
-    )
+fn traces_ask_what_is_not_settled(rt: HostRuntime) -> Result<(), Fail> {
+    check(rt.alloc(), not_settled())
 }
 
 // At the edge of the budget, and with ports that are left out.
+fn steps_and_ports() -> &'static [Row] {
+    STEPS_AND_PORTS
+}
+
+const STEPS_AND_PORTS: &[Row] = &[
+    (
+        "if pkt.tp_dst is 22 { drop; } out 2;",
+        5,
+        "tp_dst=80",
+        "dl_type=0x0800 nw_proto=6 tp_dst=22?no then out 2",
+    ),
+    (
+        "if pkt.tp_dst is 22 { drop; } out 2;",
+        4,
+        "tp_dst=80",
+        "dl_type=0x0800 nw_proto=6 tp_dst=22?no then spent",
+    ),
+    (
+        "if pkt.tp_dst is 22 { drop; } out 2;",
+        3,
+        "tp_dst=80",
+        "dl_type=0x0800 nw_proto=6 tp_dst=22?no then spent",
+    ),
+    (
+        "if pkt.tp_dst is 22 { drop; } out 2;",
+        2,
+        "tp_dst=80",
+        "then spent",
+    ),
+    (
+        "if pkt.tp_dst is 22 { drop; } out 2;",
+        1,
+        "tp_dst=80",
+        "then spent",
+    ),
+    (
+        "if pkt.tp_dst is 22 { drop; } out 2;",
+        4,
+        "tp_dst=22",
+        "dl_type=0x0800 nw_proto=6 tp_dst=22?yes then drop",
+    ),
+    (
+        "if pkt.tp_dst is 22 { drop; } out 2;",
+        3,
+        "tp_dst=22",
+        "dl_type=0x0800 nw_proto=6 tp_dst=22?yes then spent",
+    ),
+    (
+        "if pkt.tp_dst is 22 { drop; } out 2;",
+        65_536,
+        "tp_dst=22",
+        "dl_type=0x0800 nw_proto=6 tp_dst=22?yes then drop",
+    ),
+    ("", 1, "arp", "then drop"),
+    (
+        "out 0, 2, 70000, 2, 65280, 65281;",
+        7,
+        "tp_dst=80",
+        "then out 2 65280",
+    ),
+    ("out 0;", 2, "tp_dst=80", "then drop"),
+];
+
 #[test]
-fn runs_count_steps_and_leave_out_ports(rt: HostRuntime) -> Result<(), Fail> {
-    check(
-        rt.alloc(),
-        &[
-            (
-                "if pkt.tp_dst is 22 { drop; } out 2;",
-                5,
-                "tp_dst=80",
-                "dl_type=0x0800 nw_proto=6 tp_dst=22?no then out 2",
-            ),
-            (
-                "if pkt.tp_dst is 22 { drop; } out 2;",
-                4,
-                "tp_dst=80",
-                "dl_type=0x0800 nw_proto=6 tp_dst=22?no then spent",
-            ),
-            (
-                "if pkt.tp_dst is 22 { drop; } out 2;",
-                3,
-                "tp_dst=80",
-                "dl_type=0x0800 nw_proto=6 tp_dst=22?no then spent",
-            ),
-            (
-                "if pkt.tp_dst is 22 { drop; } out 2;",
-                2,
-                "tp_dst=80",
-                "then spent",
-            ),
-            (
-                "if pkt.tp_dst is 22 { drop; } out 2;",
-                1,
-                "tp_dst=80",
-                "then spent",
-            ),
-            (
-                "if pkt.tp_dst is 22 { drop; } out 2;",
-                4,
-                "tp_dst=22",
-                "dl_type=0x0800 nw_proto=6 tp_dst=22?yes then drop",
-            ),
-            (
-                "if pkt.tp_dst is 22 { drop; } out 2;",
-                3,
-                "tp_dst=22",
-                "dl_type=0x0800 nw_proto=6 tp_dst=22?yes then spent",
-            ),
-            (
-                "if pkt.tp_dst is 22 { drop; } out 2;",
-                65_536,
-                "tp_dst=22",
-                "dl_type=0x0800 nw_proto=6 tp_dst=22?yes then drop",
-            ),
-            ("", 1, "arp", "then drop"),
-            (
-                "out 0, 2, 70000, 2, 65280, 65281;",
-                7,
-                "tp_dst=80",
-                "then out 2 65280",
-            ),
-            ("out 0;", 2, "tp_dst=80", "then drop"),
-        ],
-    )
+fn traces_count_steps_and_leave_out_ports(rt: HostRuntime) -> Result<(), Fail> {
+    check(rt.alloc(), steps_and_ports())
 }

@@ -1,9 +1,10 @@
-// Trees of runs against a plain list of the same runs, and the rules of a tree.
+// Trees of traces against a plain list of the same traces, and the rules of a tree.
 ghost use Rattle.std.specs.Prelude.{◌<◌};
 
 use crate::learning::Learned;
-use crate::packets::{key_of, push_match, web};
+use crate::packets::{WEB, key_of, push_rule};
 use crate::scripts::{Subject, follow, number};
+use crate::updates::{spelled_number, spelled_word};
 use maple_base::{Actions, Decision, Key, Rule};
 use std::alloc::{AllocError, Global};
 use std::test::Fail;
@@ -11,65 +12,98 @@ use std::test::Fail;
 impl Subject for Learned {
     fn answer(&mut self, alloc: Global, command: &[&str]) -> Result<String, Fail> {
         match command {
-            ["ask", items @ ..] => done(alloc, self.ask(items)?),
-            ["many", count] => done(alloc, self.ask_many(number(count)?)?),
-            ["add", run] => done(alloc, self.add(number(run)?, Decision::Drop)?),
-            ["add", run, port] => {
-                let actions = Actions::new(&[u16::try_from(number(port)?)?]);
-                done(alloc, self.add(number(run)?, Decision::Out(actions))?)
-            }
-            ["find", fields @ ..] => Ok(spelled_find(alloc, self.find(&key_of(fields)?)?)?),
-            ["leaves?"] => Ok(format!(in alloc; "{}", self.leaves())?),
-            ["rules?"] => Ok(format!(in alloc; "{}", self.rules_needed()?)?),
-            ["rules_with?"] => Ok(format!(in alloc; "{}", self.rules_needed_with()?)?),
-            ["levels?"] => Ok(format!(in alloc; "{}", self.levels()?)?),
-            ["facts?"] => Ok(spelled_rules(alloc, self.rules()?.facts())?),
-            ["barriers?"] => Ok(spelled_rules(alloc, self.rules()?.barriers())?),
-            _ => Err(Fail::from("no command of a tree")),
+            ["ask", items @ ..] => asks(alloc, self, items),
+            ["many", count] => asks_many(alloc, self, count),
+            ["add", trace] => adds(alloc, self, trace),
+            ["add", trace, port] => adds_out(alloc, self, trace, port),
+            ["find", fields @ ..] => finds(alloc, self, fields),
+            _ => asked_of_tree(alloc, self, command),
         }
     }
 }
 
-fn done(alloc: Global, _done: ()) -> Result<String, Fail> {
-    Ok(String::from_str(alloc, "ok")?)
-}
-
-fn spelled_find(alloc: Global, found: Option<u64>) -> Result<String, AllocError> {
-    match found {
-        Some(run) => format!(in alloc; "{run}"),
-        None => String::from_str(alloc, "none"),
+fn asked_of_tree(alloc: Global, learned: &Learned, command: &[&str]) -> Result<String, Fail> {
+    match command {
+        ["leaves?"] => spelled_number(alloc, u64::from(learned.leaves())),
+        ["rules?"] => spelled_number(alloc, learned.rules_needed()?),
+        ["rules_with?"] => spelled_number(alloc, learned.rules_needed_with()?),
+        ["levels?"] => spelled_number(alloc, learned.levels()?),
+        ["facts?"] => spelled_facts(alloc, learned),
+        ["barriers?"] => spelled_barriers(alloc, learned),
+        _ => Err(Fail::from("no command of a tree")),
     }
 }
 
+fn asks(alloc: Global, learned: &mut Learned, items: &[&str]) -> Result<String, Fail> {
+    learned.ask(items)?;
+    spelled_word(alloc, "ok")
+}
+
+fn asks_many(alloc: Global, learned: &mut Learned, count: &str) -> Result<String, Fail> {
+    learned.ask_many(number(count)?)?;
+    spelled_word(alloc, "ok")
+}
+
+fn adds(alloc: Global, learned: &mut Learned, trace: &str) -> Result<String, Fail> {
+    learned.add(number(trace)?, Decision::Drop)?;
+    spelled_word(alloc, "ok")
+}
+
+fn adds_out(alloc: Global, learned: &mut Learned, trace: &str, port: &str) -> Result<String, Fail> {
+    let number_of_trace = number(trace)?;
+    let port = u16::try_from(number(port)?)?;
+    learned.add(number_of_trace, Decision::Out(Actions::new(&[port])))?;
+    spelled_word(alloc, "ok")
+}
+
+fn finds(alloc: Global, learned: &Learned, fields: &[&str]) -> Result<String, Fail> {
+    let key = key_of(fields)?;
+    match learned.find(&key)? {
+        Some(trace) => spelled_number(alloc, trace),
+        None => spelled_word(alloc, "none"),
+    }
+}
+
+fn spelled_facts(alloc: Global, learned: &Learned) -> Result<String, Fail> {
+    let list = learned.rules()?;
+    spelled_rules(alloc, list.facts())
+}
+
+fn spelled_barriers(alloc: Global, learned: &Learned) -> Result<String, Fail> {
+    let list = learned.rules()?;
+    spelled_rules(alloc, list.barriers())
+}
+
 // The match, the priority and the ports of each rule, with commas between them.
-fn spelled_rules(alloc: Global, rules: &[Rule]) -> Result<String, AllocError> {
+fn spelled_rules(alloc: Global, rules: &[Rule]) -> Result<String, Fail> {
     let mut text = String::new(alloc);
     for rule in rules {
         if !text.is_empty() {
             text.push_str(", ")?;
         }
-        push_match(&mut text, &rule.of)?;
-        write!(text, " {}", rule.priority)?;
-        for port in rule.actions.items() {
-            write!(text, " {port}")?;
-        }
+        push_rule(&mut text, rule)?;
     }
     Ok(text)
 }
+
+fn scripts() -> &'static [&'static str] {
+    SCRIPTS
+}
+
+const SCRIPTS: &[&str] = &[
+    "many 21999; ask dl_src=21999?no; add 1; many 21999; ask dl_src=21999?yes; add 2;
+         find dl_src=22000 = 1; find dl_src=21999 = 2; find dl_src=21998 = none; find dl_src=0 = none",
+    "many 262143; ask dl_src=262143?no; add 1; many 262143; ask dl_src=262143?yes; add 2;
+         find dl_src=262144 = 1; find dl_src=262143 = 2; find dl_src=262142 = none; find dl_src=0 = none",
+    "ask tp_dst=22?no; rules_with? = 2; add 1 2; ask tp_dst=22?yes; rules_with? = 3; add 2; leaves? = 2; rules? = 3;
+         levels? = 3; facts? = any 1 2, tp_dst=22 3; barriers? = tp_dst=22 2 65533",
+];
 
 // The first two rows have paths that part at the last item: of 22,000 items, and of as many as a path
 // may have. In the third what does not go to port 22 leaves by port 2, and the rest is dropped.
 #[test]
 fn paths_and_rules(rt: HostRuntime) -> Result<(), Fail> {
-    let rows = [
-        "many 21999; ask dl_src=21999?no; add 1; many 21999; ask dl_src=21999?yes; add 2;
-         find dl_src=22000 = 1; find dl_src=21999 = 2; find dl_src=21998 = none; find dl_src=0 = none",
-        "many 262143; ask dl_src=262143?no; add 1; many 262143; ask dl_src=262143?yes; add 2;
-         find dl_src=262144 = 1; find dl_src=262143 = 2; find dl_src=262142 = none; find dl_src=0 = none",
-        "ask tp_dst=22?no; rules_with? = 2; add 1 2; ask tp_dst=22?yes; rules_with? = 3; add 2; leaves? = 2; rules? = 3;
-         levels? = 3; facts? = any 1 2, tp_dst=22 3; barriers? = tp_dst=22 2 65533",
-    ];
-    for script in rows {
+    for script in scripts() {
         follow(rt.alloc(), &mut Learned::new(rt.alloc()), script)?;
     }
     Ok(())
@@ -107,7 +141,7 @@ fn packet(turn: u64) -> Key
         in_port: (turn * 5 % 7) as u16,
         dl_type: if turn % 4 < 2 { 0x0800 } else { 0x0806 },
         nw_proto: (turn * 7 % 6) as u8,
-        ..web()
+        ..WEB
     }
 }
 
@@ -127,9 +161,9 @@ fn asked(alloc: Global, key: &Key) -> Result<String, AllocError> {
     format!(in alloc; "ask in_port=3?no dl_type=0x0800?yes nw_proto={proto} in_port=5?{answer}")
 }
 
-fn learn(alloc: Global, learned: &mut Learned, run: u64, key: &Key) -> Result<(), Fail> {
+fn learn(alloc: Global, learned: &mut Learned, trace: u64, key: &Key) -> Result<(), Fail> {
     let asked = asked(alloc, key)?;
-    let script = format!(in alloc; "{asked}; add {run}")?;
+    let script = format!(in alloc; "{asked}; add {trace}")?;
     follow(alloc, learned, script.as_str())
 }
 

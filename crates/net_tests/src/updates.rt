@@ -2,7 +2,7 @@
 use crate::scripts::{number, place};
 use env_cells::{Update, UpdateError, UpdateRefused};
 use maple_base::{Name, Names, Place, Port, Ports, Value};
-use std::alloc::{AllocError, Global};
+use std::alloc::Global;
 use std::test::Fail;
 
 /// The update that a command is. A port behind `-` is down, and `A..B` are the ports from A up to B.
@@ -97,42 +97,58 @@ pub fn name(word: &str) -> Result<Name, Fail> {
 }
 
 /// What was said to an update: `ok`, or why it is refused.
-pub fn spelled_answer(
-    alloc: Global,
-    answer: Result<(), UpdateError>,
-) -> Result<String, AllocError> {
-    let mut text = String::new(alloc);
+pub fn spelled_answer(alloc: Global, answer: Result<(), UpdateError>) -> Result<String, Fail> {
     match answer {
-        Ok(()) => text.push_str("ok")?,
-        Err(UpdateError::NoMemory) => text.push_str("NoMemory")?,
-        Err(UpdateError::Refused(UpdateRefused::UnknownTable)) => text.push_str("UnknownTable")?,
-        Err(UpdateError::Refused(UpdateRefused::UnknownSwitch)) => text.push_str("UnknownSwitch")?,
-        Err(UpdateError::Refused(UpdateRefused::PortRange)) => text.push_str("PortRange")?,
-        Err(UpdateError::Refused(UpdateRefused::Full { count, limit })) => {
-            write!(text, "Full {count} {limit}")?;
-        }
+        Ok(()) => spelled_word(alloc, "ok"),
+        Err(UpdateError::NoMemory) => spelled_word(alloc, "NoMemory"),
+        Err(UpdateError::Refused(refused)) => spelled_refusal(alloc, refused),
     }
-    Ok(text)
+}
+
+fn spelled_refusal(alloc: Global, refused: UpdateRefused) -> Result<String, Fail> {
+    match refused {
+        UpdateRefused::UnknownTable => spelled_word(alloc, "UnknownTable"),
+        UpdateRefused::UnknownSwitch => spelled_word(alloc, "UnknownSwitch"),
+        UpdateRefused::PortRange => spelled_word(alloc, "PortRange"),
+        UpdateRefused::Full { count, limit } => spelled_full(alloc, count, limit),
+    }
+}
+
+/// A word.
+pub fn spelled_word(alloc: Global, word: &str) -> Result<String, Fail> {
+    Ok(String::from_str(alloc, word)?)
+}
+
+fn spelled_full(alloc: Global, count: u64, limit: u64) -> Result<String, Fail> {
+    Ok(format!(in alloc; "Full {count} {limit}")?)
 }
 
 /// The value of a cell: `nothing`, `yes` or `no`, a number, or the switch and the port of a place.
-pub fn spelled_value(alloc: Global, value: Value) -> Result<String, AllocError> {
+pub fn spelled_value(alloc: Global, value: Value) -> Result<String, Fail> {
     match value {
-        Value::Nothing => String::from_str(alloc, "nothing"),
-        Value::Flag(true) => String::from_str(alloc, "yes"),
-        Value::Flag(false) => String::from_str(alloc, "no"),
-        Value::Number(number) => format!(in alloc; "{number}"),
-        Value::At(place) => format!(in alloc; "{} {}", place.switch, place.port),
+        Value::Nothing => spelled_word(alloc, "nothing"),
+        Value::Flag(flag) => spelled_flag(alloc, flag),
+        Value::Number(number) => spelled_number(alloc, number),
+        Value::At(place) => spelled_place(alloc, place),
     }
 }
 
 /// `yes` or `no`.
-pub fn spelled_flag(alloc: Global, flag: bool) -> Result<String, AllocError> {
-    spelled_value(alloc, Value::Flag(flag))
+pub fn spelled_flag(alloc: Global, flag: bool) -> Result<String, Fail> {
+    spelled_word(alloc, if flag { "yes" } else { "no" })
+}
+
+/// A number in decimal.
+pub fn spelled_number(alloc: Global, number: u64) -> Result<String, Fail> {
+    Ok(format!(in alloc; "{number}")?)
+}
+
+fn spelled_place(alloc: Global, place: Place) -> Result<String, Fail> {
+    Ok(format!(in alloc; "{} {}", place.switch, place.port)?)
 }
 
 /// Links: the two places of each, with commas between them.
-pub fn spelled_links(alloc: Global, links: &[(Place, Place)]) -> Result<String, AllocError> {
+pub fn spelled_links(alloc: Global, links: &[(Place, Place)]) -> Result<String, Fail> {
     let mut text = String::new(alloc);
     for (from, to) in links {
         if !text.is_empty() {

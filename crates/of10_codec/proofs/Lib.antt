@@ -5,6 +5,7 @@ pub mod ListBack
 pub mod MatchBack
 pub mod Outputs
 pub mod PortLists
+pub mod RuleOrders
 pub mod Shown
 pub mod Spelling
 pub mod Steps

@@ -18,3 +18,8 @@ IsFaultOf reading.NoMemory b = bad_of b ≡ None
 abbrev pub IsTooLong : EncodeError → Message → Type 0
 IsTooLong (writing.TooLong n) m = (n ≡ length (written m)) × (most_bytes < n)
 IsTooLong writing.NoMemory m = length (written m) ≤ most_bytes
+
+-- memory ran out only where so many bytes pass the capacity
+abbrev pub LackedRoom : EncodeError → ℕ → ℕ → Type 0
+LackedRoom (writing.TooLong n) needed capacity = Unit {0}
+LackedRoom writing.NoMemory needed capacity = capacity < needed

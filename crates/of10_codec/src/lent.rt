@@ -1,7 +1,10 @@
 // Messages whose bytes are lent.
-ghost use Rattle.std.specs.Prelude.{◌≡◌, IfOk};
+ghost use Rattle.std.specs.Prelude.{◌≡◌, length, IfOk};
 ghost use Rattle.of10_codec.specs.Lent.{body_of, message_of};
+ghost use Rattle.of10_codec.specs.Written.{written};
 
+use crate::encoding::lengths::lent_len;
+use crate::header::HEADER_LEN;
 use crate::port_reading::read_ports;
 use crate::{Body, Message};
 use maple_base::{Actions, Bytes, Match, NoMemory, Port};
@@ -88,6 +91,13 @@ impl MessageRef<'_> {
             xid: self.xid,
             body: self.body.to_body(alloc)?,
         })
+    }
+
+    /// How many bytes `encode_ref` appends for the message, where they are not too many.
+    pub fn encoded_len(&self) -> u128
+        ensures { result ≡ length (written (message_of self.now)) }
+    {
+        HEADER_LEN as u128 + lent_len(&self.body)
     }
 }
 

@@ -1,4 +1,9 @@
 // Messages between a controller and a switch.
+ghost use Rattle.std.specs.Prelude.{◌≡◌, length};
+ghost use Rattle.of10_codec.specs.Written.{written};
+
+use crate::encoding::lengths::len_of;
+use crate::header::HEADER_LEN;
 use maple_base::{Actions, Bytes, Match, Port, Ports};
 
 /// A message (OpenFlow 1.0, 5.1) with its transaction id, which a reply repeats.
@@ -6,6 +11,15 @@ use maple_base::{Actions, Bytes, Match, Port, Ports};
 pub struct Message {
     pub xid: u32,
     pub body: Body,
+}
+
+impl Message {
+    /// How many bytes `encode` appends for the message, where they are not too many.
+    pub fn encoded_len(&self) -> u128
+        ensures { result ≡ length (written self.now) }
+    {
+        HEADER_LEN as u128 + len_of(&self.body)
+    }
 }
 
 /// What a message says.

@@ -21,11 +21,12 @@ pub data IsOpen (b : List ℕ) : Type 0 where
   NoHeader : nat_lt (length b) header_length ≡ true → IsOpen b
   NoEnd : nat_lt (length b) header_length ≡ false → head_fault b ≡ None → nat_lt (length b) (told b) ≡ true → IsOpen b
 
--- all bytes of the message that stands first are there, and its header shows no fault
-pub record IsThere (b : List ℕ) : Type 0 where
+-- all bytes of the message that stands first are there, and have no fault
+pub record IsSound (b : List ℕ) : Type 0 where
   pub header : nat_lt (length b) header_length ≡ false
   pub sound : head_fault b ≡ None
   pub whole : nat_lt (length b) (told b) ≡ false
+  pub faultless : bad_of (take (told b) b) ≡ None
 
 -- the message that stands first has this fault: its header, or else its bytes, of the length that the header tells
 pub data IsBad (bad : Bad) (b : List ℕ) : Type 0 where

@@ -5,7 +5,7 @@ use Rattle.of10_codec.specs.declared.fault.Bad.{Bad}
 use Rattle.of10_codec.specs.Messages.{Spelled}
 use Rattle.of10_stream.specs.declared.reassembly.Next.{Next}
 use Rattle.of10_stream.specs.declared.reassembly.Next.TheVariants as answers
-use Rattle.of10_stream.specs.Cut.{IsOpen, IsBad, IsThere}
+use Rattle.of10_stream.specs.Cut.{IsOpen, IsBad, IsSound}
 
 -- a stream: how many bytes its messages had so far, the bytes behind them, and the fault that was met, with its place
 pub record Stream : Type 0 where
@@ -15,6 +15,15 @@ pub record Stream : Type 0 where
 
 abbrev pub beginning : Stream
 beginning = record { place = 0; rest = []; broken = None }
+
+-- what is kept of a stream: itself, and how many bytes of messages that were taken, which are still stored ahead of its rest
+pub record Held : Type 0 where
+  pub stream : Stream
+  pub done : ℕ
+
+-- how many bytes are stored
+abbrev pub stored : Held → ℕ
+stored h = h.done + length h.stream.rest
 
 -- a piece is appended; behind a fault it is dropped
 abbrev pub appended : Option (ℕ × Bad) → List ℕ → Stream → Stream
@@ -37,7 +46,7 @@ abbrev pub Answers : Next → Stream → Stream → Type 0
 Answers (answers.Message m) old new = Takes m old new
 Answers answers.More old new = IsOpen old.rest × (new ≡ old)
 Answers (answers.Bad place bad) old new = (place ≡ old.place) × IsBad bad old.rest × (new ≡ record old { broken = Some (place, bad) })
-Answers answers.NoMemory old new = IsThere old.rest × (new ≡ old)
+Answers answers.NoMemory old new = IsSound old.rest × (new ≡ old)
 
 -- what the next answer is: behind a fault that fault, for ever
 abbrev pub AnswersBehind : Option (ℕ × Bad) → Next → Stream → Stream → Type 0

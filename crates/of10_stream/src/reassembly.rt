@@ -2,7 +2,7 @@
 ghost use Rattle.std.specs.Prelude.{◌≡◌, ◌≤◌, ◌+◌, ◌^◌, ◌<◌, nat_lt, None, OnOk, OnErr, length};
 ghost use Rattle.of10_stream.specs.declared.reassembly.Next.TheVariants as answers;
 ghost use Rattle.of10_stream.specs.Front.{broken_off, passed};
-ghost use Rattle.of10_stream.specs.Steps.{beginning, fed, Tells};
+ghost use Rattle.of10_stream.specs.Steps.{beginning, fed, stored, Tells};
 
 use crate::front::whole_len;
 use maple_base::NoMemory;
@@ -20,7 +20,7 @@ pub enum Next {
     /// The bytes from this place on, counted from the stream's first byte, spell no message: the
     /// first fault. It is answered for ever from then on.
     Bad { place: u64, bad: Bad },
-    /// Memory ran out for a message whose bytes are all there; nothing was taken.
+    /// Memory ran out for a message whose bytes are all there and have no fault; nothing was taken.
     NoMemory,
 }
 
@@ -38,11 +38,11 @@ pub struct Reassembly {
 
 impl Model for Reassembly {
     ghost use Rattle.std.specs.Prelude.{◌+◌, ◌^◌, ◌<◌, ◌≤◌, length, drop};
-    ghost use Rattle.of10_stream.specs.Steps.{Stream};
+    ghost use Rattle.of10_stream.specs.Steps.{Held};
 
-    ghost Value = { Stream };
+    ghost Value = { Held };
 
-    ghost view = { λ a. record { place = a.place; rest = drop a.start a.bytes.items; broken = a.broken } };
+    ghost view = { λ a. record { stream = record { place = a.place; rest = drop a.start a.bytes.items; broken = a.broken }; done = a.start } };
 
     ghost invariant = { λ a. (a.start ≤ length a.bytes.items) × (a.place + length (drop a.start a.bytes.items) < 2 ^ 64) };
 }
@@ -50,7 +50,7 @@ impl Model for Reassembly {
 impl Reassembly {
     /// A stream without bytes.
     pub fn new(alloc: Global) -> Reassembly
-        ensures { result ≡ beginning }
+        ensures { result ≡ record { stream = beginning; done = 0 } }
     {
         Reassembly {
             bytes: Vec::new(alloc),
@@ -66,24 +66,27 @@ impl Reassembly {
     ///
     /// `NoMemory`, also where the stream would have 2^64 bytes or more; it is as before.
     pub fn feed(&mut self, piece: &[u8]) -> Result<(), NoMemory>
-        ensures ok { OnOk result (self.new ≡ fed piece.now self.old) }
-        ensures err { OnErr result (self.new ≡ self.old) }
-        ensures whole { OnErr result (self.old.broken ≡ None) }
+        ensures ok { OnOk result (self.new.stream ≡ fed piece.now self.old.stream) }
+        ensures given_back { OnOk result (self.new.done ≤ length self.new.stream.rest) }
+        ensures err { OnErr result (self.new.stream ≡ self.old.stream) }
+        ensures whole { OnErr result (self.old.stream.broken ≡ None) }
+        ensures stored { OnErr result (stored self.new ≤ stored self.old) }
     {
+        self.give_back();
         if self.broken.is_some() {
             return Ok(());
         }
         if !self.has_places_for(piece) {
             return Err(NoMemory);
         }
-        self.give_back();
         self.bytes.extend_from_slice(piece)?;
         Ok(())
     }
 
     /// Takes the next message, once all its bytes were fed.
-    pub fn next(&mut self, alloc: Global) -> Next
-        ensures { Tells result self.old self.new }
+    pub fn next(&mut self) -> Next
+        ensures told { Tells result self.old.stream self.new.stream }
+        ensures stored { stored self.new ≤ stored self.old }
     {
         if let Some((place, bad)) = self.broken {
             return Next::Bad { place, bad };
@@ -94,7 +97,7 @@ impl Reassembly {
             Ok(None) => return Next::More,
             Err(bad) => return self.break_off(bad),
         };
-        match decode(alloc, &rest[..len]) {
+        match decode(*self.bytes.allocator(), &rest[..len]) {
             Ok(message) => {
                 self.pass(len);
                 Next::Message(message)
@@ -106,7 +109,7 @@ impl Reassembly {
 
     /// Each byte of the stream, this piece too, has a place below 2^64.
     fn has_places_for(&self, piece: &[u8]) -> bool
-        ensures { result ≡ nat_lt (self.now.place + length self.now.rest + length piece.now) (2 ^ 64) }
+        ensures { result ≡ nat_lt (self.now.stream.place + length self.now.stream.rest + length piece.now) (2 ^ 64) }
     {
         let held = (self.bytes.len() - self.start) as u64;
         piece.len() as u64 <= u64::MAX - self.place - held
@@ -115,7 +118,9 @@ impl Reassembly {
     /// Gives back the bytes that are done with, where they are half of all that is kept or more: so
     /// no more bytes are moved than were done with.
     fn give_back(&mut self)
-        ensures { self.new ≡ self.old }
+        ensures stream { self.new.stream ≡ self.old.stream }
+        ensures fewer { self.new.done ≤ self.old.done }
+        ensures most { self.new.done ≤ length self.new.stream.rest }
     {
         let len = self.bytes.len();
         if self.start >= len - self.start {
@@ -127,15 +132,16 @@ impl Reassembly {
 
     /// The bytes behind the messages that were taken.
     fn rest(&self) -> &[u8]
-        ensures { result.now ≡ self.now.rest }
+        ensures { result.now ≡ self.now.stream.rest }
     {
         &self.bytes[self.start..]
     }
 
     /// So many bytes are done with.
     fn pass(&mut self, len: usize)
-        requires { len ≤ length self.old.rest }
-        ensures { self.new ≡ passed len self.old }
+        requires { len ≤ length self.old.stream.rest }
+        ensures stream { self.new.stream ≡ passed len self.old.stream }
+        ensures stored { stored self.new ≡ stored self.old }
     {
         self.start += len;
         self.place += len as u64;
@@ -143,8 +149,9 @@ impl Reassembly {
 
     /// The first fault is met.
     fn break_off(&mut self, bad: Bad) -> Next
-        ensures answer { result ≡ answers.Bad self.old.place bad }
-        ensures after { self.new ≡ broken_off bad self.old }
+        ensures answer { result ≡ answers.Bad self.old.stream.place bad }
+        ensures after { self.new.stream ≡ broken_off bad self.old.stream }
+        ensures stored { stored self.new ≡ stored self.old }
     {
         self.broken = Some((self.place, bad));
         Next::Bad {

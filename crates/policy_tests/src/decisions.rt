@@ -1,9 +1,9 @@
 // What policies decide.
-use maple_base::{Cell, Decision, EnvNow, Key, NoMemory, Outcome, Place, Value, is_port};
+use maple_base::{Cell, Decision, EnvNow, Key, Outcome, Place, Value, is_port};
 use policy_eval::{eval, sent_out};
 use policy_lang::Policy;
 use policy_text::read_policy;
-use std::alloc::Global;
+use std::alloc::{AllocError, Global};
 use std::test::Fail;
 
 // Switches 1 to 300 in a line, each a hop by port 7 from the one before it. The host 5 is at port 4
@@ -55,25 +55,38 @@ fn tcp(port: u16) -> Key {
     }
 }
 
-fn push_decision(alloc: Global, decision: &Decision, shown: &mut String) -> Result<(), NoMemory> {
+fn push_decision(decision: &Decision, shown: &mut String) -> Result<(), AllocError> {
     match decision {
-        Decision::Drop => shown.push_str("drop")?,
-        Decision::Flood => shown.push_str("flood")?,
-        Decision::Out(actions) => {
-            shown.push_str("out")?;
-            for port in actions.items() {
-                shown.push_str(&format!(in alloc; " {port}")?)?;
-            }
-        }
-        Decision::Path(path) => {
-            shown.push_str("path")?;
-            for hop in path.items() {
-                let Place { switch, port } = *hop;
-                shown.push_str(&format!(in alloc; " {switch}:{port}")?)?;
-            }
-        }
+        Decision::Drop => shown.push_str("drop"),
+        Decision::Flood => shown.push_str("flood"),
+        Decision::Out(actions) => push_out(actions.items(), shown),
+        Decision::Path(path) => push_path(path.items(), shown),
+    }
+}
+
+fn push_out(ports: &[u16], shown: &mut String) -> Result<(), AllocError> {
+    shown.push_str("out")?;
+    for port in ports {
+        write!(shown, " {port}")?;
     }
     Ok(())
+}
+
+fn push_path(hops: &[Place], shown: &mut String) -> Result<(), AllocError> {
+    shown.push_str("path")?;
+    for hop in hops {
+        write!(shown, " {}:{}", hop.switch, hop.port)?;
+    }
+    Ok(())
+}
+
+fn shown_outcome(alloc: Global, outcome: &Outcome) -> Result<String, AllocError> {
+    let mut shown = String::new(alloc);
+    match outcome {
+        Outcome::Decided(decision) => push_decision(decision, &mut shown)?,
+        Outcome::Spent => shown.push_str("spent")?,
+    }
+    Ok(shown)
 }
 
 // What is decided of a packet to a port that comes to a switch, in 1 to 65,536 steps.
@@ -88,12 +101,8 @@ fn decided(
     if steps < 1 || 65_536 < steps || !key.valid() {
         return Err("a budget and a packet".into());
     }
-    let mut shown = String::new(alloc);
-    match eval(alloc, policy, steps, &Line, switch, &key)? {
-        Outcome::Decided(decision) => push_decision(alloc, &decision, &mut shown)?,
-        Outcome::Spent => shown.push_str("spent")?,
-    }
-    Ok(shown)
+    let outcome = eval(alloc, policy, steps, &Line, switch, &key)?;
+    Ok(shown_outcome(alloc, &outcome)?)
 }
 
 // Fails where a policy doesn't decide so in so many steps, or where it decides in one less.
@@ -105,149 +114,175 @@ fn check(
     want: &str,
 ) -> Result<(), Fail> {
     let policy = read_policy(alloc, text.as_bytes())?;
-    let got = decided(alloc, &policy, steps, arrival)?;
-    if got.as_str() != want {
-        return Err(Fail::new(format!(in alloc; "{got} of {text}")?));
-    }
+    check_decided(alloc, &policy, steps, arrival, want)?;
     if 1 < steps {
-        let short = decided(alloc, &policy, steps - 1, arrival)?;
-        if short.as_str() != "spent" {
-            return Err(Fail::new(format!(in alloc; "{short} in a step less of {text}")?));
-        }
+        check_decided(alloc, &policy, steps - 1, arrival, "spent")?;
     }
     Ok(())
 }
 
-// The switch that a packet comes to, and the port that it goes to; the steps that this takes.
+// Fails with what is decided in so many steps, where it isn't this.
+fn check_decided(
+    alloc: Global,
+    policy: &Policy,
+    steps: u32,
+    arrival: (u64, u16),
+    want: &str,
+) -> Result<(), Fail> {
+    let got = decided(alloc, policy, steps, arrival)?;
+    if got.as_str() == want {
+        Ok(())
+    } else {
+        Err(Fail::new(format!(in alloc; "{got} in {steps} steps, not {want}")?))
+    }
+}
+
+// A policy, the steps that it takes, the switch that a packet comes to with the port that it goes to, and what is decided.
+type Decided = (&'static str, u32, (u64, u16), &'static str);
+
+fn decided_rows() -> &'static [Decided] {
+    DECIDED
+}
+
+const SSH: &str = "policy { if pkt.tp_dst is 22 { drop; } out 2; }";
+
+const HOP: &str = "policy { if hop(4) as q { out q; } else { out 9; } }";
+
+const DECIDED: &[Decided] = &[
+    (SSH, 5, (1, 80), "out 2"),
+    (SSH, 4, (1, 22), "drop"),
+    ("policy { drop; }", 1, (1, 80), "drop"),
+    ("policy { flood; }", 1, (1, 80), "flood"),
+    ("policy { }", 1, (1, 80), "drop"),
+    // ports
+    ("policy { out 2, 2, 0, 65281, 3; }", 6, (1, 80), "out 2 3"),
+    ("policy { out 0; }", 2, (1, 80), "drop"),
+    // numbers
+    ("policy { out 40 + 2; }", 4, (1, 80), "out 42"),
+    ("policy { out 9 - 4; }", 4, (1, 80), "out 5"),
+    ("policy { out pkt.tp_dst; }", 2, (1, 80), "out 80"),
+    ("policy { out pkt.switch; }", 2, (12, 80), "out 12"),
+    // names
+    (
+        "policy { let p = at(6, 7); out p.switch, p.port; }",
+        7,
+        (1, 80),
+        "out 6 7",
+    ),
+    (
+        "policy { let x = 5; if 1 == 1 { let y = 6; x = 7; } out x; }",
+        12,
+        (1, 80),
+        "out 7",
+    ),
+    (
+        "policy { let x = 5; if 1 == 1 { let y = 6; x = 7; } let y = 8; out y; }",
+        14,
+        (1, 80),
+        "out 8",
+    ),
+    (
+        "policy { if host(5) as p { } let p = at(3, 6); out p.port; }",
+        9,
+        (1, 80),
+        "out 6",
+    ),
+    // loops
+    (
+        "policy { let n = 0; while n < 3 { n = n + 1; } out n; }",
+        29,
+        (1, 80),
+        "out 3",
+    ),
+    ("policy { while 1 == 1 { out 4; } }", 6, (1, 80), "out 4"),
+    ("policy { while 1 == 1 { } }", 1, (1, 80), "spent"),
+    ("policy { while 1 == 1 { } }", 2, (1, 80), "spent"),
+    ("policy { while 1 == 1 { } }", 100, (1, 80), "spent"),
+    ("policy { while 1 == 1 { } }", 65_536, (1, 80), "spent"),
+    // cells
+    (
+        "policy { if host(5) as p { out p.port; } else { out 9; } }",
+        5,
+        (1, 80),
+        "out 4",
+    ),
+    (
+        "policy { if host(6) as p { out p.port; } else { out 9; } }",
+        5,
+        (1, 80),
+        "out 9",
+    ),
+    (HOP, 5, (1, 80), "out 7"),
+    (HOP, 5, (300, 80), "out 9"),
+    (
+        "table t; policy { if t[1] as v { out v; } else { out 9; } }",
+        5,
+        (1, 80),
+        "out 80",
+    ),
+    (
+        "table t; policy { if t[2] as v { out v; } else { out 9; } }",
+        5,
+        (1, 80),
+        "out 9",
+    ),
+    // routes
+    ("policy { route at(1, 3); }", 4, (1, 80), "path 1:3"),
+    ("policy { route at(3, 5); }", 6, (1, 80), "path 1:7 2:7 3:5"),
+    ("policy { route at(400, 5); }", 6, (299, 80), "drop"),
+    ("policy { route at(3, 0); }", 4, (1, 80), "drop"),
+    ("policy { route at(3, 65281); }", 4, (1, 80), "drop"),
+    ("policy { route at(65, 5); }", 67, (1, 80), "drop"),
+];
+
 #[test]
 fn decisions_of_policies(rt: HostRuntime) -> Result<(), Fail> {
-    let ssh = "policy { if pkt.tp_dst is 22 { drop; } out 2; }";
-    let hop = "policy { if hop(4) as q { out q; } else { out 9; } }";
-    let rows = [
-        (ssh, 5, (1, 80), "out 2"),
-        (ssh, 4, (1, 22), "drop"),
-        ("policy { drop; }", 1, (1, 80), "drop"),
-        ("policy { flood; }", 1, (1, 80), "flood"),
-        ("policy { }", 1, (1, 80), "drop"),
-        // ports
-        ("policy { out 2, 2, 0, 65281, 3; }", 6, (1, 80), "out 2 3"),
-        ("policy { out 0; }", 2, (1, 80), "drop"),
-        // numbers
-        ("policy { out 40 + 2; }", 4, (1, 80), "out 42"),
-        ("policy { out 9 - 4; }", 4, (1, 80), "out 5"),
-        ("policy { out pkt.tp_dst; }", 2, (1, 80), "out 80"),
-        ("policy { out pkt.switch; }", 2, (12, 80), "out 12"),
-        // names
-        (
-            "policy { let p = at(6, 7); out p.switch, p.port; }",
-            7,
-            (1, 80),
-            "out 6 7",
-        ),
-        (
-            "policy { let x = 5; if 1 == 1 { let y = 6; x = 7; } out x; }",
-            12,
-            (1, 80),
-            "out 7",
-        ),
-        (
-            "policy { let x = 5; if 1 == 1 { let y = 6; x = 7; } let y = 8; out y; }",
-            14,
-            (1, 80),
-            "out 8",
-        ),
-        (
-            "policy { if host(5) as p { } let p = at(3, 6); out p.port; }",
-            9,
-            (1, 80),
-            "out 6",
-        ),
-        // loops
-        (
-            "policy { let n = 0; while n < 3 { n = n + 1; } out n; }",
-            29,
-            (1, 80),
-            "out 3",
-        ),
-        ("policy { while 1 == 1 { out 4; } }", 6, (1, 80), "out 4"),
-        ("policy { while 1 == 1 { } }", 1, (1, 80), "spent"),
-        ("policy { while 1 == 1 { } }", 2, (1, 80), "spent"),
-        ("policy { while 1 == 1 { } }", 100, (1, 80), "spent"),
-        ("policy { while 1 == 1 { } }", 65_536, (1, 80), "spent"),
-        // cells
-        (
-            "policy { if host(5) as p { out p.port; } else { out 9; } }",
-            5,
-            (1, 80),
-            "out 4",
-        ),
-        (
-            "policy { if host(6) as p { out p.port; } else { out 9; } }",
-            5,
-            (1, 80),
-            "out 9",
-        ),
-        (hop, 5, (1, 80), "out 7"),
-        (hop, 5, (300, 80), "out 9"),
-        (
-            "table t; policy { if t[1] as v { out v; } else { out 9; } }",
-            5,
-            (1, 80),
-            "out 80",
-        ),
-        (
-            "table t; policy { if t[2] as v { out v; } else { out 9; } }",
-            5,
-            (1, 80),
-            "out 9",
-        ),
-        // routes
-        ("policy { route at(1, 3); }", 4, (1, 80), "path 1:3"),
-        ("policy { route at(3, 5); }", 6, (1, 80), "path 1:7 2:7 3:5"),
-        ("policy { route at(400, 5); }", 6, (299, 80), "drop"),
-        ("policy { route at(3, 0); }", 4, (1, 80), "drop"),
-        ("policy { route at(3, 65281); }", 4, (1, 80), "drop"),
-        ("policy { route at(65, 5); }", 67, (1, 80), "drop"),
-    ];
-    for (text, steps, arrival, want) in rows {
-        check(rt.alloc(), text, steps, arrival, want)?;
+    for (text, steps, arrival, want) in decided_rows() {
+        check(rt.alloc(), text, *steps, *arrival, want)?;
     }
     Ok(())
 }
 
-// if TEST { out 1; } out 2;
+// A test of `if TEST { out 1; } out 2;`, the steps of that policy, and the port that it goes to.
+type Tested = (&'static str, u32, u16);
+
+fn tested_rows() -> &'static [Tested] {
+    TESTED
+}
+
+const TESTED: &[Tested] = &[
+    ("2 < 3", 6, 1),
+    ("3 < 3", 6, 2),
+    ("3 <= 3", 6, 1),
+    ("4 <= 3", 6, 2),
+    ("3 == 3", 6, 1),
+    ("3 == 4", 6, 2),
+    ("3 != 4", 6, 1),
+    ("3 != 3", 6, 2),
+    ("up(1, 2)", 6, 1),
+    ("up(1, 3)", 6, 2),
+    // sums and differences stop at the ends
+    ("18446744073709551615 + 1 == 18446744073709551615", 8, 1),
+    ("18446744073709551614 + 1 == 18446744073709551615", 8, 1),
+    ("3 - 5 == 0", 8, 1),
+    ("5 - 3 == 2", 8, 1),
+    // a left part may settle it
+    ("1 == 2 and 3 == 3", 7, 2),
+    ("1 == 1 and 3 == 3", 10, 1),
+    ("1 == 1 and 3 == 4", 10, 2),
+    ("1 == 1 or 3 == 4", 7, 1),
+    ("1 == 2 or 3 == 3", 10, 1),
+    ("1 == 2 or 3 == 4", 10, 2),
+    ("not 3 == 4", 7, 1),
+];
+
 #[test]
 fn answers_of_tests(rt: HostRuntime) -> Result<(), Fail> {
     let alloc = rt.alloc();
-    let rows = [
-        ("2 < 3", 6, 1),
-        ("3 < 3", 6, 2),
-        ("3 <= 3", 6, 1),
-        ("4 <= 3", 6, 2),
-        ("3 == 3", 6, 1),
-        ("3 == 4", 6, 2),
-        ("3 != 4", 6, 1),
-        ("3 != 3", 6, 2),
-        ("up(1, 2)", 6, 1),
-        ("up(1, 3)", 6, 2),
-        // sums and differences stop at the ends
-        ("18446744073709551615 + 1 == 18446744073709551615", 8, 1),
-        ("18446744073709551614 + 1 == 18446744073709551615", 8, 1),
-        ("3 - 5 == 0", 8, 1),
-        ("5 - 3 == 2", 8, 1),
-        // a left part may settle it
-        ("1 == 2 and 3 == 3", 7, 2),
-        ("1 == 1 and 3 == 3", 10, 1),
-        ("1 == 1 and 3 == 4", 10, 2),
-        ("1 == 1 or 3 == 4", 7, 1),
-        ("1 == 2 or 3 == 3", 10, 1),
-        ("1 == 2 or 3 == 4", 10, 2),
-        ("not 3 == 4", 7, 1),
-    ];
-    for (asked, steps, port) in rows {
+    for (asked, steps, port) in tested_rows() {
         let text = format!(in alloc; "policy {{ if {asked} {{ out 1; }} out 2; }}")?;
         let want = format!(in alloc; "out {port}")?;
-        check(alloc, &text, steps, (1, 80), &want)?;
+        check(alloc, &text, *steps, (1, 80), &want)?;
     }
     Ok(())
 }
@@ -258,7 +293,7 @@ fn routes_over_64_switches(rt: HostRuntime) -> Result<(), Fail> {
     let mut want = String::new(alloc);
     want.push_str("path")?;
     for switch in 1..64 {
-        want.push_str(&format!(in alloc; " {switch}:7")?)?;
+        write!(want, " {switch}:7")?;
     }
     want.push_str(" 64:5")?;
     check(alloc, "policy { route at(64, 5); }", 67, (1, 80), &want)
@@ -269,26 +304,39 @@ fn sent(alloc: Global, numbers: &[u64]) -> Result<String, Fail> {
     if numbers.len() > 16 {
         return Err("at most 16 numbers".into());
     }
+    let decision = sent_out(alloc, numbers)?;
+    shown_decision(alloc, &decision)
+}
+
+fn shown_decision(alloc: Global, decision: &Decision) -> Result<String, Fail> {
     let mut shown = String::new(alloc);
-    push_decision(alloc, &sent_out(alloc, numbers)?, &mut shown)?;
+    push_decision(decision, &mut shown)?;
     Ok(shown)
 }
 
+// The numbers of an `out`, and what it decides.
+type Sent = (&'static [u64], &'static str);
+
+fn sent_rows() -> &'static [Sent] {
+    SENT
+}
+
+const SENT: &[Sent] = &[
+    (&[2, 2, 0, 65_281, 3], "out 2 3"),
+    (&[0], "drop"),
+    (&[], "drop"),
+    (&[65_280], "out 65280"),
+    (&[65_281], "drop"),
+    (&[65_537], "drop"),
+];
+
 #[test]
 fn ports_of_outs(rt: HostRuntime) -> Result<(), Fail> {
-    let rows: [(&[u64], &str); 6] = [
-        (&[2, 2, 0, 65_281, 3], "out 2 3"),
-        (&[0], "drop"),
-        (&[], "drop"),
-        (&[65_280], "out 65280"),
-        (&[65_281], "drop"),
-        (&[65_537], "drop"),
-    ];
-    for (numbers, want) in rows {
+    for (numbers, want) in sent_rows() {
         let got = sent(rt.alloc(), numbers)?;
-        assert_eq!(rt; got.as_str(), want);
+        assert_eq!(rt; got.as_str(), *want);
         let is_sent = numbers.iter().any(|number| is_port(*number));
-        assert_eq!(rt; is_sent, want != "drop");
+        assert_eq!(rt; is_sent, *want != "drop");
     }
     Ok(())
 }

@@ -43,29 +43,45 @@ fn fault_with<P: SiteOrder>(
     }
 }
 
+// The first fault of names in the order of the tree, and where all stands at one place.
+fn faults_with(alloc: Global, text: &str, names: &str) -> Result<((u32, u8), (u32, u8)), Fail> {
+    let policy = read_policy(alloc, text.as_bytes())?;
+    let tables = tables_of(alloc, names)?;
+    let ordered = fault_with(alloc, &policy, &tables, &TreeOrder)?;
+    let at_one = fault_with(alloc, &policy, &tables, &OnePlace)?;
+    Ok((ordered, at_one))
+}
+
+// A policy, the tables in place of its own, and the first fault in either order.
+type Row = (&'static str, &'static str, (u32, u8), (u32, u8));
+
+fn rows() -> &'static [Row] {
+    ROWS
+}
+
+const BOTH: &str = "table t; policy { let x = 1; if t[2] as y { } }";
+
+const TWO: &str = "table t; table u; policy { if t[1] as x { } if u[2] as y { } }";
+
+const ROWS: &[Row] = &[
+    ("policy { out 1; }", "", (0, 0), (0, 0)),
+    (BOTH, "t", (0, 0), (0, 0)),
+    (BOTH, "x", (1, 5), (4, 4)),
+    (BOTH, "uu", (0, 5), (4, 4)),
+    (BOTH, "tt", (0, 5), (0, 5)),
+    (TWO, "", (2, 4), (2, 4)),
+    (TWO, "t", (5, 4), (5, 4)),
+];
+
 // With other tables than its own: in the order of the tree, and where all stands at one place, so that
 // the kind decides, and then the node.
 #[test]
 fn faults_of_names_by_places(rt: HostRuntime) -> Result<(), Fail> {
     let alloc = rt.alloc();
-    let both = "table t; policy { let x = 1; if t[2] as y { } }";
-    let two = "table t; table u; policy { if t[1] as x { } if u[2] as y { } }";
-    let rows = [
-        ("policy { out 1; }", "", (0, 0), (0, 0)),
-        (both, "t", (0, 0), (0, 0)),
-        (both, "x", (1, 5), (4, 4)),
-        (both, "uu", (0, 5), (4, 4)),
-        (both, "tt", (0, 5), (0, 5)),
-        (two, "", (2, 4), (2, 4)),
-        (two, "t", (5, 4), (5, 4)),
-    ];
-    for (text, names, ordered, at_one) in rows {
-        let policy = read_policy(alloc, text.as_bytes())?;
-        let tables = tables_of(alloc, names)?;
-        let first = fault_with(alloc, &policy, &tables, &TreeOrder)?;
-        assert_eq!(rt; first, ordered, "{text} with {names}");
-        let first = fault_with(alloc, &policy, &tables, &OnePlace)?;
-        assert_eq!(rt; first, at_one, "{text} with {names} at one place");
+    for (text, names, ordered, at_one) in rows() {
+        let (first, first_at_one) = faults_with(alloc, text, names)?;
+        assert_eq!(rt; first, *ordered, "{text} with {names}");
+        assert_eq!(rt; first_at_one, *at_one, "{text} with {names} at one place");
     }
     Ok(())
 }
@@ -87,49 +103,83 @@ fn named_behind(
     Ok((held, scope.named(&a), scope.named(&b)))
 }
 
+// What a head asks for.
+#[derive(Clone, Copy)]
+enum Head {
+    Host,
+    Hop,
+    Number,
+}
+
+fn found_of(head: Head, value: Value) -> Option<Datum> {
+    match head {
+        Head::Host => place_of_host(value),
+        Head::Hop => port_of_hop(value),
+        Head::Number => number_in_table(value),
+    }
+}
+
+// A head, the value of its cell, how many names are kept, and whether it holds, with what `a` and `b` stand for.
+type Named = (Head, Value, usize, (bool, Datum, Datum));
+
+fn named_rows() -> &'static [Named] {
+    NAMED
+}
+
+const PLACE: Place = Place { switch: 3, port: 6 };
+
+const FOUR: Datum = Datum::Number(4);
+
+const NAMED: &[Named] = &[
+    (
+        Head::Host,
+        Value::At(PLACE),
+        3,
+        (true, FOUR, Datum::At(PLACE)),
+    ),
+    (
+        Head::Hop,
+        Value::At(PLACE),
+        3,
+        (true, FOUR, Datum::Number(6)),
+    ),
+    (
+        Head::Number,
+        Value::Number(80),
+        3,
+        (true, FOUR, Datum::Number(80)),
+    ),
+    (
+        Head::Number,
+        Value::Nothing,
+        3,
+        (false, FOUR, Datum::Number(2)),
+    ),
+    (
+        Head::Hop,
+        Value::At(PLACE),
+        2,
+        (true, FOUR, Datum::Number(2)),
+    ),
+    (
+        Head::Host,
+        Value::Nothing,
+        1,
+        (false, FOUR, Datum::Number(0)),
+    ),
+    (
+        Head::Host,
+        Value::Nothing,
+        0,
+        (false, Datum::Number(0), Datum::Number(0)),
+    ),
+];
+
 #[test]
 fn names_in_force(rt: HostRuntime) -> Result<(), Fail> {
-    let place = Place { switch: 3, port: 6 };
-    let four = Datum::Number(4);
-    let rows = [
-        (
-            place_of_host(Value::At(place)),
-            3,
-            (true, four, Datum::At(place)),
-        ),
-        (
-            port_of_hop(Value::At(place)),
-            3,
-            (true, four, Datum::Number(6)),
-        ),
-        (
-            number_in_table(Value::Number(80)),
-            3,
-            (true, four, Datum::Number(80)),
-        ),
-        (
-            number_in_table(Value::Nothing),
-            3,
-            (false, four, Datum::Number(2)),
-        ),
-        (
-            port_of_hop(Value::At(place)),
-            2,
-            (true, four, Datum::Number(2)),
-        ),
-        (
-            place_of_host(Value::Nothing),
-            1,
-            (false, four, Datum::Number(0)),
-        ),
-        (
-            place_of_host(Value::Nothing),
-            0,
-            (false, Datum::Number(0), Datum::Number(0)),
-        ),
-    ];
-    for (found, kept, want) in rows {
-        assert_eq!(rt; named_behind(rt.alloc(), found, kept)?, want, "{kept}");
+    for (head, value, kept, want) in named_rows() {
+        let found = found_of(*head, *value);
+        assert_eq!(rt; named_behind(rt.alloc(), found, *kept)?, *want, "{kept}");
     }
     Ok(())
 }

@@ -1,2 +1,4 @@
--- A reader must believe Report, the spelling of each line.
+-- A reader must believe Report, the spelling of each line, and Short, the lines for which room is kept. Sheets serves private contracts alone.
 pub mod Report
+pub mod Sheets
+pub mod Short

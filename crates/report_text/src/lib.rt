@@ -3,7 +3,10 @@
 
 mod line;
 mod match_text;
+mod shapes;
+mod sheet;
+mod spelling;
 mod writing;
 
-pub use line::{Learnt, Line, PolicyRefusal, ScriptRefusal, Why};
-pub use writing::write_line;
+pub use line::{Learnt, Line, PolicyRefusal, SHORT_LINE, ScriptRefusal, Why};
+pub use writing::{line_len, write_line};

@@ -1,6 +1,5 @@
 // The lines of a report.
 use maple_base::{Actions, Decision, Match, PolicyFault, UpdateRefused};
-use std::fmt;
 
 /// A line of a report. Devices are named by their places among the devices, from 1 on; switches by
 /// their datapath ids.
@@ -136,6 +135,9 @@ pub enum Line {
     End,
 }
 
+/// The most bytes of a line for which room is kept: `ready`, `error`, `quiet` and `closed`.
+pub const SHORT_LINE: usize = 48;
+
 /// Why a connection ended.
 #[derive(Clone, Copy, Debug, PartialEq, Eq)]
 pub enum Why {
@@ -197,76 +199,4 @@ pub enum Learnt {
     Rows { need: u64, capacity: u32 },
     /// `unlearned quiet`: nothing, since the switch gets no more rules.
     Quiet,
-}
-
-#[tactic(auto, unfolding(crate::specs::Report::spelled_why))]
-impl fmt::Display for Why {
-    ghost use Rattle.std.specs.Prelude.{Some};
-    ghost use Rattle.report_text.specs.Report.{spelled_why};
-
-    ghost output = { λ why. Some (spelled_why why) };
-
-    fn fmt<W: fmt::Write>(&self, f: &mut fmt::Formatter<W>) -> fmt::Result {
-        match self {
-            Why::Bad { place, cause } => write!(f, "bad {place} {cause}"),
-            Why::Version => write!(f, "version"),
-            Why::Twice(dpid) => write!(f, "twice {dpid}"),
-            Why::Full => write!(f, "full"),
-            Why::Clear => write!(f, "clear"),
-            Why::Early(xid) => write!(f, "early {xid}"),
-            Why::Xids => write!(f, "xids"),
-            Why::Link => write!(f, "link"),
-            Why::Fault => write!(f, "fault"),
-        }
-    }
-}
-
-#[tactic(auto, unfolding(crate::specs::Report::spelled_policy))]
-impl fmt::Display for PolicyRefusal {
-    ghost use Rattle.std.specs.Prelude.{Some};
-    ghost use Rattle.report_text.specs.Report.{spelled_policy};
-
-    ghost output = { λ kind. Some (spelled_policy kind) };
-
-    fn fmt<W: fmt::Write>(&self, f: &mut fmt::Formatter<W>) -> fmt::Result {
-        match self {
-            PolicyRefusal::Fault(fault) => write!(f, "{fault}"),
-            PolicyRefusal::Later => write!(f, "Later"),
-        }
-    }
-}
-
-#[tactic(auto, unfolding(crate::specs::Report::spelled_script))]
-impl fmt::Display for ScriptRefusal {
-    ghost use Rattle.std.specs.Prelude.{Some};
-    ghost use Rattle.report_text.specs.Report.{spelled_script};
-
-    ghost output = { λ kind. Some (spelled_script kind) };
-
-    fn fmt<W: fmt::Write>(&self, f: &mut fmt::Formatter<W>) -> fmt::Result {
-        match self {
-            ScriptRefusal::Grammar => write!(f, "Grammar"),
-            ScriptRefusal::TooLong => write!(f, "TooLong"),
-            ScriptRefusal::Switch => write!(f, "Switch"),
-            ScriptRefusal::Later => write!(f, "Later"),
-        }
-    }
-}
-
-#[tactic(auto, unfolding(crate::specs::Report::spelled_learnt))]
-impl fmt::Display for Learnt {
-    ghost use Rattle.std.specs.Prelude.{Some};
-    ghost use Rattle.report_text.specs.Report.{spelled_learnt};
-
-    ghost output = { λ learnt. Some (spelled_learnt learnt) };
-
-    fn fmt<W: fmt::Write>(&self, f: &mut fmt::Formatter<W>) -> fmt::Result {
-        match self {
-            Learnt::Learned => write!(f, "learned"),
-            Learnt::Known => write!(f, "known"),
-            Learnt::Levels { need, limit } => write!(f, "unlearned levels {need} {limit}"),
-            Learnt::Rows { need, capacity } => write!(f, "unlearned rows {need} {capacity}"),
-            Learnt::Quiet => write!(f, "unlearned quiet"),
-        }
-    }
 }

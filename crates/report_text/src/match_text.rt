@@ -1,20 +1,21 @@
 // The text of a match in a report.
-ghost use Rattle.std.specs.Prelude.{◌≡◌, ◌<◌, ◌++◌, if◌then◌else◌, [], map, string_bytes, decimal, OnOk, codes};
+ghost use Rattle.std.specs.Prelude.{◌≡◌, ◌<◌, ◌++◌, ◌∷◌, if◌then◌else◌, [], map, decimal, codes};
 ghost use Rattle.std.specs.Int.{bytes_high_first};
-ghost use Rattle.report_text.specs.Report.{behind, digit, pair, ethernet, dotted, four_digits, spelled_value, spelled_field, spelled_match, fixed_texts, joined, is_free};
+ghost use Rattle.report_text.specs.Report.{◌&◌, behind, digit, pair, ethernet, dotted, four_digits, spelled_value, spelled_field, spelled_match, fixed_texts, joined, is_free};
 
+use crate::shapes::{number, one};
+use crate::sheet::Sheet;
 use maple_base::{Field, Match};
-use std::alloc::AllocError;
 
-/// Appends a match: `name=value` of each fixed field, joined by commas, or `any`.
+/// A match: `name=value` of each fixed field, joined by commas, or `any`.
 #[tactic(auto, unfolding(crate::specs::Report::spelled_match))]
-pub fn push_match(text: &mut String, of: &Match) -> Result<(), AllocError>
-    ensures { OnOk result (string_bytes text.new ≡ string_bytes text.old ++ spelled_match of.now) }
+pub fn match_text<S: Sheet>(of: &Match, sheet: &mut S)
+    ensures { S.takes sheet.old (spelled_match of.now) sheet.new }
 {
     if fixes_none(&Field::ALL, of) {
-        text.push_str("any")
+        sheet.text(b"any");
     } else {
-        push_fixed(text, &Field::ALL, of)
+        fixed_fields(&Field::ALL, of, sheet);
     }
 }
 
@@ -29,49 +30,52 @@ fn fixes_none(fields: &[Field], of: &Match) -> bool
     true
 }
 
-fn push_fixed(text: &mut String, fields: &[Field], of: &Match) -> Result<(), AllocError>
-    ensures { OnOk result (string_bytes text.new ≡ string_bytes text.old ++ joined (codes ",") (fixed_texts of.now fields.now)) }
+fn fixed_fields<S: Sheet>(fields: &[Field], of: &Match, sheet: &mut S)
+    ensures { S.takes sheet.old (joined (codes ",") (fixed_texts of.now fields.now)) sheet.new }
 {
     let mut is_first = true;
     for field in fields {
-        if let Some(value) = of.fixed(*field) {
-            push_comma_unless(text, is_first)?;
-            push_field(text, *field, value)?;
-            is_first = false;
+        match of.fixed(*field) {
+            None => {}
+            Some(value) => {
+                comma_unless(is_first, sheet);
+                field_text(*field, value, sheet);
+                is_first = false;
+            }
         }
     }
-    Ok(())
 }
 
-fn push_comma_unless(text: &mut String, is_first: bool) -> Result<(), AllocError>
-    ensures { OnOk result (string_bytes text.new ≡ string_bytes text.old ++ (if is_first then [] else codes ",")) }
+fn comma_unless<S: Sheet>(is_first: bool, sheet: &mut S)
+    ensures { S.takes sheet.old (if is_first then [] else codes ",") sheet.new }
 {
-    if is_first { Ok(()) } else { text.push_str(",") }
+    let comma: &[u8] = if is_first { b"" } else { b"," };
+    sheet.text(comma);
 }
 
-fn push_field(text: &mut String, field: Field, value: u64) -> Result<(), AllocError>
-    ensures { OnOk result (string_bytes text.new ≡ string_bytes text.old ++ spelled_field field value) }
+fn field_text<S: Sheet>(field: Field, value: u64, sheet: &mut S)
+    ensures { S.takes sheet.old (spelled_field field value) sheet.new }
 {
-    text.push_str(field.name())?;
-    text.push_str("=")?;
-    push_value(text, field, value)
+    sheet.text(field.name().as_bytes());
+    sheet.text(b"=");
+    value_text(field, value, sheet);
 }
 
-fn push_value(text: &mut String, field: Field, value: u64) -> Result<(), AllocError>
-    ensures { OnOk result (string_bytes text.new ≡ string_bytes text.old ++ spelled_value field value) }
+fn value_text<S: Sheet>(field: Field, value: u64, sheet: &mut S)
+    ensures { S.takes sheet.old (spelled_value field value) sheet.new }
 {
     match field {
-        Field::DlSrc | Field::DlDst => push_ethernet(text, value),
-        Field::DlType => push_four_digits(text, value),
-        Field::NwSrc | Field::NwDst => push_dotted(text, value),
-        _ => write!(text, "{value}"),
+        Field::DlSrc | Field::DlDst => ethernet_text(value, sheet),
+        Field::DlType => four_digits_text(value, sheet),
+        Field::NwSrc | Field::NwDst => dotted_text(value, sheet),
+        _ => number(value, sheet),
     }
 }
 
-fn push_ethernet(text: &mut String, address: u64) -> Result<(), AllocError>
-    ensures { OnOk result (string_bytes text.new ≡ string_bytes text.old ++ ethernet address) }
+fn ethernet_text<S: Sheet>(address: u64, sheet: &mut S)
+    ensures { S.takes sheet.old (ethernet address) sheet.new }
 {
-    push_pairs(text, &low_six(address))
+    sheet.text(&six_pairs(low_six(address)));
 }
 
 fn low_six(number: u64) -> [u8; 6]
@@ -81,59 +85,59 @@ fn low_six(number: u64) -> [u8; 6]
     [a, b, c, d, e, f]
 }
 
-fn push_pairs(text: &mut String, bytes: &[u8]) -> Result<(), AllocError>
-    ensures { OnOk result (string_bytes text.new ≡ string_bytes text.old ++ joined (codes ":") (map pair bytes.now)) }
+fn six_pairs(bytes: [u8; 6]) -> [u8; 17]
+    ensures { result ≡ joined (codes ":") (map pair bytes) }
 {
-    match bytes {
-        [] => Ok(()),
-        [byte, further @ ..] => {
-            push_pair(text, *byte)?;
-            push_further_pairs(text, further)
-        }
-    }
+    let [a, b, c, d, e, f] = bytes;
+    let [a1, a0] = pair(a);
+    let [b1, b0] = pair(b);
+    let [c1, c0] = pair(c);
+    let [d1, d0] = pair(d);
+    let [e1, e0] = pair(e);
+    let [f1, f0] = pair(f);
+    [
+        a1, a0, b':', b1, b0, b':', c1, c0, b':', d1, d0, b':', e1, e0, b':', f1, f0,
+    ]
 }
 
-fn push_further_pairs(text: &mut String, bytes: &[u8]) -> Result<(), AllocError>
-    ensures { OnOk result (string_bytes text.new ≡ string_bytes text.old ++ behind (codes ":") (map pair bytes.now)) }
+fn pair(byte: u8) -> [u8; 2]
+    ensures { result ≡ pair byte }
 {
-    for byte in bytes {
-        text.push_str(":")?;
-        push_pair(text, *byte)?;
-    }
-    Ok(())
+    [digit(byte / 16), digit(byte % 16)]
 }
 
-fn push_pair(text: &mut String, byte: u8) -> Result<(), AllocError>
-    ensures { OnOk result (string_bytes text.new ≡ string_bytes text.old ++ pair byte) }
-{
-    text.push(hex_digit(byte / 16))?;
-    text.push(hex_digit(byte % 16))
-}
-
-fn hex_digit(worth: u8) -> char
+fn digit(worth: u8) -> u8
     requires { worth < 16 }
-    ensures digit { result ≡ digit worth }
-    ensures ascii { result < 128 }
+    ensures { result ≡ digit worth }
 {
     if worth < 10 {
-        (b'0' + worth) as char
+        b'0' + worth
     } else {
-        (b'a' - 10 + worth) as char
+        b'a' - 10 + worth
     }
 }
 
-fn push_dotted(text: &mut String, address: u64) -> Result<(), AllocError>
-    ensures { OnOk result (string_bytes text.new ≡ string_bytes text.old ++ dotted address) }
+fn dotted_text<S: Sheet>(address: u64, sheet: &mut S)
+    ensures { S.takes sheet.old (dotted address) sheet.new }
 {
     let [_, _, _, _, a, b, c, d] = address.to_be_bytes();
-    write!(text, "{a}.{b}.{c}.{d}")
+    four_numbers(a, b, c, d, sheet);
 }
 
-fn push_four_digits(text: &mut String, number: u64) -> Result<(), AllocError>
-    ensures { OnOk result (string_bytes text.new ≡ string_bytes text.old ++ four_digits number) }
+fn four_numbers<S: Sheet>(a: u8, b: u8, c: u8, d: u8, sheet: &mut S)
+    ensures { S.takes sheet.old (decimal a & codes "." & decimal b & codes "." & decimal c & codes "." & decimal d) sheet.new }
+{
+    one(b"", a as u64, b".", sheet);
+    one(b"", b as u64, b".", sheet);
+    one(b"", c as u64, b".", sheet);
+    number(d as u64, sheet);
+}
+
+fn four_digits_text<S: Sheet>(number: u64, sheet: &mut S)
+    ensures { S.takes sheet.old (four_digits number) sheet.new }
 {
     let [_, _, _, _, _, _, high, low] = number.to_be_bytes();
-    text.push_str("0x")?;
-    push_pair(text, high)?;
-    push_pair(text, low)
+    let [h1, h0] = pair(high);
+    let [l1, l0] = pair(low);
+    sheet.text(&[b'0', b'x', h1, h0, l1, l0]);
 }

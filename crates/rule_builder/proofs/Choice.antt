@@ -17,7 +17,8 @@ use Rattle.trace_tree.specs.declared.node.Trace.{Trace}
 use Rattle.trace_tree.specs.declared.node.Leaf.{Leaf}
 use Rattle.maple_base.specs.Choice.{stands_above, fits, MayChoose}
 use Rattle.rule_builder.specs.Rules.{with_barrier, levels_of, fact, barrier, facts_of, facts_in, barrier_behind, barriers_of, barriers_in, fact_actions, rules_of}
-use Rattle.rule_builder.specs.Chosen.{fixed_by, IsBarrier, IsFactOf, HoldsRules, Shields, IsFoundRule, IsFoundOrBarrier, ChoiceLaw, TableLaw}
+use Rattle.rule_builder.specs.Chosen.{fixed_by, IsFactOf, HoldsRules, list_of, IsFoundRule, IsFoundOrBarrier, ChoiceLaw, TableLaw}
+use Rattle.flow_table.specs.Shielding.{IsBarrier, IsShieldedBy}
 use Rattle.rule_builder.proofs.Leading.{fact_at, fact_in, IsFresh, AreFresh}
 use Rattle.rule_builder.proofs.Paths.{fact_match, match_found}
 use Rattle.rule_builder.proofs.Fresh.{grown_fresh}
@@ -305,7 +306,7 @@ module _ (traces : List Trace) (k : Key) (admitted : AreAdmitted Empty traces) (
       as_barrier None e (Some x) f c = let g = ap (option_map actions) e ∙ f in absurd (cc)
       as_barrier (Some r') e (Some x) f c = absurd (no_barrier table r r' holds may (sym e) c)
 
-  between_choice : (table : List Rule) (r : Rule) → Shields tree table → MayChoose table k r → IsFoundOrBarrier traces k r
+  between_choice : (table : List Rule) (r : Rule) → IsShieldedBy (list_of tree) table → MayChoose table k r → IsFoundOrBarrier traces k r
   between_choice table r shields may =
       ⊎_elim (λ b. as_barrier b (found traces k))
       (λ c. as_fact (found traces k) (as_found r (IsBarrier r) (chosen_fact r may.fitting c (λ q h g. may.top q (shields.barriers q h) g)) c (found traces k) here_does here_fixes))

@@ -1,7 +1,6 @@
 -- The promise on the rules of a tree: what a switch may choose is the rule of the trace that the key finds.
 use Rattle.std.specs.Prelude.{◌≡◌, ◌⊎◌, ◌++◌, true, false, List, [], ◌∷◌, Some, None, Contains, MatchOption, IfSome}
 use Rattle.std.specs.List.Sorted.{IsPermutation}
-use Rattle.maple_base.specs.Ports.{controller_port}
 use Rattle.maple_base.specs.declared.key.Key.{Key}
 use Rattle.maple_base.specs.declared.key.Match.{Match}
 use Rattle.maple_base.specs.declared.decision.Rule.{Rule}
@@ -9,6 +8,8 @@ use Rattle.maple_base.specs.declared.items.Item.{Item}
 use Rattle.maple_base.specs.declared.items.Item.TheVariants.{Read, Test}
 use Rattle.maple_base.specs.Keys.{fix, anything}
 use Rattle.maple_base.specs.Choice.{fits, MayChoose}
+use Rattle.maple_base.specs.RuleLists.{Rules}
+use Rattle.flow_table.specs.Shielding.{IsBarrier, IsShieldedBy}
 use Rattle.trace_tree.specs.declared.node.Trace.{Trace}
 use Rattle.trace_tree.specs.Shape.{Shape, Empty}
 use Rattle.trace_tree.specs.Growth.{found, scratch, AreAdmitted, AllAskOnce}
@@ -27,19 +28,14 @@ pub record IsFactOf (t : Shape) (x : Trace) (r : Rule) : Type 0 where
   pub fixes : r.of ≡ fixed_by x.items anything
   pub does : r.actions ≡ fact_actions x.decision
 
--- a rule that sends to the controller
-abbrev pub IsBarrier : Rule → Type 0
-IsBarrier r = r.actions ≡ controller_port ∷ []
-
 -- a table of the tree's rules, in any order
 pub record HoldsRules (t : Shape) (table : List Rule) : Type 0 where
   pub all : (r : Rule) → Contains (rules_of t) r → Contains table r
   pub only : (r : Rule) → Contains table r → Contains (rules_of t) r
 
--- a table of all barriers of the tree, further barriers, and of the facts only some
-pub record Shields (t : Shape) (table : List Rule) : Type 0 where
-  pub barriers : (b : Rule) → Contains (barriers_of t anything 0) b → Contains table b
-  pub rest : (r : Rule) → Contains table r → IsBarrier r ⊎ Contains (facts_of t anything 0) r
+-- the rules of the tree as two lists
+abbrev pub list_of : Shape → Rules
+list_of t = record { facts = facts_of t anything 0; barriers = barriers_of t anything 0 }
 
 -- the tree's rules: what may be chosen is the found trace's fact, and a barrier where none is found
 abbrev pub IsFoundRule : List Trace → Key → Rule → Type 0
@@ -53,7 +49,7 @@ IsFoundOrBarrier traces k r = MatchOption (found traces k) (IsBarrier r) (λ x. 
 -- what holds of a list of traces and a key
 pub record ChoosesRight (traces : List Trace) (k : Key) : Type 0 where
   pub exact : (table : List Rule) (r : Rule) → HoldsRules (scratch traces) table → MayChoose table k r → IsFoundRule traces k r
-  pub between : (table : List Rule) (r : Rule) → Shields (scratch traces) table → MayChoose table k r → IsFoundOrBarrier traces k r
+  pub between : (table : List Rule) (r : Rule) → IsShieldedBy (list_of (scratch traces)) table → MayChoose table k r → IsFoundOrBarrier traces k r
   -- where a trace is found some rule may be chosen
   pub some : (table : List Rule) → HoldsRules (scratch traces) table → IfSome (found traces k) (λ _. (r : Rule) × MayChoose table k r)
   -- and no other

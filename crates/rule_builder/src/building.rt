@@ -3,7 +3,8 @@ ghost use Rattle.std.specs.Option.{option_copied};
 ghost use Rattle.trace_tree.specs.declared.node.Leaf.{Leaf as LeafData};
 ghost use Rattle.trace_tree.specs.Growth.{insert, admits, child, IsOrdered};
 ghost use Rattle.std.specs.Prelude.{IsTrue, nat_lt, length, ◌≡◌, ◌+◌, ◌^◌, ◌<◌, ◌≤◌, [], ◌∷◌, ◌++◌, IfOk, OnOk};
-ghost use Rattle.std.specs.List.Sorted.{IsPermutation, IsNonDecreasingBy};
+ghost use Rattle.std.specs.List.Sorted.{IsPermutation};
+ghost use Rattle.of10_codec.specs.RuleOrder.{AreInOrder};
 ghost use Rattle.maple_base.specs.Keys.{anything};
 ghost use Rattle.trace_tree.specs.TreeOf.{tree_of, branches, branches_of, child_trees};
 ghost use Rattle.trace_tree.specs.Bounds.{IsWithin, AreWithin};
@@ -17,6 +18,7 @@ ghost use Rattle.rule_builder.specs.Laws.{NoneExact, NoneLower, LevelsLaw, Below
 use maple_base::{
     Actions, CONTROLLER_PORT, Decision, Field, Item, Items, Match, NoMemory, Rule, RuleList,
 };
+use of10_codec::in_order;
 use std::alloc::Global;
 use trace_tree::{Leaf, Node, Tree};
 
@@ -229,9 +231,9 @@ fn any_has_rules(children: &[(u64, Node)]) -> bool
 pub fn rules(alloc: Global, tree: &Tree) -> Result<RuleList, NoMemory>
     requires room { levels_of tree.now ≤ level_limit }
     ensures facts { IfOk result (λ list. IsPermutation (facts_of tree.now anything 0) list.facts) }
-    ensures facts_order { IfOk result (λ list. IsNonDecreasingBy (λ rule. rule.priority) list.facts) }
+    ensures facts_order { IfOk result (λ list. AreInOrder list.facts) }
     ensures barriers { IfOk result (λ list. IsPermutation (barriers_of tree.now anything 0) list.barriers) }
-    ensures barriers_order { IfOk result (λ list. IsNonDecreasingBy (λ rule. rule.priority) list.barriers) }
+    ensures barriers_order { IfOk result (λ list. AreInOrder list.barriers) }
 {
     let mut facts = Vec::new(alloc);
     let mut barriers = Vec::new(alloc);
@@ -239,8 +241,8 @@ pub fn rules(alloc: Global, tree: &Tree) -> Result<RuleList, NoMemory>
     let levels = node_levels(root);
     let any = Match::any();
     push_rules(root, levels, &any, 0, &mut facts, &mut barriers)?;
-    facts.sort_by_key(|rule| rule.priority)?;
-    barriers.sort_by_key(|rule| rule.priority)?;
+    let facts = in_order(facts)?;
+    let barriers = in_order(barriers)?;
     Ok(RuleList::new(facts, barriers))
 }
 

@@ -1,1 +1,6 @@
 pub mod Ends
+pub mod Cuts
+pub mod FieldWords
+pub mod Options
+pub mod Pairs
+pub mod Said

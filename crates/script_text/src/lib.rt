@@ -4,6 +4,7 @@
 mod command;
 mod frame;
 mod hexadecimal;
+mod laws;
 mod packet_fields;
 mod packet_spec;
 mod reading;
@@ -12,5 +13,9 @@ mod words;
 
 pub use command::{Command, LineError};
 pub use frame::frame_of;
+pub use laws::grammar_laws;
 pub use packet_spec::PacketSpec;
 pub use reading::read_line;
+pub use report_text::{
+    Learnt, Line, PolicyRefusal, SHORT_LINE, ScriptRefusal, Why, line_len, write_line,
+};

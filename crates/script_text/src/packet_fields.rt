@@ -2,7 +2,8 @@
 ghost use Rattle.std.specs.Prelude.{◌≡◌, ◌<◌, ◌^◌, IfSome};
 ghost use Rattle.maple_base.specs.Keys.{width_of, anything};
 ghost use Rattle.maple_text.specs.Parts.{rest_parts};
-ghost use Rattle.script_text.specs.PacketFields.{field_called, field_word, with_named, named_by, key_by};
+ghost use Rattle.script_text.specs.FieldReading.{field_called, field_word, with_named, named_by};
+ghost use Rattle.script_text.specs.PacketFields.{key_by};
 
 use crate::words::{number_below, two_parts};
 use maple_base::{Field, IP_TYPE, Key, Match, NO_VLAN, TCP};
@@ -22,7 +23,7 @@ pub fn named_fields(words: Option<&[u8]>) -> Option<Match>
     Some(fields)
 }
 
-#[tactic(auto, unfolding(crate::specs::PacketFields::with_named))]
+#[tactic(auto, unfolding(crate::specs::FieldReading::with_named))]
 fn with_named(fields: Match, word: &[u8]) -> Option<Match>
     ensures { result ≡ with_named fields word.now }
 {
@@ -34,7 +35,7 @@ fn with_named(fields: Match, word: &[u8]) -> Option<Match>
 }
 
 // The field and the number of a word `name=number`.
-#[tactic(auto, unfolding(crate::specs::PacketFields::field_word))]
+#[tactic(auto, unfolding(crate::specs::FieldReading::field_word))]
 fn field_word(word: &[u8]) -> Option<(Field, u64)>
     ensures field { result ≡ field_word word.now }
     ensures width { IfSome result (λ f. f.1 < 2 ^ width_of f.0) }
@@ -53,7 +54,7 @@ fn field_end(field: Field) -> u64
 }
 
 // The field of a name, where a line may name it: in_port is the line's own.
-#[tactic(auto, unfolding(crate::specs::PacketFields::field_called))]
+#[tactic(auto, unfolding(crate::specs::FieldReading::field_called))]
 fn field_called(name: &[u8]) -> Option<Field>
     ensures { result ≡ field_called name.now }
 {

@@ -1,6 +1,7 @@
 // The packet of a packet line.
 ghost use Rattle.std.specs.Prelude.{◌≡◌, true};
-ghost use Rattle.script_text.specs.PacketFields.{is_packet, packet_of};
+ghost use Rattle.script_text.specs.FieldReading.{packet_of};
+ghost use Rattle.script_text.specs.PacketFields.{is_packet};
 
 use maple_base::{FIRST_TYPE, ICMP, Key, TAG_TYPE};
 use std::marker::Model;

@@ -3,7 +3,8 @@ ghost use Rattle.std.specs.Prelude.{◌≡◌, true, ◌<◌, ◌≤◌, ◌↔�
 ghost use Rattle.std.specs.Option.{option_map};
 ghost use Rattle.maple_text.specs.Parts.{rest_parts};
 ghost use Rattle.script_text.specs.Hexadecimal.{are_pairs};
-ghost use Rattle.script_text.specs.Grammar.{most_bytes, port_of, address_of, turns_of, place_of, alone, packet_command, frame_words, command_of, is_silent, line_command, holds_bytes};
+ghost use Rattle.script_text.specs.Grammar.{IsLine, IsNoLine, IsFrameLine, most_bytes};
+ghost use Rattle.script_text.specs.Reading.{port_of, address_of, turns_of, place_of, alone, packet_command, frame_words, command_of, is_silent, line_command, holds_bytes};
 
 use crate::hexadecimal::{are_pairs, paired_bytes};
 use crate::packet_fields::{key_by, named_fields};
@@ -26,14 +27,24 @@ const MOST_TURNS: u64 = 100_000;
 /// `TooLong` exactly where the line has more than 8,192 bytes, else `Grammar` exactly where it is
 /// no line of a script. Only the bytes of a `Frame` take memory.
 pub fn read_line(alloc: Global, line: &[u8]) -> Result<Command, LineError>
-    ensures command { IfOk result (λ command. line_command line.now ≡ Some command) }
+    ensures command { IfOk result (IsLine line.now) }
     ensures too_long { (result ≡ Err LineError.TooLong) ↔ (most_bytes < length line.now) }
-    ensures grammar { (result ≡ Err LineError.Grammar) ↔ ((length line.now ≤ most_bytes) × (line_command line.now ≡ None)) }
-    ensures memory { result ≡ Err LineError.NoMemory → holds_bytes (line_command line.now) ≡ true }
+    ensures grammar { (result ≡ Err LineError.Grammar) ↔ ((length line.now ≤ most_bytes) × IsNoLine line.now) }
+    ensures memory { result ≡ Err LineError.NoMemory → IsFrameLine line.now }
 {
     if line.len() > MOST_BYTES {
-        return Err(LineError::TooLong);
+        Err(LineError::TooLong)
+    } else {
+        line_command(alloc, line)
     }
+}
+
+fn line_command(alloc: Global, line: &[u8]) -> Result<Command, LineError>
+    ensures command { IfOk result (λ command. line_command line.now ≡ Some command) }
+    ensures short { result ≡ Err LineError.TooLong → ⊥ }
+    ensures grammar { (result ≡ Err LineError.Grammar) ↔ (line_command line.now ≡ None) }
+    ensures memory { result ≡ Err LineError.NoMemory → holds_bytes (line_command line.now) ≡ true }
+{
     if is_silent(line) {
         return Ok(Command::Nothing);
     }

@@ -1,7 +1,8 @@
 -- Walks, and the number of links of a shortest one.
-use Rattle.std.proofs.Common.{◌≡◌, ℕ, zero, suc, ◌+◌, ◌<◌, ◌≤◌, Bool, true, false, cond, ◌&&◌, ◌==◌, List, [], ◌∷◌, length, get_or, Some, None, refl, sym, ap, ◌∙◌, subst, ⊎_elim, arith}
-use Rattle.std.proofs.lemmas.Bool.{cases_eq, cases_Bool, both_ways, eq-eqb, eqb-true, and_from, and_parts}
+use Rattle.std.proofs.Common.{◌≡◌, ℕ, zero, suc, ◌+◌, ◌<◌, ◌≤◌, Bool, true, false, cond, ◌&&◌, ◌==◌, List, [], ◌∷◌, length, get_or, Option, Some, None, MatchOption, refl, sym, ap, ◌∙◌, subst, ⊎_elim, arith}
+use Rattle.std.proofs.lemmas.Bool.{cases_eq, both_ways, false_from_ne_true, eq-eqb, eqb-true, and_from, and_parts}
 use Rattle.std.proofs.lemmas.List.Folds.{list_any_at, Any-from_list_any}
+use Rattle.std.proofs.lemmas.Option.{MatchOption-at_some}
 use Rattle.topo_paths.specs.Walks.{Link, IsWalk}
 use Rattle.topo_paths.specs.NextHops.{leads_in, first_passing, distance}
 
@@ -41,110 +42,47 @@ walk_from_leads links (suc n) from to h =
     (link ∷ walk, ((k, lt, is), starts, leads), ap suc long)
 
 module _ (test : ℕ → Bool) where
-  passing_now : (n from : ℕ) → test from ≡ true → first_passing test from (suc n) ≡ Some from
-  unfolding first_passing
-  passing_now n from h = ap (λ b. cond b (Some from) (first_passing test (from + 1) n)) h
-
-  passing_later : (n from : ℕ) → test from ≡ false → first_passing test from (suc n) ≡ first_passing test (from + 1) n
-  unfolding first_passing
-  passing_later n from h = ap (λ b. cond b (Some from) (first_passing test (from + 1) n)) h
-
-  passing_none : (from : ℕ) → first_passing test from zero ≡ None
-  unfolding first_passing
-  passing_none from = refl
-
   pub record IsFirst (from n m : ℕ) : Type 0 where
     pub passes : test m ≡ true
-    pub from_on : from ≤ m
     pub near : m < from + n
     pub least : (k : ℕ) → from ≤ k → test k ≡ true → m ≤ k
 
-  pub passing_is : (n from m : ℕ) → IsFirst from n m → first_passing test from n ≡ Some m
-  passing_is zero from m f = absurd (omega (arith, f.near, f.from_on))
-  passing_is (suc n) from m f =
-      ⊎_elim
-      (λ yes'. passing_now n from yes' ∙ ap Some (omega (arith, f.least from (omega arith) yes', f.from_on)))
-      (λ no'. passing_later n from no' ∙ passing_is n (from + 1) m (record {
-        passes = f.passes;
-        from_on = ⊎_elim (λ e. absurd (both_ways _ no' (subst (λ x. test x ≡ true) (sym e) f.passes))) (λ ne. omega (arith, ne, f.from_on)) (cases_eq from m);
-        near = omega (arith, f.near);
-        least = λ k le h. f.least k (omega (arith, le)) h;
-      }))
-      (cases_Bool (test from))
+  -- the number from which on is sought, or a later one
+  now_or_later : (from k : ℕ) → from ≤ k → test from ≡ false → test k ≡ true → from + 1 ≤ k
+  now_or_later from k le fails passes = ⊎_elim (λ e. absurd (both_ways _ fails (ap test e ∙ passes))) (λ ne. omega (arith, ne, le)) (cases_eq from k)
 
-  pub passing_first : (n from m : ℕ) → first_passing test from n ≡ Some m → IsFirst from n m
-  passing_first zero from m h = absurd (clash (passing_none from) h)
+  -- the first that passes, or none that does
+  pub passing : (n from : ℕ) → MatchOption (first_passing test from n) ((k : ℕ) → from ≤ k → k < from + n → test k ≡ false) (λ m. IsFirst from n m)
+  unfolding first_passing
+  passing zero from = λ k le lt. absurd (omega (arith, le, lt))
+  passing (suc n) from = go (test from) refl (first_passing test (from + 1) n) (passing n (from + 1))
     where
-      clash : first_passing test from zero ≡ None → first_passing test from zero ≡ Some m → ⊥
-      clash a b = absurd (cc)
-  passing_first (suc n) from m h =
-      ⊎_elim
-      (λ yes'. now yes' (same (passing_now n from yes')))
-      (λ no'. later no' (passing_first n (from + 1) m (sym (passing_later n from no') ∙ h)))
-      (cases_Bool (test from))
+      go : (b : Bool) → test from ≡ b → (r : Option ℕ) → MatchOption r ((k : ℕ) → from + 1 ≤ k → k < from + 1 + n → test k ≡ false) (λ m. IsFirst (from + 1) n m) → MatchOption (cond b (Some from) r) ((k : ℕ) → from ≤ k → k < from + suc n → test k ≡ false) (λ m. IsFirst from (suc n) m)
+      go true e r h = record { passes = e; near = omega arith; least = λ k le p. le }
+      go false e None none = λ k le lt. false_from_ne_true _ (λ p. both_ways _ (none k (now_or_later from k le e p) (omega (arith, lt))) p)
+      go false e (Some m) f = record { passes = f.passes; near = omega (arith, f.near); least = λ k le p. f.least k (now_or_later from k le e p) p }
+
+  pub first_of : (n k : ℕ) → k < n → test k ≡ true → (m : ℕ) × (first_passing test 0 n ≡ Some m) × IsFirst 0 n m
+  first_of n k lt p = go (first_passing test 0 n) refl (passing n 0)
     where
-      same : first_passing test from (suc n) ≡ Some from → m ≡ from
-      same e = cc
-
-      now : test from ≡ true → m ≡ from → IsFirst from (suc n) m
-      now yes' e =
-          record {
-            passes = subst (λ x. test x ≡ true) (sym e) yes';
-            from_on = omega (arith, e);
-            near = omega (arith, e);
-            least = λ k le p. omega (arith, e, le);
-          }
-
-      later : test from ≡ false → IsFirst (from + 1) n m → IsFirst from (suc n) m
-      later no' f =
-          record {
-            passes = f.passes;
-            from_on = omega (arith, f.from_on);
-            near = omega (arith, f.near);
-            least = λ k le p. ⊎_elim (λ e. absurd (both_ways _ no' (subst (λ x. test x ≡ true) (sym e) p))) (λ ne. f.least k (omega (arith, ne, le)) p) (cases_eq from k);
-          }
-
-  pub passing_found : (n from k : ℕ) → from ≤ k → k < from + n → test k ≡ true → (m : ℕ) × (first_passing test from n ≡ Some m)
-  passing_found zero from k le lt h = absurd (omega (arith, le, lt))
-  passing_found (suc n) from k le lt h =
-      ⊎_elim
-      (λ yes'. (from, passing_now n from yes'))
-      (λ no'. later no' (passing_found n (from + 1) k (⊎_elim (λ e. absurd (both_ways _ no' (subst (λ x. test x ≡ true) (sym e) h))) (λ ne. omega (arith, ne, le)) (cases_eq from k)) (omega (arith, lt)) h))
-      (cases_Bool (test from))
-    where
-      later : test from ≡ false → (m : ℕ) × (first_passing test (from + 1) n ≡ Some m) → (m : ℕ) × (first_passing test from (suc n) ≡ Some m)
-      later no' (m, e) = (m, passing_later n from no' ∙ e)
-
-  pub passing_nowhere : (n from : ℕ) → ((k : ℕ) → from ≤ k → test k ≡ false) → first_passing test from n ≡ None
-  passing_nowhere zero from h = passing_none from
-  passing_nowhere (suc n) from h = passing_later n from (h from (omega arith)) ∙ passing_nowhere n (from + 1) (λ k le. h k (omega (arith, le)))
+      go : (r : Option ℕ) → first_passing test 0 n ≡ r → MatchOption r ((k : ℕ) → 0 ≤ k → k < 0 + n → test k ≡ false) (λ m. IsFirst 0 n m) → (m : ℕ) × (first_passing test 0 n ≡ Some m) × IsFirst 0 n m
+      go None e none = absurd (both_ways _ (none k (omega arith) (omega (arith, lt))) p)
+      go (Some m) e f = (m, e, f)
 
 -- what a distance says
 pub record IsDistance (links : List Link) (from to n : ℕ) : Type 0 where
   pub leads : leads_in links n from to ≡ true
-  pub near : n < 64
+  pub short : n ≤ length links
   pub least : (m : ℕ) → leads_in links m from to ≡ true → n ≤ m
-
-pub distance_is : (links : List Link) (from to n : ℕ) → IsDistance links from to n → distance links from to ≡ Some n
-unfolding distance
-distance_is links from to n d =
-    passing_is (λ m. leads_in links m from to) 64 0 n (record {
-      passes = d.leads;
-      from_on = omega arith;
-      near = omega (arith, d.near);
-      least = λ k le h. d.least k h;
-    })
 
 pub distance_some : (links : List Link) (from to n : ℕ) → distance links from to ≡ Some n → IsDistance links from to n
 unfolding distance
 distance_some links from to n h =
-    let f = passing_first (λ m. leads_in links m from to) 64 0 n h in
-    record {
-      leads = f.passes;
-      near = omega (arith, f.near);
-      least = λ m e. f.least m (omega arith) e;
-    }
+    let f = MatchOption-at_some ((k : ℕ) → 0 ≤ k → k < 0 + (length links + 1) → leads_in links k from to ≡ false) (λ m. IsFirst (λ k. leads_in links k from to) 0 (length links + 1) m) n h (passing (λ k. leads_in links k from to) (length links + 1) 0) in
+    record { leads = f.passes; short = omega (arith, f.near); least = λ m e. f.least m (omega arith) e }
 
-pub distance_none : (links : List Link) (from to : ℕ) → ((n : ℕ) → leads_in links n from to ≡ false) → distance links from to ≡ None
+pub distance_is : (links : List Link) (from to n : ℕ) → IsDistance links from to n → distance links from to ≡ Some n
 unfolding distance
-distance_none links from to h = passing_nowhere (λ m. leads_in links m from to) 64 0 (λ k le. h k)
+distance_is links from to n d =
+    let (m, is, f) = first_of (λ k. leads_in links k from to) (length links + 1) n (omega (arith, d.short)) d.leads in
+    is ∙ ap Some (omega (arith, f.least n (omega arith) d.leads, d.least m f.passes))

@@ -1,66 +1,52 @@
 -- What the next hop is, over all walks.
-use Rattle.std.proofs.Common.{◌≡◌, ◌⊎◌, ℕ, zero, suc, ◌<◌, ◌≤◌, true, ◌==◌, List, ◌∷◌, length, get_or, Option, Some, None, IfSome, IfNone, IsTrue, Contains, inl, inr, refl, sym, ap, ◌∙◌, subst, arith}
+use Rattle.std.proofs.Common.{◌≡◌, ◌⊎◌, ℕ, zero, suc, ◌≤◌, true, ◌==◌, List, ◌∷◌, length, Option, Some, None, MatchOption, IfSome, IfNone, IsTrue, Contains, inl, inr, refl, sym, ap, ◌∙◌, subst, arith}
 use Rattle.std.specs.List.{All}
 use Rattle.std.proofs.lemmas.Bool.{both_ways, eq-eqb, eqb-true, and_from, and_parts}
-use Rattle.std.proofs.lemmas.List.{get_or_default}
-use Rattle.std.proofs.lemmas.List.Elements.{Contains-get_or}
+use Rattle.std.proofs.lemmas.List.Elements.{All-contains}
+use Rattle.std.proofs.lemmas.Option.{none-some}
 use Rattle.maple_base.specs.declared.cells.Place.{Place}
 use Rattle.topo_paths.specs.Walks.{Link, IsWalk, NoWalk, IsShortest, IsNextHop}
 use Rattle.env_cells.specs.Lists.{IsAmong, IsBetweenPorts}
 use Rattle.maple_base.specs.Paths.{is_hop}
-use Rattle.topo_paths.specs.NextHops.{leads_in, leads_on, distance, hop_over, hop_at, least_hop, next_hop, AreNear}
-use Rattle.topo_paths.specs.Rows.{IsLeastHop}
-use Rattle.topo_paths.proofs.Levels.{some_of}
+use Rattle.topo_paths.specs.NextHops.{leads_in, leads_on, distance, hop_over, least_hop, next_hop}
+use Rattle.topo_paths.proofs.Levels.{next_hop-at}
 use Rattle.topo_paths.proofs.Distances.{leads_in-none, leads_in-zero, leads_in-more, leads_in-first, leads_in-walk, walk_from_leads, IsDistance, distance_is, distance_some}
-use Rattle.topo_paths.proofs.LeastHops.{least_hop_is}
-use Rattle.topo_paths.proofs.Making.{no_link}
-
-pub next_hop-at : (links : List Link) (from to : ℕ) (o : Option ℕ) → distance links from to ≡ o → next_hop links from to ≡ hop_at links from to o
-unfolding next_hop
-next_hop-at links from to o e = ap (λ x. hop_at links from to x) e
-
-none_some : {X : Type 0} (o : Option X) (x : X) → o ≡ None → o ≡ Some x → ⊥
-none_some o x a b = absurd (cc)
+use Rattle.topo_paths.proofs.Nearness.{distance_where, to_named}
+use Rattle.topo_paths.proofs.LeastHops.{IsLeast, least_is}
 
 -- a hop stands where a walk of one link or more is a shortest
 pub record IsHop (links : List Link) (from to : ℕ) (hop : Place) : Type 0 where
   pub rest : ℕ
   pub far : distance links from to ≡ Some (suc rest)
-  pub place : ℕ
-  pub within : place < length links
-  pub leads : leads_on links rest from to (get_or links place no_link) ≡ true
-  pub over : hop ≡ hop_over (get_or links place no_link)
-  pub least : (j : ℕ) → j < length links → leads_on links rest from to (get_or links j no_link) ≡ true → hop.port ≤ (get_or links j no_link).0.port
+  pub link : Link
+  pub there : Contains links link
+  pub begins : link.0.switch ≡ from
+  pub leads : leads_in links rest link.1.switch to ≡ true
+  pub over : hop ≡ hop_over link
+  pub least : (other : Link) → Contains links other → leads_on links rest from to other ≡ true → hop.port ≤ other.0.port
 
 module _ (links : List Link) (from to : ℕ) where
-  hop_least : (m : ℕ) (hop : Place) (r : Option Place) → r ≡ Some hop → distance links from to ≡ Some (suc m) → IsLeastHop (λ k. leads_on links m from to (get_or links k no_link)) links (length links) r → IsHop links from to hop
-  hop_least m hop None e d h = absurd (none_some None hop refl e)
-  hop_least m hop (Some other) e d (k, lt, passes, is, least) =
-      let same : other ≡ hop = cc in
-      record {
-        rest = m;
-        far = d;
-        place = k;
-        within = lt;
-        leads = passes;
-        over = sym same ∙ is no_link;
-        least = λ j lj p. subst (λ (x : Place). x.port ≤ (get_or links j no_link).0.port) same (least j no_link lj p);
-      }
+  -- the least hop, where a shortest walk has so many links
+  least_at : (m : ℕ) → distance links from to ≡ Some (suc m) → IsLeast (leads_on links m from to) links (next_hop links from to)
+  least_at m e = subst (λ r. IsLeast (leads_on links m from to) links r) (sym (next_hop-at links from to (Some (suc m)) e)) (least_is (leads_on links m from to) links)
 
   pub as_hop : (hop : Place) → next_hop links from to ≡ Some hop → IsHop links from to hop
   as_hop hop h = go (distance links from to) refl
     where
       go : (o : Option ℕ) → distance links from to ≡ o → IsHop links from to hop
-      go None e = absurd (none_some _ hop (next_hop-at links from to None e) h)
-      go (Some zero) e = absurd (none_some _ hop (next_hop-at links from to (Some zero) e) h)
-      go (Some (suc m)) e = hop_least m hop (least_hop (leads_on links m from to) links) (sym (next_hop-at links from to (Some (suc m)) e) ∙ h) e (least_hop_is (leads_on links m from to) links no_link)
+      go None e = absurd (none-some hop (sym (next_hop-at links from to None e) ∙ h))
+      go (Some zero) e = absurd (none-some hop (sym (next_hop-at links from to (Some zero) e) ∙ h))
+      go (Some (suc m)) e =
+          let ((link, c, passes, is), least) = subst (λ r. IsLeast (leads_on links m from to) links r) h (least_at m e) in
+          let (a, b) = and_parts (link.0.switch == from) (leads_in links m link.1.switch to) passes in
+          record { rest = m; far = e; link = link; there = c; begins = eqb-true _ _ a; leads = b; over = is; least = least }
 
   -- the hop is the first of a shortest walk of all, by the least port
   pub hop_some : (hop : Place) → next_hop links from to ≡ Some hop → IsNextHop links from to hop
   hop_some hop h =
       record {
         apart = λ e. absurd (omega (arith, d.least 0 (leads_in-none links from to e)));
-        begins = (link, (walk, shortest), ap (λ (x : Place). x.port) i.over, ap (λ (x : Place). x.switch) i.over);
+        begins = (i.link, (walk, shortest), ap (λ (x : Place). x.port) i.over, ap (λ (x : Place). x.switch) i.over);
         least = λ other (rest, s). by_port other rest s;
       }
     where
@@ -70,122 +56,84 @@ module _ (links : List Link) (from to : ℕ) where
       d : IsDistance links from to (suc i.rest)
       d = distance_some links from to (suc i.rest) i.far
 
-      link : Link
-      link = get_or links i.place no_link
-
-      parts : (link.0.switch == from) ≡ true × (leads_in links i.rest link.1.switch to ≡ true)
-      parts = and_parts (link.0.switch == from) (leads_in links i.rest link.1.switch to) i.leads
-
-      found : (walk : List Link) × IsWalk links link.1.switch to walk × (length walk ≡ i.rest)
-      found = walk_from_leads links i.rest link.1.switch to parts.1
+      found : (walk : List Link) × IsWalk links i.link.1.switch to walk × (length walk ≡ i.rest)
+      found = walk_from_leads links i.rest i.link.1.switch to i.leads
 
       walk : List Link
       walk = found.0
 
-      whole : IsWalk links from to (link ∷ walk)
-      whole = (Contains-get_or links i.place no_link i.within, eqb-true link.0.switch from parts.0, found.1)
+      whole : IsWalk links from to (i.link ∷ walk)
+      whole = (i.there, i.begins, found.1)
 
-      shortest : IsShortest links from to (link ∷ walk)
-      shortest =
-          record {
-            leads = whole;
-            least = λ other leads. omega (arith, found.2, d.least (length other) (leads_in-walk links other from to leads));
-          }
+      shortest : IsShortest links from to (i.link ∷ walk)
+      shortest = record { leads = whole; least = λ other leads. omega (arith, found.2, d.least (length other) (leads_in-walk links other from to leads)) }
 
       by_port : (other : Link) (rest : List Link) → IsShortest links from to (other ∷ rest) → hop.port ≤ other.0.port
       by_port other rest s =
-          let (k, lt, is) = s.leads.0 in
-          let same : get_or links k no_link ≡ other = get_or_default links k no_link other lt ∙ is in
-          let long : length rest ≡ i.rest = omega (arith, found.2, s.least (link ∷ walk) whole, d.least (suc (length rest)) (leads_in-walk links (other ∷ rest) from to s.leads)) in
+          let long : length rest ≡ i.rest = omega (arith, found.2, s.least (i.link ∷ walk) whole, d.least (suc (length rest)) (leads_in-walk links (other ∷ rest) from to s.leads)) in
           let on : leads_in links i.rest other.1.switch to ≡ true = subst (λ n. leads_in links n other.1.switch to ≡ true) long (leads_in-walk links rest other.1.switch to s.leads.2) in
-          let passes : leads_on links i.rest from to other ≡ true = and_from (other.0.switch == from) (leads_in links i.rest other.1.switch to) (eq-eqb other.0.switch from s.leads.1) on in
-          let le = i.least k lt (subst (λ (x : Link). leads_on links i.rest from to x ≡ true) (sym same) passes) in
-          subst (λ (x : Link). hop.port ≤ x.0.port) same le
+          i.least other s.leads.0 (and_from (other.0.switch == from) (leads_in links i.rest other.1.switch to) (eq-eqb other.0.switch from s.leads.1) on)
 
   -- no hop stands only where no walk leads, or none is needed
-  pub hop_none : AreNear links → next_hop links from to ≡ None → (from ≡ to) ⊎ NoWalk links from to
-  hop_none near h = go (distance links from to) refl
+  pub hop_none : next_hop links from to ≡ None → (from ≡ to) ⊎ NoWalk links from to
+  hop_none h = go (distance links from to) refl
     where
       go : (o : Option ℕ) → distance links from to ≡ o → (from ≡ to) ⊎ NoWalk links from to
-      go None e = inr (λ walk leads. absurd (clash walk leads))
-        where
-          clash : (walk : List Link) → IsWalk links from to walk → ⊥
-          clash walk leads =
-              let (m, is) = some_of (distance links from to) (near (length walk) from to (leads_in-walk links walk from to leads)) in
-              none_some (distance links from to) m e is
+      go None e = inr (λ walk leads. let (m, is) = distance_where links to (length walk) from (leads_in-walk links walk from to leads) in none-some m (sym e ∙ is))
       go (Some zero) e = inl (leads_in-zero links from to (distance_some links from to zero e).leads)
       go (Some (suc m)) e =
-          let none = sym (next_hop-at links from to (Some (suc m)) e) ∙ h in
-          absurd (passed m (least_hop (leads_on links m from to) links) none (least_hop_is (leads_on links m from to) links no_link) (distance_some links from to (suc m) e).leads)
-        where
-          passed : (m : ℕ) (r : Option Place) → r ≡ None → IsLeastHop (λ k. leads_on links m from to (get_or links k no_link)) links (length links) r → leads_in links (suc m) from to ≡ true → ⊥
-          passed m (Some hop) is l leads = none_some (Some hop) hop is refl
-          passed m None is l leads =
-              let (k, link, lt, at, begins, rest) = leads_in-first links m from to leads in
-              let same : get_or links k no_link ≡ link = get_or_default links k no_link link lt ∙ at in
-              let passes : leads_on links m from to link ≡ true = and_from (link.0.switch == from) (leads_in links m link.1.switch to) (eq-eqb link.0.switch from begins) rest in
-              both_ways _ (l k lt) (subst (λ (x : Link). leads_on links m from to x ≡ true) (sym same) passes)
+          let (k, link, lt, at, begins, rest) = leads_in-first links m from to (distance_some links from to (suc m) e).leads in
+          let fails = subst (λ r. IsLeast (leads_on links m from to) links r) h (least_at m e) link (k, lt, at) in
+          absurd (both_ways _ fails (and_from (link.0.switch == from) (leads_in links m link.1.switch to) (eq-eqb link.0.switch from begins) rest))
 
   pub hop_port : All IsBetweenPorts links → (hop : Place) → next_hop links from to ≡ Some hop → IsTrue (is_hop hop)
   hop_port ports hop h =
       let i = as_hop hop h in
-      let p = ports i.place no_link i.within in
-      subst (λ (x : Place). IsTrue (is_hop x)) (sym i.over) p.start
+      subst (λ (x : Place). IsTrue (is_hop x)) (sym i.over) (All-contains IsBetweenPorts links i.link ports i.there).start
 
   -- a hop leads one link nearer
   pub hop_nearer : (hop : Place) → next_hop links from to ≡ Some hop → (m : ℕ) × (distance links from to ≡ Some (suc m)) × (distance links hop.switch to ≡ Some m)
   hop_nearer hop h =
       let i = as_hop hop h in
       let d = distance_some links from to (suc i.rest) i.far in
-      let link = get_or links i.place no_link in
-      let parts = and_parts (link.0.switch == from) (leads_in links i.rest link.1.switch to) i.leads in
-      let there : hop.switch ≡ link.1.switch = ap (λ (x : Place). x.switch) i.over in (
+      let (k, lt, at) = i.there in
+      let there : hop.switch ≡ i.link.1.switch = ap (λ (x : Place). x.switch) i.over in (
         i.rest,
         i.far,
-        distance_is links hop.switch to i.rest (record {
-          leads = subst (λ s. leads_in links i.rest s to ≡ true) (sym there) parts.1;
-          near = omega (arith, d.near);
-          least = λ n l. omega (arith, d.least (suc n) (leads_in-more links n i.place from to no_link i.within (eqb-true link.0.switch from parts.0) (subst (λ s. leads_in links n s to ≡ true) there l)));
-        }),
+        ap (λ s. distance links s to) there
+            ∙ distance_is links i.link.1.switch to i.rest (record {
+              leads = i.leads;
+              short = omega (arith, d.short);
+              least = λ n l. omega (arith, d.least (suc n) (leads_in-more links n k from to i.link lt (ap (λ (x : Link). x.0.switch) at ∙ i.begins) (subst (λ (x : Link). leads_in links n x.1.switch to ≡ true) (sym at) l)));
+            }),
       )
 
-  next_hop-nowhere : ((n : ℕ) → leads_in links (suc n) from to ≡ true → ⊥) → next_hop links from to ≡ None
-  next_hop-nowhere never = go (distance links from to) refl
+module _ (links : List Link) (switches : List ℕ) (named : All (IsAmong switches) links) (from to : ℕ) where
+  pub hop_named : (hop : Place) → next_hop links from to ≡ Some hop → Contains switches from × Contains switches to
+  hop_named hop h =
+      let i = as_hop links from to hop h in
+      (subst (λ s. Contains switches s) i.begins (All-contains (IsAmong switches) links i.link named i.there).start, to_named links switches named i.rest from to (distance_some links from to (suc i.rest) i.far).leads)
+
+  pub hop_unnamed : ((Contains switches from × Contains switches to) → ⊥) → next_hop links from to ≡ None
+  hop_unnamed out = go (next_hop links from to) refl
     where
-      go : (o : Option ℕ) → distance links from to ≡ o → next_hop links from to ≡ None
-      go None e = next_hop-at links from to None e
-      go (Some zero) e = next_hop-at links from to (Some zero) e
-      go (Some (suc m)) e = absurd (never m (distance_some links from to (suc m) e).leads)
+      go : (r : Option Place) → next_hop links from to ≡ r → r ≡ None
+      go None e = refl
+      go (Some hop) e = absurd (out (hop_named hop e))
 
--- walks lead among the named switches
-module _ (links : List Link) (switches : List ℕ) (named : All (IsAmong switches) links) where
-  pub from_named : (n from to : ℕ) → leads_in links (suc n) from to ≡ true → Contains switches from
-  from_named n from to h =
-      let (k, link, lt, at, begins, rest) = leads_in-first links n from to h in
-      subst (λ s. Contains switches s) (ap (λ (x : Link). x.0.switch) at ∙ begins) (named k link lt).start
+-- what a next hop says, and what it says that there is none
+pub hop_law : (links : List Link) (from to : ℕ) (r : Option Place) → r ≡ next_hop links from to → MatchOption r ((from ≡ to) ⊎ NoWalk links from to) (λ hop. IsNextHop links from to hop)
+hop_law links from to None e = hop_none links from to (sym e)
+hop_law links from to (Some hop) e = hop_some links from to hop (sym e)
 
-  pub to_named : (n from to : ℕ) → leads_in links (suc n) from to ≡ true → Contains switches to
-  to_named zero from to h =
-      let (k, link, lt, at, begins, rest) = leads_in-first links zero from to h in
-      subst (λ s. Contains switches s) (ap (λ (x : Link). x.1.switch) at ∙ leads_in-zero links link.1.switch to rest) (named k link lt).end
-  to_named (suc n) from to h =
-      let (k, link, lt, at, begins, rest) = leads_in-first links (suc n) from to h in
-      to_named n link.1.switch to rest
+pub law_some : {X : Type 0} (r : Option X) (P : Type 0) (Q : X → Type 0) → MatchOption r P Q → IfSome r Q
+law_some None P Q h = tt
+law_some (Some x) P Q h = h
 
-  pub hop_from_unnamed : (from to : ℕ) → ¬ Contains switches from → next_hop links from to ≡ None
-  hop_from_unnamed from to out = next_hop-nowhere links from to (λ n h. out (from_named n from to h))
+pub law_none : {X : Type 0} (r : Option X) (P : Type 0) (Q : X → Type 0) → MatchOption r P Q → IfNone r P
+law_none None P Q h = h
+law_none (Some x) P Q h = tt
 
-  pub hop_to_unnamed : (from to : ℕ) → ¬ Contains switches to → next_hop links from to ≡ None
-  hop_to_unnamed from to out = next_hop-nowhere links from to (λ n h. out (to_named n from to h))
-
-pub on_some : (links : List Link) (from to : ℕ) (r : Option Place) → r ≡ next_hop links from to → IfSome r (λ hop. IsNextHop links from to hop)
-on_some links from to None e = tt
-on_some links from to (Some hop) e = hop_some links from to hop (sym e)
-
-pub on_none : (links : List Link) (from to : ℕ) (r : Option Place) → AreNear links → r ≡ next_hop links from to → IfNone r ((from ≡ to) ⊎ NoWalk links from to)
-on_none links from to None near e = hop_none links from to near (sym e)
-on_none links from to (Some hop) near e = tt
-
-pub on_port : (links : List Link) (from to : ℕ) (r : Option Place) → All IsBetweenPorts links → r ≡ next_hop links from to → IfSome r (λ hop. IsTrue (is_hop hop))
-on_port links from to None ports e = tt
-on_port links from to (Some hop) ports e = hop_port links from to ports hop (sym e)
+pub law_port : (links : List Link) (from to : ℕ) (r : Option Place) → All IsBetweenPorts links → r ≡ next_hop links from to → IfSome r (λ hop. IsTrue (is_hop hop))
+law_port links from to None ports e = tt
+law_port links from to (Some hop) ports e = hop_port links from to ports hop (sym e)

@@ -1,140 +1,83 @@
 -- The hop by the least port.
-use Rattle.std.proofs.Common.{◌≡◌, ◌⊎◌, ℕ, zero, suc, ◌+◌, ◌<◌, ◌≤◌, Bool, true, false, cond, leb, List, [], ◌∷◌, length, get_or, Option, Some, None, inl, inr, refl, sym, ap, ◌∙◌, subst, ⊎_elim, arith}
-use Rattle.std.proofs.lemmas.Bool.{cases_lt, cases_Bool, both_ways, leb-true, leb-false}
-use Rattle.std.proofs.lemmas.List.{get_or_default}
+use Rattle.std.proofs.Common.{◌≡◌, ◌⊎◌, ℕ, zero, suc, ◌<◌, ◌≤◌, Bool, true, false, cond, ltb, List, [], ◌∷◌, get_or, Option, Some, None, Contains, inl, inr, refl, sym, ap, ◌∙◌, subst, ⊎_elim, arith}
+use Rattle.std.specs.List.{find}
+use Rattle.std.proofs.lemmas.Bool.{cases_Bool, both_ways, ltb-true, ltb-false, le-ltb}
 use Rattle.maple_base.specs.declared.cells.Place.{Place}
 use Rattle.topo_paths.specs.Walks.{Link}
+use Rattle.topo_paths.specs.Graphs.{RisePorts}
 use Rattle.topo_paths.specs.NextHops.{hop_over, lesser, least_hop}
-use Rattle.topo_paths.specs.Rows.{IsLeastHop}
+use Rattle.topo_paths.specs.Levels.{hop_by}
 
--- the lesser of two hops is one of them, and neither has a lesser port
-lesser_cases : (hop other : Place) → ((lesser hop (Some other) ≡ hop) × (hop.port ≤ other.port)) ⊎ ((lesser hop (Some other) ≡ other) × (other.port ≤ hop.port))
-lesser_cases hop other =
-    ⊎_elim
-    (λ t. inr (ap (λ b. cond b other hop) t, leb-true _ _ t))
-    (λ f. inl (ap (λ b. cond b other hop) f, omega (arith, leb-false _ _ f)))
-    (cases_Bool (leb other.port hop.port))
+pub contains_here : {X : Type 0} (x : X) (xs : List X) → Contains (x ∷ xs) x
+contains_here x xs = (0, omega arith, refl)
 
-module _ (test : ℕ → Bool) (links : List Link) where
-  pub least_none : (count : ℕ) (r : Option Place) → test count ≡ false → IsLeastHop test links count r → IsLeastHop test links (count + 1) r
-  least_none count None not' h =
-      λ k lt. ⊎_elim (λ less. h k less) (λ more. subst (λ x. test x ≡ false) (omega (arith, more, lt)) not') (cases_lt k count)
-  least_none count (Some hop) not' (k, lt, passes, is, least) = (
-    k,
-    omega (arith, lt),
-    passes,
-    is,
-    λ j d less p. ⊎_elim
-        (λ before. least j d before p)
-        (λ more. absurd (both_ways _ not' (subst (λ x. test x ≡ true) (omega (arith, more, less)) p)))
-        (cases_lt j count),
-  )
+pub contains_there : {X : Type 0} (x : X) (xs : List X) (y : X) → Contains xs y → Contains (x ∷ xs) y
+contains_there x xs y (k, lt, is) = (suc k, omega (arith, lt), is)
 
-  module _ (count : ℕ) (is_here : test count ≡ true) where
-    here_least : (hop : Place) → ((d : Link) → hop ≡ hop_over (get_or links count d)) → ((j : ℕ) (d : Link) → j < count → test j ≡ true → hop.port ≤ (get_or links j d).0.port) → IsLeastHop test links (count + 1) (Some hop)
-    here_least hop is least = (
-      count,
-      omega arith,
-      is_here,
-      is,
-      λ j d less p. ⊎_elim
-          (λ before. least j d before p)
-          (λ more. at j d (omega (arith, more, less)))
-          (cases_lt j count),
-    )
-      where
-        at : (j : ℕ) (d : Link) → j ≡ count → hop.port ≤ (get_or links j d).0.port
-        at j d e =
-            let same : hop.port ≡ (get_or links j d).0.port = ap (λ (x : Place). x.port) (is d) ∙ ap (λ x. (get_or links x d).0.port) (sym e) in
-            omega (arith, same)
+pub contains_cases : {X : Type 0} (x : X) (xs : List X) (y : X) → Contains (x ∷ xs) y → (x ≡ y) ⊎ Contains xs y
+contains_cases x xs y (zero, lt, is) = inl is
+contains_cases x xs y (suc k, lt, is) = inr (k, omega (arith, lt), is)
 
-    pub least_some : (hop : Place) (r : Option Place) → ((d : Link) → hop ≡ hop_over (get_or links count d)) → IsLeastHop test links count r → IsLeastHop test links (count + 1) (Some (lesser hop r))
-    least_some hop None is h = here_least hop is (λ j d less p. absurd (both_ways _ (h j less) p))
-    least_some hop (Some other) is (k, lt, passes, other_is, least) =
-        ⊎_elim
-        (λ w. subst (λ (x : Place). IsLeastHop test links (count + 1) (Some x)) (sym w.0) (here_least hop is (λ j d less p. omega (arith, w.1, least j d less p))))
-        (λ w. subst (λ (x : Place). IsLeastHop test links (count + 1) (Some x)) (sym w.0) (
-          k,
-          omega (arith, lt),
-          passes,
-          other_is,
-          λ j d less p. ⊎_elim
-              (λ before. least j d before p)
-              (λ more. at j d (omega (arith, more, less)) w.1)
-              (cases_lt j count),
-        ))
-        (lesser_cases hop other)
-      where
-        at : (j : ℕ) (d : Link) → j ≡ count → other.port ≤ hop.port → other.port ≤ (get_or links j d).0.port
-        at j d e le =
-            let same : hop.port ≡ (get_or links j d).0.port = ap (λ (x : Place). x.port) (is d) ∙ ap (λ x. (get_or links x d).0.port) (sym e) in
-            omega (arith, same, le)
+-- the hop is over a link that passes, by the least port of such links
+abbrev pub IsLeast : (Link → Bool) → List Link → Option Place → Type 0
+IsLeast test links None = (link : Link) → Contains links link → test link ≡ false
+IsLeast test links (Some hop) = ((link : Link) × Contains links link × (test link ≡ true) × (hop ≡ hop_over link)) × ((link : Link) → Contains links link → test link ≡ true → hop.port ≤ link.0.port)
 
--- the least hop of a list, by places
 module _ (test : Link → Bool) (link : Link) (links : List Link) where
-  abbrev Before : Option Place → Type 0
-  Before r = IsLeastHop (λ k. test (get_or links k link)) links (length links) r
-
-  abbrev After : Option Place → Type 0
-  After r = IsLeastHop (λ k. test (get_or (link ∷ links) k link)) (link ∷ links) (suc (length links)) r
-
-  left : test link ≡ false → (r : Option Place) → Before r → After r
-  left f None h = nothing
+  passed : test link ≡ false → (r : Option Place) → IsLeast test links r → IsLeast test (link ∷ links) r
+  passed f None none = λ x c. ⊎_elim (λ e. subst (λ y. test y ≡ false) e f) (λ c. none x c) (contains_cases link links x c)
+  passed f (Some hop) ((one, c, passes, is), least) = ((one, contains_there link links one c, passes, is), all)
     where
-      nothing : (k : ℕ) → k < suc (length links) → test (get_or (link ∷ links) k link) ≡ false
-      nothing zero lt = f
-      nothing (suc k) lt = h k (omega (arith, lt))
-  left f (Some hop) (k, lt, passes, is, least) = (suc k, omega (arith, lt), passes, is, all)
-    where
-      all : (j : ℕ) (d : Link) → j < suc (length links) → test (get_or (link ∷ links) j link) ≡ true → hop.port ≤ (get_or (link ∷ links) j d).0.port
-      all zero d less p = absurd (both_ways _ f p)
-      all (suc j) d less p = least j d (omega (arith, less)) p
+      all : (x : Link) → Contains (link ∷ links) x → test x ≡ true → hop.port ≤ x.0.port
+      all x c p = ⊎_elim (λ e. absurd (both_ways _ f (subst (λ y. test y ≡ true) (sym e) p))) (λ c. least x c p) (contains_cases link links x c)
 
-  first : test link ≡ true → ((j : ℕ) (d : Link) → j < length links → test (get_or links j link) ≡ true → link.0.port ≤ (get_or links j d).0.port) → After (Some (hop_over link))
-  first t least = (0, omega arith, t, λ d. refl, all)
+  first : test link ≡ true → ((x : Link) → Contains links x → test x ≡ true → link.0.port ≤ x.0.port) → IsLeast test (link ∷ links) (Some (hop_over link))
+  first t least = ((link, contains_here link links, t, refl), all)
     where
-      all : (j : ℕ) (d : Link) → j < suc (length links) → test (get_or (link ∷ links) j link) ≡ true → link.0.port ≤ (get_or (link ∷ links) j d).0.port
-      all zero d less p = omega arith
-      all (suc j) d less p = least j d (omega (arith, less)) p
+      all : (x : Link) → Contains (link ∷ links) x → test x ≡ true → link.0.port ≤ x.0.port
+      all x c p = ⊎_elim (λ e. omega (arith, ap (λ (y : Link). y.0.port) e)) (λ c. least x c p) (contains_cases link links x c)
 
-  taken : test link ≡ true → (r : Option Place) → Before r → After (Some (lesser (hop_over link) r))
-  taken t None h = first t (λ j d less p. absurd (both_ways _ (h j less) p))
-  taken t (Some other) (k, lt, passes, is, least) =
+  taken : test link ≡ true → (r : Option Place) → IsLeast test links r → IsLeast test (link ∷ links) (Some (lesser (hop_over link) r))
+  taken t None none = first t (λ x c p. absurd (both_ways _ (none x c) p))
+  taken t (Some other) ((one, c, passes, is), least) =
       ⊎_elim
-      (λ w. subst (λ (x : Place). After (Some x)) (sym w.0) (first t (λ j d less p. omega (arith, w.1, least j d less p))))
-      (λ w. subst (λ (x : Place). After (Some x)) (sym w.0) (suc k, omega (arith, lt), passes, is, all w.1))
-      (lesser_cases (hop_over link) other)
+      (λ less. subst (λ b. IsLeast test (link ∷ links) (Some (cond b other (hop_over link)))) (sym less) ((one, contains_there link links one c, passes, is), all (ltb-true _ _ less)))
+      (λ more. subst (λ b. IsLeast test (link ∷ links) (Some (cond b other (hop_over link)))) (sym more) (first t (λ x c p. omega (arith, ltb-false _ _ more, least x c p))))
+      (cases_Bool (ltb other.port link.0.port))
     where
-      all : other.port ≤ link.0.port → (j : ℕ) (d : Link) → j < suc (length links) → test (get_or (link ∷ links) j link) ≡ true → other.port ≤ (get_or (link ∷ links) j d).0.port
-      all le zero d less p = le
-      all le (suc j) d less p = least j d (omega (arith, less)) p
+      all : other.port < link.0.port → (x : Link) → Contains (link ∷ links) x → test x ≡ true → other.port ≤ x.0.port
+      all less x c p = ⊎_elim (λ e. omega (arith, less, ap (λ (y : Link). y.0.port) e)) (λ c. least x c p) (contains_cases link links x c)
 
-  shifted : (r : Option Place) → Before r → After (cond (test link) (Some (lesser (hop_over link) r)) r)
-  shifted r h =
-      ⊎_elim
-      (λ t. subst (λ b. After (cond b (Some (lesser (hop_over link) r)) r)) (sym t) (taken t r h))
-      (λ f. subst (λ b. After (cond b (Some (lesser (hop_over link) r)) r)) (sym f) (left f r h))
-      (cases_Bool (test link))
-
--- the tests agree at each place of the list
-least_agrees : (test other : ℕ → Bool) (links : List Link) (count : ℕ) (r : Option Place) → ((k : ℕ) → k < count → test k ≡ other k) → IsLeastHop test links count r → IsLeastHop other links count r
-least_agrees test other links count None agree h = λ k lt. sym (agree k lt) ∙ h k lt
-least_agrees test other links count (Some hop) agree (k, lt, passes, is, least) = (k, lt, sym (agree k lt) ∙ passes, is, λ j d less p. least j d less (agree j less ∙ p))
-
-pub least_hop_is : (test : Link → Bool) (links : List Link) (d : Link) → IsLeastHop (λ k. test (get_or links k d)) links (length links) (least_hop test links)
+pub least_is : (test : Link → Bool) (links : List Link) → IsLeast test links (least_hop test links)
 unfolding least_hop
-least_hop_is test [] d = λ k lt. absurd (omega (arith, lt))
-least_hop_is test (link ∷ links) d = least_agrees (λ k. test (get_or (link ∷ links) k link)) (λ k. test (get_or (link ∷ links) k d)) (link ∷ links) (suc (length links)) _ (λ k lt. ap test (get_or_default (link ∷ links) k link d lt)) (shifted test link links (least_hop test links) (least_hop_is test links link))
+least_is test [] = λ x (k, lt, is). absurd (omega (arith, lt))
+least_is test (link ∷ links) =
+    ⊎_elim
+    (λ t. subst (λ b. IsLeast test (link ∷ links) (cond b (Some (lesser (hop_over link) (least_hop test links))) (least_hop test links))) (sym t) (taken test link links t _ (least_is test links)))
+    (λ f. subst (λ b. IsLeast test (link ∷ links) (cond b (Some (lesser (hop_over link) (least_hop test links))) (least_hop test links))) (sym f) (passed test link links f _ (least_is test links)))
+    (cases_Bool (test link))
 
--- there is one such hop, where links that pass by one port are one
-pub least_unique : (test other : ℕ → Bool) (links : List Link) (count : ℕ) (r s : Option Place) (d : Link) → ((k : ℕ) → k < count → test k ≡ other k) → ((j k : ℕ) → j < count → k < count → test j ≡ true → test k ≡ true → (get_or links j d).0.port ≡ (get_or links k d).0.port → j ≡ k) → IsLeastHop test links count r → IsLeastHop other links count s → r ≡ s
-least_unique test other links count None None d agree one h g = refl
-least_unique test other links count None (Some hop) d agree one h (k, lt, passes, is, least) = absurd (both_ways _ (h k lt) (agree k lt ∙ passes))
-least_unique test other links count (Some hop) None d agree one (k, lt, passes, is, least) g = absurd (both_ways _ (g k lt) (sym (agree k lt) ∙ passes))
-least_unique test other links count (Some hop) (Some hop') d agree one (j, lt, passes, is, least) (k, lt', passes', is', least') =
-    let a : hop.port ≡ (get_or links j d).0.port = ap (λ (x : Place). x.port) (is d) in
-    let b : hop'.port ≡ (get_or links k d).0.port = ap (λ (x : Place). x.port) (is' d) in
-    let le = least k d lt' (agree k lt' ∙ passes') in
-    let ge = least' j d lt (sym (agree j lt) ∙ passes) in
-    let same : j ≡ k = one j k lt lt' passes (agree k lt' ∙ passes') (omega (arith, a, b, le, ge)) in
-    ap Some (is d ∙ ap (λ x. hop_over (get_or links x d)) same ∙ sym (is' d))
+-- over links that rise by port the first that passes has the least port
+module _ (test : Link → Bool) (from : ℕ) (begins : (link : Link) → test link ≡ true → link.0.switch ≡ from) where
+  pub least_is_first : (links : List Link) → RisePorts links → least_hop test links ≡ hop_by (find test links)
+  unfolding least_hop
+  least_is_first [] rise = refl
+  least_is_first (link ∷ links) rise = go (test link) refl (least_is_first links (λ i j d less short. rise (suc i) (suc j) d (omega (arith, less)) (omega (arith, short))))
+    where
+      keeps : test link ≡ true → (r : Option Place) → IsLeast test links r → lesser (hop_over link) r ≡ hop_over link
+      keeps t None none = refl
+      keeps t (Some other) ((one, (k, lt, at), passes, is), least) =
+          let same : link.0.switch ≡ (get_or links k one).0.switch = begins link t ∙ sym (begins one passes) ∙ ap (λ (x : Link). x.0.switch) (sym at) in
+          let rises : link.0.port ≤ (get_or links k one).0.port = rise 0 (suc k) one (omega arith) (omega (arith, lt)) same in
+          let port : other.port ≡ (get_or links k one).0.port = ap (λ (x : Place). x.port) is ∙ ap (λ (x : Link). x.0.port) (sym at) in
+          ap (λ b. cond b other (hop_over link)) (le-ltb other.port link.0.port (omega (arith, rises, port)))
+
+      go : (b : Bool) → test link ≡ b → least_hop test links ≡ hop_by (find test links) → cond (test link) (Some (lesser (hop_over link) (least_hop test links))) (least_hop test links) ≡ hop_by (cond (test link) (Some link) (find test links))
+      go true t later = ap (λ b. cond b (Some (lesser (hop_over link) (least_hop test links))) (least_hop test links)) t ∙ ap Some (keeps t (least_hop test links) (least_is test links)) ∙ sym (ap (λ b. hop_by (cond b (Some link) (find test links))) t)
+      go false f later = ap (λ b. cond b (Some (lesser (hop_over link) (least_hop test links))) (least_hop test links)) f ∙ later ∙ sym (ap (λ b. hop_by (cond b (Some link) (find test links))) f)
+
+pub find_agrees : (test other : Link → Bool) (links : List Link) → ((link : Link) → Contains links link → test link ≡ other link) → find test links ≡ find other links
+find_agrees test other [] agree = refl
+find_agrees test other (link ∷ links) agree =
+    ap (λ b. cond b (Some link) (find test links)) (agree link (contains_here link links))
+    ∙ ap (cond (other link) (Some link)) (find_agrees test other links (λ x c. agree x (contains_there link links x c)))

@@ -1,212 +1,257 @@
--- Distances found level by level.
-use Rattle.std.proofs.Common.{◌≡◌, ◌≢◌, ◌⊎◌, ℕ, zero, suc, ◌+◌, ◌<◌, ◌≤◌, Bool, true, false, cond, ◌&&◌, ◌==◌, List, length, get_or, set, replicate, Option, Some, None, is_some, is_none, IsSomeAnd, inl, inr, refl, sym, ap, ◌∙◌, subst, ⊎_elim, arith, add-one}
-use Rattle.std.proofs.lemmas.Bool.{cases_eq, cases_lt, eq-eqb, eqb-true, and_from, and_parts}
-use Rattle.std.proofs.lemmas.Grind.{get_or-set_at}
-use Rattle.std.proofs.lemmas.List.{length-set, get_or-set_other, get_or-replicate, get_or_past}
-use Rattle.std.proofs.lemmas.List.Sums.{sum_by-set}
-use Rattle.std.proofs.lemmas.List.Folds.{list_any_at, Any-from_list_any, sum_by-replicate}
+-- Next hops found level by level.
+use Rattle.std.proofs.Common.{◌≡◌, ℕ, zero, suc, ◌+◌, ◌<◌, ◌≤◌, Bool, true, false, not, cond, eqb, ◌&&◌, ◌||◌, List, [], ◌∷◌, ◌++◌, length, get_or, take, Option, Some, None, is_some, Contains, refl, sym, ap, ◌∙◌, subst, ⊎_elim, arith}
+use Rattle.std.specs.List.{list_any, find}
+use Rattle.std.specs.Option.{option_or}
+use Rattle.std.proofs.lemmas.Bool.{cases_lt, cases_order, both_ways, eq-eqb, eqb-true, and_from, and_parts, or_cases, or_left, or_right, le-leb, leb-true}
+use Rattle.std.proofs.lemmas.Bool.Decides.{same_from_decides}
+use Rattle.std.proofs.lemmas.List.{take_more, take_all}
+use Rattle.std.proofs.lemmas.List.Folds.{list_any_at, Any-from_list_any, list_any_more, find-append}
+use Rattle.maple_base.specs.declared.cells.Place.{Place}
+use Rattle.topo_paths.specs.Walks.{Link}
+use Rattle.topo_paths.specs.Graphs.{RisePorts}
 use Rattle.topo_paths.specs.declared.rows.Ends.{Ends}
-use Rattle.topo_paths.specs.Rows.{ends_lead, AreDistances}
-use Rattle.topo_paths.specs.Levels.{unreached, AreFound, AreFollowed, IsFollowed}
+use Rattle.topo_paths.specs.NextHops.{leads_in, leads_on, distance, hop_over, hop_at, next_hop}
+use Rattle.topo_paths.specs.Rows.{IsEnds, AreEnds, HaveHops, cell_at}
+use Rattle.topo_paths.specs.Levels.{IsLevel, IsGrown, IsJoined, reaches, near, is_within, leads_near, hop_by}
+use Rattle.topo_paths.proofs.Distances.{leads_in-none, leads_in-zero, leads_in-more, leads_in-first, distance_some}
+use Rattle.topo_paths.proofs.Nearness.{distance_where}
+use Rattle.topo_paths.proofs.LeastHops.{least_is_first, find_agrees}
 
-pub held : (o : Option ℕ) (P : ℕ → Type 0) → IsSomeAnd o P → (m : ℕ) × (o ≡ Some m) × P m
-held None P h = absurd h
-held (Some m) P h = (m, refl, h)
+same_tests : (a b : Bool) → (a ≡ true → b ≡ true) → (b ≡ true → a ≡ true) → a ≡ b
+same_tests a b f g = same_from_decides {P = a ≡ true} a b (λ x. x, λ x. x) (g, f)
 
-pub holds : (o : Option ℕ) (P : ℕ → Type 0) (m : ℕ) → o ≡ Some m → P m → IsSomeAnd o P
-holds o P m e h = subst (λ (x : Option ℕ). IsSomeAnd x P) (sym e) h
+pub next_hop-at : (links : List Link) (from to : ℕ) (o : Option ℕ) → distance links from to ≡ o → next_hop links from to ≡ hop_at links from to o
+unfolding next_hop
+next_hop-at links from to o e = ap (λ x. hop_at links from to x) e
 
-pub some_of : {X : Type 0} (o : Option X) → is_some o ≡ true → (m : X) × (o ≡ Some m)
-some_of None h = absurd (cc)
-some_of (Some m) h = (m, refl)
-
-abbrev nowhere : Option ℕ
-nowhere = None
-
-none_some : (n : ℕ) → nowhere ≡ Some n → ⊥
-none_some n h = absurd (cc)
-
--- one more link in front
-pub ends_lead-more : (ends : List Ends) (n k from to : ℕ) (d : Ends) → k < length ends → (get_or ends k d).from ≡ from → ends_lead ends n (get_or ends k d).to to ≡ true → ends_lead ends (suc n) from to ≡ true
-unfolding ends_lead
-ends_lead-more ends n k from to d lt e h = list_any_at (λ x. x.from == from && ends_lead ends n x.to to) ends k d lt (and_from _ _ (eq-eqb _ _ e) h)
-
-pub ends_lead-none : (ends : List Ends) (from to : ℕ) → from ≡ to → ends_lead ends zero from to ≡ true
-unfolding ends_lead
-ends_lead-none ends from to e = eq-eqb from to e
-
-pub ends_lead-zero : (ends : List Ends) (from to : ℕ) → ends_lead ends zero from to ≡ true → from ≡ to
-unfolding ends_lead
-ends_lead-zero ends from to e = eqb-true from to e
-
--- the first of the links
-pub ends_lead-first : (ends : List Ends) (n from to : ℕ) → ends_lead ends (suc n) from to ≡ true → (k : ℕ) × (e : Ends) × (k < length ends) × (get_or ends k e ≡ e) × (e.from ≡ from) × (ends_lead ends n e.to to ≡ true)
-unfolding ends_lead
-ends_lead-first ends n from to h =
-    let (k, e, lt, is, passes) = Any-from_list_any (λ x. x.from == from && ends_lead ends n x.to to) ends h in
-    let parts = and_parts (e.from == from) (ends_lead ends n e.to to) passes in
-    (k, e, lt, is, eqb-true _ _ parts.0, parts.1)
-
--- a distance stays where a place without one gets one
-kept : (far : List (Option ℕ)) (i : ℕ) (v : Option ℕ) (x n : ℕ) → get_or far i None ≡ None → get_or far x None ≡ Some n → get_or (set far i v) x None ≡ Some n
-kept far i v x n lacks has =
-    let ne : x ≢ i = λ e. absurd (clash e) in
-    get_or-set_other far i x v None ne ∙ has
-  where
-    clash : x ≡ i → ⊥
-    clash e = let same : get_or far x None ≡ get_or far i None = ap (λ y. get_or far y None) e in cc
-
-kept_some : (far : List (Option ℕ)) (i : ℕ) (v : Option ℕ) (x : ℕ) (P : ℕ → Type 0) → get_or far i None ≡ None → IsSomeAnd (get_or far x None) P → IsSomeAnd (get_or (set far i v) x None) P
-kept_some far i v x P lacks h =
-    let (m, is, ok) = held _ P h in
-    holds _ P m (kept far i v x m lacks is) ok
-
-was : (far : List (Option ℕ)) (i m x n : ℕ) → i < length far → get_or (set far i (Some m)) x None ≡ Some n → ((x ≡ i) × (n ≡ m)) ⊎ (get_or far x None ≡ Some n)
-was far i m x n lt h =
-    ⊎_elim
-    (λ e. inl (e, at e))
-    (λ ne. inr (sym (get_or-set_other far i x (Some m) None ne) ∙ h))
-    (cases_eq x i)
-  where
-    at : x ≡ i → n ≡ m
-    at e = let same : get_or (set far i (Some m)) x None ≡ Some m = get_or-set_at far i x (Some m) None e lt in cc
-
-module _ (ends : List Ends) (to level : ℕ) where
-  pub followed_new : (count : ℕ) (far : List (Option ℕ)) (e : Ends) → count < length ends → ((d : Ends) → get_or ends count d ≡ e) → e.from < 64 → get_or far e.to None ≡ Some level → get_or far e.from None ≡ None → AreFollowed ends to level count far → AreFollowed ends to level (count + 1) (set far e.from (Some (level + 1)))
-  followed_new count far e short is within at lacks f =
-      let lt : e.from < length far = omega (arith, f.long) in
-      record {
-        long = length-set far e.from (Some (level + 1)) ∙ f.long;
-        start = kept far e.from _ to 0 lacks f.start;
-        leads = λ from n h. ⊎_elim (λ w. newly from n w.0 w.1) (λ o. f.leads from n o) (was far e.from (level + 1) from n lt h);
-        within = λ from n h. ⊎_elim (λ w. omega (arith, w.1)) (λ o. f.within from n o) (was far e.from (level + 1) from n lt h);
-        closed = λ k n d less h below. ⊎_elim (λ w. absurd (omega (arith, w.1, below))) (λ o. kept_some far e.from _ _ _ lacks (f.closed k n d less o below)) (was far e.from (level + 1) (get_or ends k d).to n lt h);
-        followed = λ k n d less h below. ⊎_elim (λ w. absurd (omega (arith, w.1, below))) (λ o. follows k n d less o h below) (was far e.from (level + 1) (get_or ends k d).to n lt h);
-      }
+module _ (links : List Link) where
+  near_true : (level from to : ℕ) → near links level from to ≡ true → (m : ℕ) × (m ≤ level) × (distance links from to ≡ Some m)
+  near_true level from to h = go (distance links from to) refl h
     where
-      newly : (from n : ℕ) → from ≡ e.from → n ≡ level + 1 → ends_lead ends n from to ≡ true
-      newly from n same long =
-          let here = is e in
-          subst (λ m. ends_lead ends m from to ≡ true) (sym (long ∙ add-one level))
-          (ends_lead-more ends level count from to e short (ap (λ x. x.from) here ∙ sym same) (subst (λ x. ends_lead ends level x.to to ≡ true) (sym here) (f.leads e.to level at)))
+      go : (o : Option ℕ) → distance links from to ≡ o → is_within o level ≡ true → (m : ℕ) × (m ≤ level) × (distance links from to ≡ Some m)
+      go None e h = absurd (cc)
+      go (Some m) e h = (m, leb-true m level h, e)
 
-      set_here : get_or (set far e.from (Some (level + 1))) e.from None ≡ Some (level + 1)
-      set_here = get_or-set_at far e.from e.from (Some (level + 1)) None refl (omega (arith, f.long))
+  near_some : (level from to m : ℕ) → distance links from to ≡ Some m → m ≤ level → near links level from to ≡ true
+  near_some level from to m is le = ap (λ o. is_within o level) is ∙ le-leb m level le
 
-      follows : (k n : ℕ) (d : Ends) → k < count + 1 → get_or far (get_or ends k d).to None ≡ Some n → get_or (set far e.from (Some (level + 1))) (get_or ends k d).to None ≡ Some n → n ≤ level → IsSomeAnd (get_or (set far e.from (Some (level + 1))) (get_or ends k d).from None) (λ m. m ≤ n + 1)
-      follows k n d less o h below =
+  near_from : (level from to m : ℕ) → leads_in links m from to ≡ true → m ≤ level → near links level from to ≡ true
+  near_from level from to m leads le =
+      let (n, is) = distance_where links to m from leads in
+      near_some level from to n is (omega (arith, (distance_some links from to n is).least m leads, le))
+
+  none_between : (from to : ℕ) → near links 0 from to ≡ true → distance links from to ≡ Some zero
+  none_between from to h = let (m, le, is) = near_true 0 from to h in is ∙ ap Some (omega (arith, le))
+
+  near_zero : (from to : ℕ) → near links 0 from to ≡ eqb from to
+  near_zero from to =
+      same_tests _ _
+      (λ h. eq-eqb _ _ (leads_in-zero links from to (distance_some links from to zero (none_between from to h)).leads))
+      (λ h. near_from 0 from to 0 (leads_in-none links from to (eqb-true _ _ h)) (omega arith))
+
+  -- one link in front of a walk of at most so many
+  near_in_front : (level from to k : ℕ) (link : Link) → k < length links → get_or links k link ≡ link → link.0.switch ≡ from → near links level link.1.switch to ≡ true → (m : ℕ) × (m ≤ level) × (leads_in links m link.1.switch to ≡ true) × (leads_in links (suc m) from to ≡ true)
+  near_in_front level from to k link lt at begins h =
+      let (m, le, is) = near_true level link.1.switch to h in
+      let leads = (distance_some links link.1.switch to m is).leads in
+      (m, le, leads, leads_in-more links m k from to link lt (ap (λ (x : Link). x.0.switch) at ∙ begins) (subst (λ (x : Link). leads_in links m x.1.switch to ≡ true) (sym at) leads))
+
+  near_more : (level from to : ℕ) → near links (level + 1) from to ≡ (near links level from to || list_any (leads_near links level from to) links)
+  near_more level from to = same_tests _ _ forth back
+    where
+      forth : near links (level + 1) from to ≡ true → (near links level from to || list_any (leads_near links level from to) links) ≡ true
+      forth h =
+          let (m, le, is) = near_true (level + 1) from to h in
           ⊎_elim
-          (λ before. kept_some far e.from _ _ _ lacks (f.followed k n d before o below))
-          (λ last. final (omega (arith, last, less)))
-          (cases_lt k count)
-        where
-          final : k ≡ count → IsSomeAnd (get_or (set far e.from (Some (level + 1))) (get_or ends k d).from None) (λ m. m ≤ n + 1)
-          final same =
-              let here : get_or ends k d ≡ e = ap (λ j. get_or ends j d) same ∙ is d in
-              let ends_at : get_or far e.to None ≡ Some n = ap (λ (x : Ends). get_or far x.to None) (sym here) ∙ o in
-              let equal : level ≡ n = cc in
-              holds _ _ (level + 1) (ap (λ (x : Ends). get_or (set far e.from (Some (level + 1))) x.from None) here ∙ set_here) (omega (arith, equal))
+          (λ less. or_left _ _ (near_some level from to m is (omega (arith, less))))
+          (λ more.
+          let last : m ≡ suc level = omega (arith, more, le) in
+          let (k, link, lt, at, begins, rest) = leads_in-first links level from to (subst (λ n. leads_in links n from to ≡ true) last (distance_some links from to m is).leads) in
+          let passes : leads_near links level from to link ≡ true = and_from _ _ (eq-eqb _ _ begins) (near_from level link.1.switch to level rest (omega arith)) in
+          or_right _ _ (list_any_at (leads_near links level from to) links k link lt (subst (λ (x : Link). leads_near links level from to x ≡ true) (sym at) passes)))
+          (cases_lt m (level + 1))
 
-  pub followed_none : (count : ℕ) (far : List (Option ℕ)) (e : Ends) → count < length ends → ((d : Ends) → get_or ends count d ≡ e) → (get_or far e.to None ≡ Some level → is_some (get_or far e.from None) ≡ true) → AreFollowed ends to level count far → AreFollowed ends to level (count + 1) far
-  followed_none count far e short is known f =
+      front : list_any (leads_near links level from to) links ≡ true → near links (level + 1) from to ≡ true
+      front h =
+          let (k, link, lt, at, passes) = Any-from_list_any (leads_near links level from to) links h in
+          let (a, b) = and_parts (eqb link.0.switch from) (near links level link.1.switch to) passes in
+          let (m, le, rest, leads) = near_in_front level from to k link lt at (eqb-true _ _ a) b in
+          near_from (level + 1) from to (suc m) leads (omega (arith, le))
+
+      back : (near links level from to || list_any (leads_near links level from to) links) ≡ true → near links (level + 1) from to ≡ true
+      back h =
+          ⊎_elim
+          (λ here. let (m, le, is) = near_true level from to here in near_some (level + 1) from to m is (omega (arith, le)))
+          front
+          (or_cases _ _ h)
+
+  -- what is newly reached has the hop over the first link that leads there
+  new_hop : (level from to : ℕ) → RisePorts links → near links level from to ≡ false → near links (level + 1) from to ≡ true → next_hop links from to ≡ hop_by (find (leads_near links level from to) links)
+  new_hop level from to rise far h =
+      let (m, le, is) = near_true (level + 1) from to h in
+      let last : m ≡ suc level = ⊎_elim (λ less. absurd (both_ways _ far (near_some level from to m is (omega (arith, less))))) (λ more. omega (arith, more, le)) (cases_lt m (level + 1)) in
+      let exact : distance links from to ≡ Some (suc level) = is ∙ ap Some last in
+      next_hop-at links from to (Some (suc level)) exact
+      ∙ least_is_first (leads_on links level from to) from (λ link p. eqb-true _ _ (and_parts (eqb link.0.switch from) (leads_in links level link.1.switch to) p).0) links rise
+      ∙ ap hop_by (find_agrees (leads_on links level from to) (leads_near links level from to) links (λ link c. agree link c exact))
+    where
+      agree : (link : Link) → Contains links link → distance links from to ≡ Some (suc level) → leads_on links level from to link ≡ leads_near links level from to link
+      agree link (k, lt, at) exact =
+          same_tests _ _
+          (λ p. let (a, b) = and_parts (eqb link.0.switch from) (leads_in links level link.1.switch to) p in and_from _ _ a (near_from level link.1.switch to level b (omega arith)))
+          (λ p.
+          let (a, b) = and_parts (eqb link.0.switch from) (near links level link.1.switch to) p in
+          let (m, le, rest, leads) = near_in_front level from to k link lt at (eqb-true _ _ a) b in
+          let same : m ≡ level = omega (arith, le, (distance_some links from to (suc level) exact).least (suc m) leads) in
+          and_from _ _ a (subst (λ n. leads_in links n link.1.switch to ≡ true) same rest))
+
+find_none : (test : Link → Bool) (links : List Link) → is_some (find test links) ≡ list_any test links
+find_none test [] = refl
+find_none test (link ∷ links) =
+    elim (test link) as (λ b. is_some (cond b (Some link) (find test links)) ≡ (b || list_any test links)) [
+      | true ↦ refl
+      | false ↦ find_none test links
+    ]
+
+pub or_none : (b : Bool) → b ≡ (b || false)
+or_none true = refl
+or_none false = refl
+
+or_or : (a b c : Bool) → ((a || b) || c) ≡ (a || (b || c))
+or_or true b c = refl
+or_or false b c = refl
+
+-- the hop of a place after a link was joined
+joined_hop : (e b n : Bool) (link : Link) (found : Option Link) (next : Option Place) → cond (e && (b && not (n || is_some found))) (Some (hop_over link)) (cond n next (hop_by found)) ≡ cond n next (hop_by (option_or found (cond (e && b) (Some link) None)))
+joined_hop false b n link None next = refl
+joined_hop false b n link (Some x) next = refl
+joined_hop true false n link None next = refl
+joined_hop true false n link (Some x) next = refl
+joined_hop true true true link found next = refl
+joined_hop true true false link None next = refl
+joined_hop true true false link (Some x) next = refl
+
+-- the hop of a place after all links were joined
+grown_hop : (a b : Bool) (found : Option Link) (next : Option Place) → b ≡ (a || is_some found) → (a ≡ false → b ≡ true → next ≡ hop_by found) → cond a next (hop_by found) ≡ cond b next None
+grown_hop true b found next e new = ap (λ x. cond x next None) (sym e)
+grown_hop false b None next e new = ap (λ x. cond x next None) (sym e)
+grown_hop false b (Some x) next e new = sym (new refl e) ∙ ap (λ x. cond x next None) (sym e)
+
+module _ (links : List Link) (switches : List ℕ) (ends : List Ends) (are : AreEnds links switches ends) where
+  abbrev name : ℕ → ℕ
+  name k = get_or switches k 0
+
+  name_one : (a b : ℕ) → a < length switches → b < length switches → name a ≡ name b → a ≡ b
+  name_one a b la lb e =
+      ⊎_elim (λ same. same)
+      (λ o. ⊎_elim (λ less. absurd (are.apart a b 0 less lb e)) (λ more. absurd (are.apart b a 0 more la (sym e))) o)
+      (cases_order a b)
+
+  ends_at : (k : ℕ) (link : Link) (d : Ends) → k < length links → get_or links k link ≡ link → IsEnds switches link (get_or ends k d)
+  ends_at k link d short at = subst (λ (x : Link). IsEnds switches x (get_or ends k d)) at (are.each k link d short)
+
+  abbrev pub test_at : ℕ → ℕ → ℕ → Link → Bool
+  test_at level from to = leads_near links level (name from) (name to)
+
+  same_names : (a b : ℕ) → a < length switches → b < length switches → eqb a b ≡ eqb (name a) (name b)
+  same_names a b la lb = same_tests _ _ (λ h. eq-eqb _ _ (ap name (eqb-true _ _ h))) (λ h. eq-eqb _ _ (name_one a b la lb (eqb-true _ _ h)))
+
+  pub grown_start : (level : ℕ) (masks : List ℕ) (rows : List (List (Option Place))) → IsLevel links switches level masks rows → IsGrown links switches level 0 masks rows
+  grown_start level masks rows l = record { reached = λ from to lf lt. l.reached from to lf lt ∙ or_none (near links level (name from) (name to)); hops = l.hops }
+
+  -- a further link is joined
+  pub grown_more : (level count : ℕ) (link : Link) (e : Ends) (before masks masks' : List ℕ) (first rows rows' : List (List (Option Place))) → count < length links → get_or links count link ≡ link → get_or ends count e ≡ e → IsLevel links switches level before first → IsJoined e (hop_over link) before masks rows masks' rows' → IsGrown links switches level count masks rows → IsGrown links switches level (count + 1) masks' rows'
+  grown_more level count link e before masks masks' first rows rows' short at here l j g =
       record {
-        long = f.long;
-        start = f.start;
-        leads = f.leads;
-        within = f.within;
-        closed = f.closed;
-        followed = λ k n d less h below. ⊎_elim
-            (λ before. f.followed k n d before h below)
-            (λ last. ⊎_elim (λ under. f.closed k n d (omega (arith, less, short)) h under) (λ over. final k n d (omega (arith, last, less)) h (omega (arith, over, below))) (cases_lt n level))
-            (cases_lt k count);
+        reached = λ from to lf lt. j.reached from to (small from lf) (small to lt)
+            ∙ ap (λ b. b || (eqb e.from from && reaches before e.to to)) (g.reached from to lf lt)
+            ∙ ap (λ b. (near links level (name from) (name to) || list_any (test_at level from to) (take count links)) || b) (passes from to lf lt)
+            ∙ or_or (near links level (name from) (name to)) _ _
+            ∙ ap (λ b. near links level (name from) (name to) || b) (sym (list_any_more (test_at level from to) links count link short ∙ ap (λ x. list_any (test_at level from to) (take count links) || test_at level from to x) at));
+        hops = λ from to lf lt. j.hops from to (small from lf) (small to lt)
+            ∙ (λ i. cond (eqb e.from from && (reaches before e.to to && not (known from to lf lt i))) (Some (hop_over link)) (g.hops from to lf lt i))
+            ∙ joined_hop (eqb e.from from) (reaches before e.to to) (near links level (name from) (name to)) link (find (test_at level from to) (take count links)) (next_hop links (name from) (name to))
+            ∙ ap (λ b. cond (near links level (name from) (name to)) (next_hop links (name from) (name to)) (hop_by (option_or (find (test_at level from to) (take count links)) (cond b (Some link) None)))) (passes from to lf lt)
+            ∙ ap (λ x. cond (near links level (name from) (name to)) (next_hop links (name from) (name to)) (hop_by x)) (sym (find_more from to));
       }
     where
-      final : (k n : ℕ) (d : Ends) → k ≡ count → get_or far (get_or ends k d).to None ≡ Some n → n ≡ level → IsSomeAnd (get_or far (get_or ends k d).from None) (λ m. m ≤ n + 1)
-      final k n d same h equal =
-          let here : get_or ends k d ≡ e = ap (λ j. get_or ends j d) same ∙ is d in
-          let ends_at : get_or far e.to None ≡ Some level = ap (λ (x : Ends). get_or far x.to None) (sym here) ∙ h ∙ ap Some equal in
-          let (m, is_m) = some_of _ (known ends_at) in
-          holds _ _ m (ap (λ (x : Ends). get_or far x.from None) here ∙ is_m) (omega (arith, f.within e.from m is_m, equal))
+      small : (k : ℕ) → k < length switches → k < 64
+      small k lt = omega (arith, lt, are.few)
 
-  -- one turn of the loop over the ends
-  pub followed_turn : (count : ℕ) (e : Ends) (r : Bool) (old new : List (Option ℕ)) → count < length ends → ((d : Ends) → get_or ends count d ≡ e) → e.from < 64 → IsFollowed e level r old new → AreFollowed ends to level count old → AreFollowed ends to level (count + 1) new
-  followed_turn count e true old new short is within h f = subst (λ far. AreFollowed ends to level (count + 1) far) (sym h.2) (followed_new count old e short is within h.0 h.1 f)
-  followed_turn count e false old new short is within h f = subst (λ far. AreFollowed ends to level (count + 1) far) (sym h.0) (followed_none count old e short is h.1 f)
+      are_ends : IsEnds switches link e
+      are_ends = subst (λ (x : Ends). IsEnds switches link x) here (ends_at count link e short at)
 
-  pub followed_start : (far : List (Option ℕ)) → AreFound ends to level far → AreFollowed ends to level 0 far
-  followed_start far f =
+      begins : (from : ℕ) → from < length switches → eqb e.from from ≡ eqb link.0.switch (name from)
+      begins from lf = same_names e.from from are_ends.within.0 lf ∙ ap (λ s. eqb s (name from)) are_ends.from
+
+      passes : (from to : ℕ) → from < length switches → to < length switches → (eqb e.from from && reaches before e.to to) ≡ test_at level from to link
+      passes from to lf lt = λ i. begins from lf i && (l.reached e.to to are_ends.within.1 lt ∙ ap (λ s. near links level s (name to)) are_ends.to) i
+
+      known : (from to : ℕ) → from < length switches → to < length switches → reaches masks from to ≡ (near links level (name from) (name to) || is_some (find (test_at level from to) (take count links)))
+      known from to lf lt = g.reached from to lf lt ∙ ap (λ b. near links level (name from) (name to) || b) (sym (find_none (test_at level from to) (take count links)))
+
+      find_more : (from to : ℕ) → find (test_at level from to) (take (count + 1) links) ≡ option_or (find (test_at level from to) (take count links)) (cond (test_at level from to link) (Some link) None)
+      find_more from to =
+          ap (find (test_at level from to)) (take_more links count link short ∙ ap (λ x. take count links ++ x ∷ []) at)
+          ∙ find-append (test_at level from to) (take count links) (link ∷ [])
+
+  pub grown_end : (level : ℕ) (masks : List ℕ) (rows : List (List (Option Place))) → RisePorts links → IsGrown links switches level (length links) masks rows → IsLevel links switches (level + 1) masks rows
+  grown_end level masks rows rise g =
       record {
-        long = f.long;
-        start = f.start;
-        leads = f.leads;
-        within = λ from n h. omega (arith, f.within from n h);
-        closed = f.closed;
-        followed = λ k n d less h below. absurd (omega (arith, less));
-      }
-
-  pub followed_end : (far : List (Option ℕ)) → AreFollowed ends to level (length ends) far → AreFound ends to (level + 1) far
-  followed_end far f =
-      record {
-        long = f.long;
-        start = f.start;
-        leads = f.leads;
-        within = f.within;
-        closed = λ k n d less h below. f.followed k n d less h (omega (arith, below));
-      }
-
-  -- where a further level brings nothing, all distances are known
-  pub found_all : (far : List (Option ℕ)) → level < 64 → AreFound ends to level far → AreFound ends to (level + 1) far → AreDistances ends to far
-  found_all far few f g =
-      record {
-        long = f.long;
-        leads = f.leads;
-        least = least;
-        near = λ from n h. omega (arith, f.within from n h, few);
+        reached = λ from to lf lt. g.reached from to lf lt
+            ∙ ap (λ x. near links level (name from) (name to) || list_any (leads_near links level (name from) (name to)) x) whole
+            ∙ sym (near_more links level (name from) (name to));
+        hops = λ from to lf lt. g.hops from to lf lt
+            ∙ ap (λ x. cond (near links level (name from) (name to)) (next_hop links (name from) (name to)) (hop_by (find (leads_near links level (name from) (name to)) x))) whole
+            ∙ grown_hop _ _ _ _
+            (near_more links level (name from) (name to) ∙ ap (λ b. near links level (name from) (name to) || b) (sym (find_none (leads_near links level (name from) (name to)) links)))
+            (new_hop links level (name from) (name to) rise);
       }
     where
-      least : (n from : ℕ) → ends_lead ends n from to ≡ true → IsSomeAnd (get_or far from None) (λ m. m ≤ n)
-      least zero from h = holds _ _ 0 (ap (λ x. get_or far x None) (ends_lead-zero ends from to h) ∙ f.start) (omega arith)
-      least (suc n) from h =
-          let (k, e, short, is, begins, rest) = ends_lead-first ends n from to h in
-          let (m, at, le) = held _ _ (least n e.to rest) in
-          let there : get_or far (get_or ends k e).to None ≡ Some m = ap (λ (x : Ends). get_or far x.to None) is ∙ at in
-          let (p, here, more) = held _ _ (g.closed k m e short there (omega (arith, f.within e.to m at))) in
-          let from_is : (get_or ends k e).from ≡ from = ap (λ (x : Ends). x.from) is ∙ begins in
-          holds _ _ p (ap (λ x. get_or far x None) (sym from_is) ∙ here) (omega (arith, le, more))
+      whole : take (length links) links ≡ links
+      whole = take_all (length links) links (omega arith)
 
-abbrev ℕ_is : ℕ → ℕ → Type 0
-ℕ_is a b = a ≡ b
+  -- before the first level
+  pub level_start : (masks : List ℕ) (rows : List (List (Option Place))) → ((from to : ℕ) → from < 64 → to < 64 → reaches masks from to ≡ eqb from to) → ((from to : ℕ) → from < 64 → to < 64 → cell_at rows to from ≡ None) → IsLevel links switches 0 masks rows
+  level_start masks rows alone none =
+      record {
+        reached = λ from to lf lt. alone from to (omega (arith, lf, are.few)) (omega (arith, lt, are.few)) ∙ same_names from to lf lt ∙ sym (near_zero links (name from) (name to));
+        hops = λ from to lf lt. none from to (omega (arith, lf, are.few)) (omega (arith, lt, are.few)) ∙ at_none from to (near links 0 (name from) (name to)) refl;
+      }
+    where
+      at_none : (from to : ℕ) (b : Bool) → near links 0 (name from) (name to) ≡ b → None ≡ cond b (next_hop links (name from) (name to)) None
+      at_none from to false h = refl
+      at_none from to true h = sym (next_hop-at links (name from) (name to) (Some zero) (none_between links (name from) (name to) h))
 
--- a place fewer without a distance, where one got one
-pub unreached_turn : (e : Ends) (level : ℕ) (r : Bool) (old new : List (Option ℕ)) → e.from < length old → IsFollowed e level r old new → unreached new + cond r 1 0 ≤ unreached old
-unreached_turn e level true old new lt h =
-    let s = sum_by-set (λ (o : Option ℕ). cond (is_none o) 1 0) old e.from (Some (level + 1)) None lt in
-    let was : ℕ_is (cond (is_none (get_or old e.from None)) 1 0) 1 = ap (λ (o : Option ℕ). cond (is_none o) 1 0) h.1 in
-    let new_is : unreached new ≡ unreached (set old e.from (Some (level + 1))) = ap unreached h.2 in
-    omega (arith, s, was, new_is)
-unreached_turn e level false old new lt h = omega (arith, ap unreached h.0)
+  -- every walk leads to what is reached
+  abbrev pub IsSettled : ℕ → Type 0
+  IsSettled level = (m from to : ℕ) → from < length switches → to < length switches → leads_in links m (name from) (name to) ≡ true → near links level (name from) (name to) ≡ true
 
--- before the first level
-pub found_start : (ends : List Ends) (to : ℕ) → to < 64 → AreFound ends to 0 (set (replicate 64 None) to (Some 0))
-found_start ends to lt =
-    record {
-      long = length-set (replicate 64 None) to (Some 0);
-      start = get_or-set_at (replicate 64 None) to to (Some 0) None refl lt;
-      leads = λ from n h. ⊎_elim (λ w. subst (λ m. ends_lead ends m from to ≡ true) (sym w.1) (ends_lead-none ends from to w.0)) (λ o. absurd (nothing from n o)) (was (replicate 64 None) to 0 from n lt h);
-      within = λ from n h. ⊎_elim (λ w. omega (arith, w.1)) (λ o. absurd (nothing from n o)) (was (replicate 64 None) to 0 from n lt h);
-      closed = λ k n d less h below. absurd (omega (arith, below));
-    }
-  where
-    nothing : (from n : ℕ) → get_or (replicate 64 None) from None ≡ Some n → ⊥
-    nothing from n h =
-        ⊎_elim
-        (λ less. none_some n (sym (get_or-replicate 64 from None None less) ∙ h))
-        (λ more. none_some n (sym (get_or_past (replicate 64 None) from None more) ∙ h))
-        (cases_lt from 64)
+  pub settled_same : (level : ℕ) (masks : List ℕ) (rows rows' : List (List (Option Place))) → IsLevel links switches level masks rows → IsLevel links switches (level + 1) masks rows' → IsSettled (level + 1)
+  settled_same level masks rows rows' l l' zero from to lf lt h = near_from links (level + 1) (name from) (name to) zero h (omega arith)
+  settled_same level masks rows rows' l l' (suc m) from to lf lt h =
+      let (k, link, short, at, begins, rest) = leads_in-first links m (name from) (name to) h in
+      let there = get_or ends k (record { from = 0; to = 0 }) in
+      let z = ends_at k link _ short at in
+      let in_to = z.within.1 in
+      let to_is : name there.to ≡ link.1.switch = z.to in
+      let on = settled_same level masks rows rows' l l' m there.to to in_to lt (subst (λ s. leads_in links m s (name to) ≡ true) (sym to_is) rest) in
+      let on' : near links level link.1.switch (name to) ≡ true = sym (ap (λ s. near links level s (name to)) to_is) ∙ sym (l.reached there.to to in_to lt) ∙ l'.reached there.to to in_to lt ∙ on in
+      let (n, le, rest', leads) = near_in_front links level (name from) (name to) k link short at begins on' in
+      near_from links (level + 1) (name from) (name to) (suc n) leads (omega (arith, le))
 
-pub unreached_start : (to : ℕ) → to < 64 → 0 + unreached (set (replicate 64 None) to (Some 0)) < 64
-unreached_start to lt =
-    let s = sum_by-set (λ (o : Option ℕ). cond (is_none o) 1 0) (replicate 64 None) to (Some 0) None lt in
-    let was : ℕ_is (cond (is_none (get_or (replicate 64 None) to None)) 1 0) 1 = ap (λ (o : Option ℕ). cond (is_none o) 1 0) (get_or-replicate 64 to None None lt) in
-    let all = sum_by-replicate (λ (o : Option ℕ). cond (is_none o) 1 0) 64 None in
-    omega (arith, s, was, all)
+  pub settled_all : (level : ℕ) → length links ≤ level → IsSettled level
+  settled_all level all m from to lf lt h =
+      let (n, is) = distance_where links (name to) m (name from) h in
+      near_some links level (name from) (name to) n is (omega (arith, all, (distance_some links (name from) (name to) n is).short))
+
+  pub level_end : (level : ℕ) (masks : List ℕ) (rows : List (List (Option Place))) → IsSettled level → IsLevel links switches level masks rows → HaveHops links switches rows
+  level_end level masks rows settled l from to lf lt = l.hops from to lf lt ∙ go (near links level (name from) (name to)) refl
+    where
+      none : (o : Option ℕ) → distance links (name from) (name to) ≡ o → near links level (name from) (name to) ≡ false → None ≡ next_hop links (name from) (name to)
+      none None is far = sym (next_hop-at links (name from) (name to) None is)
+      none (Some m) is far = absurd (both_ways _ far (settled m from to lf lt (distance_some links (name from) (name to) m is).leads))
+
+      go : (b : Bool) → near links level (name from) (name to) ≡ b → cond b (next_hop links (name from) (name to)) None ≡ next_hop links (name from) (name to)
+      go true h = refl
+      go false h = none (distance links (name from) (name to)) refl h

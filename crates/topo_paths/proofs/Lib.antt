@@ -3,7 +3,8 @@ pub mod Graphs
 pub mod Hopping
 pub mod LeastHops
 pub mod Levels
-pub mod Making
+pub mod Masks
+pub mod Moved
 pub mod Naming
 pub mod Nearness
 pub mod Shown

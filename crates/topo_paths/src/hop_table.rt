@@ -1,21 +1,17 @@
 // The next hops between all switches that links name.
-ghost use Rattle.std.specs.Prelude.{◌≡◌, ℕ, ◌<◌, ◌≤◌, [], List, length, All, AllPairs, IfOk};
-ghost use Rattle.std.specs.List.{slice_index_or};
-ghost use Rattle.std.specs.Vec.{vec_capacity};
-ghost use Rattle.env_cells.specs.Lists.{StartApart};
-ghost use Rattle.env_cells.specs.Most.{most_switches};
-ghost use Rattle.topo_paths.specs.Graphs.{IsGraph};
+ghost use Rattle.std.specs.Prelude.{◌≡◌, ◌≤◌, ℕ, List, length, IfOk};
+ghost use Rattle.env_cells.specs.Lists.{NamesFewSwitches};
+ghost use Rattle.topo_paths.specs.Graphs.{RisePorts};
 ghost use Rattle.topo_paths.specs.NextHops.{next_hop};
-ghost use Rattle.topo_paths.specs.Rows.{AreEnds, AreRows, AreWithin, IsRow};
 ghost use Rattle.topo_paths.specs.Tables.{HasRoom, IsSquare, IsTableOf};
 ghost use Rattle.topo_paths.specs.Walks.{Link};
 
-use crate::rows::{Ends, Row, SWITCHES, row_of};
+use crate::rows::{Ends, Row, SWITCHES, find_hops};
 use crate::switches::{find_ends, index_of, name_switches};
 use maple_base::{NoMemory, Place};
 use std::alloc::Global;
 
-/// The named switches, and for each a row: the next hops to it from each of them.
+/// The named switches, and for each place a row: the next hops to the switch there from each of them.
 #[derive(Drop)]
 pub struct HopTable {
     pub switches: Vec<u64>,
@@ -24,30 +20,28 @@ pub struct HopTable {
 }
 
 impl HopTable {
-    /// A table of no links, with room for so many.
+    /// A table with room for so many links.
     pub fn new(alloc: Global, links: usize) -> Result<HopTable, NoMemory>
         ensures room { IfOk result (λ table. HasRoom table links) }
     {
-        let switches = Vec::with_capacity(alloc, SWITCHES)?;
-        let ends = Vec::with_capacity(alloc, links)?;
-        let rows = Vec::with_capacity(alloc, SWITCHES)?;
         Ok(HopTable {
-            switches,
-            ends,
-            rows,
+            switches: Vec::with_capacity(alloc, SWITCHES)?,
+            ends: Vec::with_capacity(alloc, links)?,
+            rows: vec![in alloc; [None; SWITCHES]; SWITCHES]?,
         })
     }
 
-    /// Makes this the table of these links.
+    /// Makes this the table of these links, which rise by port.
     pub fn rebuild(&mut self, links: &[(Place, Place)])
         requires room { HasRoom self.old (length links.now) }
-        requires graph { IsGraph links.now }
+        requires few { NamesFewSwitches links.now }
+        requires rise { RisePorts links.now }
         ensures room { (n : ℕ) → HasRoom self.old n → HasRoom self.new n }
         ensures table { IsTableOf links.now self.new }
     {
         name_switches(&mut self.switches, links);
         find_ends(&mut self.ends, &self.switches, links);
-        make_rows(&mut self.rows, links, &self.ends, self.switches.len());
+        find_hops(&mut self.rows, links, &self.ends);
     }
 
     /// The next hop from one switch to another.
@@ -59,21 +53,20 @@ impl HopTable {
         let column = index_of(&self.switches, from)?;
         self.rows[row][column]
     }
-}
 
-/// Makes the rows of next hops to so many switches.
-fn make_rows(rows: &mut Vec<Row>, links: &[(Place, Place)], ends: &[Ends], count: usize)
-    requires room { count ≤ vec_capacity rows.old }
-    requires few { count ≤ most_switches }
-    requires within { All AreWithin ends.now }
-    requires long { length ends.now ≡ length links.now }
-    ensures long { length rows.new.items ≡ count }
-    ensures rows { AreRows links.now ends.now count rows.new.items }
-    ensures capacity { vec_capacity rows.new ≡ vec_capacity rows.old }
-{
-    rows.clear();
-    for to in 0..count {
-        let row = row_of(links, ends, to);
-        rows.push_reserved(row);
+    /// A table of the same links, with room for so many.
+    pub fn copy(&self, links: usize) -> Result<HopTable, NoMemory>
+        requires { IsSquare self.now }
+        ensures room { IfOk result (λ table. HasRoom table links) }
+        ensures table { IfOk result (λ table. (list : List Link) → IsTableOf list self.now → IsTableOf list table) }
+    {
+        let alloc = *self.switches.allocator();
+        let mut switches = Vec::with_capacity(alloc, SWITCHES)?;
+        switches.extend_from_slice(&self.switches)?;
+        Ok(HopTable {
+            switches,
+            ends: Vec::with_capacity(alloc, links)?,
+            rows: Vec::from_slice(alloc, &self.rows)?,
+        })
     }
 }

@@ -1,7 +1,8 @@
 // Next hops over links.
 ghost use Rattle.std.specs.Prelude.{◌≡◌, ◌≢◌, ◌⊎◌, IfOk, IfSome, IfNone, IsTrue};
 ghost use Rattle.maple_base.specs.Paths.{IsPath, is_hop};
-ghost use Rattle.topo_paths.specs.Graphs.{IsGraph};
+ghost use Rattle.std.specs.List.Sorted.{IsPermutation};
+ghost use Rattle.topo_paths.specs.Graphs.{IsGraph, RisePorts};
 ghost use Rattle.topo_paths.specs.NextHops.{next_hop};
 ghost use Rattle.topo_paths.specs.Walks.{IsNextHop, IsWay, NoWalk};
 
@@ -21,13 +22,13 @@ pub struct Hops {
 impl Model for Hops {
     ghost use Rattle.std.specs.Prelude.{List};
     ghost use Rattle.topo_paths.specs.Walks.{Link};
-    ghost use Rattle.topo_paths.specs.Tables.{IsTableOf};
+    ghost use Rattle.topo_paths.specs.Tables.{HasTable};
 
     ghost Value = { List Link };
 
     ghost view = { λ a. a.links };
 
-    ghost invariant = { λ a. IsTableOf a.links a.table };
+    ghost invariant = { λ a. HasTable a.links a.table };
 }
 
 impl Hops {
@@ -38,8 +39,9 @@ impl Hops {
         ensures { IfOk result (λ hops. hops ≡ links.now) }
     {
         let list = Vec::from_slice(alloc, links.items())?;
-        let mut table = HopTable::new(alloc, links.items().len())?;
-        table.rebuild(links.items());
+        let rising = rising(alloc, links.items())?;
+        let mut table = HopTable::new(alloc, rising.len())?;
+        table.rebuild(&rising);
         Ok(Hops {
             links: Links::new(list),
             table,
@@ -80,4 +82,14 @@ impl Hops {
         }
         Ok(Some(Path::new(hops)))
     }
+}
+
+/// These links in the order of the ports at which they begin.
+fn rising(alloc: Global, links: &[(Place, Place)]) -> Result<Vec<(Place, Place)>, NoMemory>
+    ensures moved { IfOk result (λ list. IsPermutation links.now list.items) }
+    ensures rise { IfOk result (λ list. RisePorts list.items) }
+{
+    let mut list = Vec::from_slice(alloc, links)?;
+    list.sort_unstable_by_key(|link| link.0.port);
+    Ok(list)
 }

@@ -1,12 +1,9 @@
-// How far switches are from one of them, and the next hops to it.
-ghost use Rattle.std.specs.Prelude.{◌≡◌, ℕ, ◌+◌, ◌<◌, ◌≤◌, List, length, All, AllPairs, Option, Some, None, false, if◌then◌else◌};
-ghost use Rattle.std.specs.List.{slice_index_or};
-ghost use Rattle.maple_base.specs.declared.cells.Place.{Place};
-ghost use Rattle.env_cells.specs.Lists.{StartApart};
+// The next hops between named switches, level by level.
+ghost use Rattle.std.specs.Prelude.{◌≡◌, ℕ, ◌<◌, length, All, Some, None, false, not, ◌&&◌, ◌==◌, if◌then◌else◌};
 ghost use Rattle.env_cells.specs.Most.{most_switches};
-ghost use Rattle.topo_paths.specs.Levels.{AreFound, IsFollowed, unreached};
-ghost use Rattle.topo_paths.specs.NextHops.{hop_over, lesser};
-ghost use Rattle.topo_paths.specs.Rows.{AreWithin, AreDistances, AreEnds, IsRow, is_nearer};
+ghost use Rattle.topo_paths.specs.NextHops.{hop_over};
+ghost use Rattle.topo_paths.specs.Rows.{AreWithin, AreRows, cell_at};
+ghost use Rattle.topo_paths.specs.Levels.{IsNextLevel, IsJoined, IsWritten, has, reaches};
 
 use env_cells::MOST_SWITCHES;
 use maple_base::Place;
@@ -17,32 +14,126 @@ pub const SWITCHES: usize = MOST_SWITCHES as usize;
 /// The switches between which a link leads, by their places among the named ones.
 #[derive(Clone, Copy)]
 pub struct Ends {
-    pub from: usize,
-    pub to: usize,
+    pub from: u8,
+    pub to: u8,
 }
 
 /// The next hops from each named switch, by its place, to one of them.
 pub type Row = [Option<Place>; SWITCHES];
 
-/// How many links lead from each named switch, by its place, to one of them.
-type Distances = [Option<usize>; SWITCHES];
+/// The places that each named switch reaches, a bit a place.
+type Reach = [u64; SWITCHES];
 
-/// The next hops to the switch at a place.
-pub fn row_of(links: &[(Place, Place)], ends: &[Ends], to: usize) -> Row
+/// Finds the next hops over links that rise by port, a row for each place.
+pub fn find_hops(rows: &mut [Row], links: &[(Place, Place)], ends: &[Ends])
+    requires square { length rows.old ≡ most_switches }
     requires within { All AreWithin ends.now }
     requires long { length ends.now ≡ length links.now }
-    requires to { to < most_switches }
-    ensures { (switches : List ℕ) → StartApart links.now → AreEnds links.now switches ends.now → to < length switches → IsRow links.now switches to result }
+    ensures square { length rows.new ≡ most_switches }
+    ensures hops { AreRows links.now ends.now rows.new }
 {
-    let distances = distances(ends, to);
-    let mut row = [None; SWITCHES];
-    for (i, link) in links.iter().enumerate() {
-        if leads_nearer(&distances, &ends[i]) {
-            let from = ends[i].from;
-            row[from] = Some(lesser(hop_over(link), row[from]));
+    clear(rows);
+    let mut reach = alone();
+    for _ in links {
+        if !extend(rows, &mut reach, links, ends) {
+            return;
         }
     }
-    row
+}
+
+/// No hops.
+fn clear(rows: &mut [Row])
+    requires square { length rows.old ≡ most_switches }
+    ensures square { length rows.new ≡ most_switches }
+    ensures none { (from to : ℕ) → from < most_switches → to < most_switches → cell_at rows.new to from ≡ None }
+{
+    for place in 0..SWITCHES {
+        rows[place] = [None; SWITCHES];
+    }
+}
+
+/// Each place reaches itself.
+fn alone() -> Reach
+    ensures masks { length result ≡ most_switches }
+    ensures own { (from to : ℕ) → from < most_switches → to < most_switches → reaches result from to ≡ (from == to) }
+{
+    let mut reach = [0; SWITCHES];
+    for place in 0..SWITCHES {
+        reach[place] = 1 << place;
+    }
+    reach
+}
+
+/// Puts one more link in front of all walks. Whether a further place is reached.
+fn extend(rows: &mut [Row], reach: &mut [u64], links: &[(Place, Place)], ends: &[Ends]) -> bool
+    requires square { length rows.old ≡ most_switches }
+    requires masks { length reach.old ≡ most_switches }
+    requires within { All AreWithin ends.now }
+    requires long { length ends.now ≡ length links.now }
+    ensures square { length rows.new ≡ most_switches }
+    ensures masks { length reach.new ≡ most_switches }
+    ensures more { IsNextLevel links.now ends.now reach.old rows.old reach.new rows.new }
+    ensures none { result ≡ false → reach.new ≡ reach.old }
+{
+    let mut before = [0; SWITCHES];
+    before.copy_from_slice(reach);
+    let mut grown = false;
+    for (i, link) in links.iter().enumerate() {
+        if join(rows, reach, &before, &ends[i], link) {
+            grown = true;
+        }
+    }
+    grown
+}
+
+/// Lets the place at which a link begins reach what the place reached before at which it ends; the
+/// hop is that over the link. Whether one of those places is new.
+fn join(
+    rows: &mut [Row],
+    reach: &mut [u64],
+    before: &[u64],
+    e: &Ends,
+    link: &(Place, Place),
+) -> bool
+    requires square { length rows.old ≡ most_switches }
+    requires masks { length reach.old ≡ most_switches }
+    requires before { length before.now ≡ most_switches }
+    requires within { AreWithin e.now }
+    ensures square { length rows.new ≡ most_switches }
+    ensures masks { length reach.new ≡ most_switches }
+    ensures joined { IsJoined e.now (hop_over link.now) before.now reach.old rows.old reach.new rows.new }
+    ensures none { result ≡ false → reach.new ≡ reach.old }
+{
+    let from = e.from as usize;
+    let new = without(before[e.to as usize], reach[from]);
+    if new == 0 {
+        return false;
+    }
+    reach[from] |= new;
+    write_hops(rows, from, new, hop_over(link));
+    true
+}
+
+/// The places of a mask that another doesn't have.
+fn without(mask: u64, other: u64) -> u64
+    ensures { (place : ℕ) → place < most_switches → has result place ≡ (has mask place && not (has other place)) }
+{
+    mask & !other
+}
+
+/// Writes the hop from one place to each place of a mask.
+fn write_hops(rows: &mut [Row], from: usize, mask: u64, hop: Place)
+    requires square { length rows.old ≡ most_switches }
+    requires from { from < most_switches }
+    ensures square { length rows.new ≡ most_switches }
+    ensures hops { IsWritten from mask hop rows.old rows.new }
+{
+    let mut left = mask;
+    while left != 0 {
+        let to = left.trailing_zeros() as usize;
+        rows[to][from] = Some(hop);
+        left &= !(1 << to);
+    }
 }
 
 fn hop_over(link: &(Place, Place)) -> Place
@@ -52,74 +143,4 @@ fn hop_over(link: &(Place, Place)) -> Place
         switch: link.1.switch,
         port: link.0.port,
     }
-}
-
-fn lesser(hop: Place, kept: Option<Place>) -> Place
-    ensures { result ≡ lesser hop kept }
-{
-    match kept {
-        Some(other) if other.port <= hop.port => other,
-        _ => hop,
-    }
-}
-
-fn leads_nearer(distances: &[Option<usize>], ends: &Ends) -> bool
-    requires long { length distances.now ≡ most_switches }
-    requires within { AreWithin ends.now }
-    ensures { result ≡ is_nearer (slice_index_or distances.now ends.now.from None) (slice_index_or distances.now ends.now.to None) }
-{
-    match (distances[ends.from], distances[ends.to]) {
-        (Some(here), Some(there)) => there < here,
-        _ => false,
-    }
-}
-
-/// How far each switch is from the one at a place.
-fn distances(ends: &[Ends], to: usize) -> Distances
-    requires within { All AreWithin ends.now }
-    requires to { to < most_switches }
-    ensures { AreDistances ends.now to result }
-{
-    let mut distances = [None; SWITCHES];
-    distances[to] = Some(0);
-    let mut level = 0;
-    while reach(&mut distances, ends, level) {
-        level += 1;
-    }
-    distances
-}
-
-/// Reaches from the switches at a level each further one that a link leads from to one of them.
-/// Whether there was one.
-fn reach(distances: &mut [Option<usize>], ends: &[Ends], level: usize) -> bool
-    requires long { length distances.old ≡ most_switches }
-    requires within { All AreWithin ends.now }
-    requires few { level < most_switches }
-    ensures long { length distances.new ≡ most_switches }
-    ensures found { (to : ℕ) → AreFound ends.now to level distances.old → AreFound ends.now to (level + 1) distances.new }
-    ensures none { result ≡ false → distances.new ≡ distances.old }
-    ensures some { unreached distances.new + (if result then 1 else 0) ≤ unreached distances.old }
-{
-    let mut reached = false;
-    for e in ends {
-        if follow(distances, e, level) {
-            reached = true;
-        }
-    }
-    reached
-}
-
-/// Reaches the place at which a link begins, where it has no distance and the link ends at the
-/// level. Whether that was so.
-fn follow(distances: &mut [Option<usize>], e: &Ends, level: usize) -> bool
-    requires long { length distances.old ≡ most_switches }
-    requires within { AreWithin e.now }
-    requires few { level < most_switches }
-    ensures { IsFollowed e.now level result distances.old distances.new }
-{
-    let found = distances[e.to] == Some(level) && distances[e.from].is_none();
-    if found {
-        distances[e.from] = Some(level + 1);
-    }
-    found
 }

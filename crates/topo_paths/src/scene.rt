@@ -1,5 +1,5 @@
 // The environment with next hops.
-ghost use Rattle.std.specs.Prelude.{◌≡◌, ◌≤◌, length, None, Some, Err, IsTrue, IfOk, OnOk, OnErr};
+ghost use Rattle.std.specs.Prelude.{◌≡◌, ◌≤◌, false, length, None, Some, Err, IsTrue, IfOk, OnOk, OnErr};
 ghost use Rattle.maple_base.specs.Kinds.{of_kind};
 ghost use Rattle.maple_base.specs.declared.update_refused.UpdateRefused.{UpdateRefused};
 ghost use Rattle.env_cells.specs.declared.updates.UpdateError.TheVariants.{Refused};
@@ -7,7 +7,10 @@ ghost use Rattle.env_cells.specs.Environment.{nothing_known, knows};
 ghost use Rattle.env_cells.specs.Changes.{applied};
 ghost use Rattle.env_cells.specs.Refusals.{refusal_of, HasRoomForTables};
 ghost use Rattle.env_cells.specs.Most.{most_links};
-ghost use Rattle.topo_paths.specs.Graphs.{IsGraph};
+ghost use Rattle.env_cells.specs.Lists.{NamesFewSwitches};
+ghost use Rattle.env_cells.specs.Limits.{IsWithinLimits};
+ghost use Rattle.env_cells.specs.Values.{at_or_nothing};
+ghost use Rattle.topo_paths.specs.Graphs.{IsGraph, RisePorts};
 ghost use Rattle.topo_paths.specs.Scenes.{links_in, cell_in, HopIsShown};
 
 use crate::hop_table::HopTable;
@@ -35,11 +38,11 @@ impl Model for Scene {
 
     ghost use Rattle.env_cells.specs.Most.{most_links};
     ghost use Rattle.topo_paths.specs.Scenes.{links_in};
-    ghost use Rattle.topo_paths.specs.Tables.{HasRoom, IsTableOf};
+    ghost use Rattle.topo_paths.specs.Tables.{HasRoom, HasTable};
 
     ghost view = { λ a. a.env };
 
-    ghost invariant = { λ a. HasRoom a.table most_links × IsTableOf (links_in a.env) a.table };
+    ghost invariant = { λ a. HasRoom a.table most_links × HasTable (links_in a.env) a.table };
 }
 
 impl Scene {
@@ -62,11 +65,26 @@ impl Scene {
         ensures refused { (r : UpdateRefused) → result ≡ Err (Refused r) → refusal_of self.old update.now ≡ Some r }
         ensures unchanged { OnErr result (self.new ≡ self.old) }
     {
+        let moved = self.moves_links(update);
         self.env.apply(update)?;
-        if let Update::Link { .. } | Update::NoLink { .. } = update {
+        if moved {
             self.table.rebuild(links_of(&self.env));
         }
         Ok(())
+    }
+
+    /// Whether the links are others after an update.
+    fn moves_links(&self, update: &Update) -> bool
+        ensures { result ≡ false → links_in (applied self.now update.now) ≡ links_in self.now }
+    {
+        match update {
+            Update::Link { from, to } => match self.env.link(*from) {
+                Some(place) => place != *to,
+                None => true,
+            },
+            Update::NoLink { from } => self.env.link(*from).is_some(),
+            _ => false,
+        }
     }
 
     /// Whether a switch is known.
@@ -80,18 +98,20 @@ impl Scene {
     pub fn links(&self) -> &Links
         ensures links { result.now ≡ links_in self.now }
         ensures graph { IsGraph result.now }
+        ensures limits { IsWithinLimits self.now }
     {
         self.env.links()
     }
 
     /// An equal scene.
     pub fn copy(&self) -> Result<Scene, NoMemory>
-        ensures { IfOk result (λ scene. scene ≡ self.now) }
+        ensures equal { IfOk result (λ scene. scene ≡ self.now) }
+        ensures limits { IsWithinLimits self.now }
     {
-        let env = self.env.copy()?;
-        let mut table = HopTable::new(*self.table.switches.allocator(), LINKS)?;
-        table.rebuild(links_of(&env));
-        Ok(Scene { env, table })
+        Ok(Scene {
+            env: self.env.copy()?,
+            table: self.table.copy(LINKS)?,
+        })
     }
 }
 
@@ -104,20 +124,28 @@ impl EnvNow for Scene {
         ensures hop { HopIsShown (links_in self.now) cell result }
     {
         match cell {
-            Cell::Hop { from, to } => match self.table.hop(from, to) {
-                Some(place) => Value::At(place),
-                None => Value::Nothing,
-            },
+            Cell::Hop { from, to } => at_or_nothing(self.table.hop(from, to)),
             _ => self.env.value(cell),
         }
     }
 }
 
-/// The links of an environment, which have next hops.
+fn at_or_nothing(place: Option<Place>) -> Value
+    ensures { result ≡ at_or_nothing place }
+{
+    match place {
+        Some(place) => Value::At(place),
+        None => Value::Nothing,
+    }
+}
+
+/// The links of an environment, which rise by port.
 fn links_of(env: &Env) -> &[(Place, Place)]
     ensures links { result.now ≡ links_in env.now }
-    ensures few { length result.now ≤ most_links }
+    ensures many { length result.now ≤ most_links }
+    ensures few { NamesFewSwitches result.now }
     ensures graph { IsGraph result.now }
+    ensures rise { RisePorts result.now }
 {
     env.links().items()
 }

@@ -21,67 +21,97 @@ const TCP: Key = Key {
     tp_dst: 80,
 };
 
+// The numbers of a key that differ from the TCP packet, and whether it is valid.
+type KeyRow = (&'static str, bool);
+
+fn key_rows() -> &'static [KeyRow] {
+    KEYS
+}
+
+const KEYS: &[KeyRow] = &[
+    ("", true),
+    ("nw_proto=2", false),
+    ("nw_proto=2 tp_src=0 tp_dst=0", true),
+    ("dl_type=0x0806", false),
+    ("dl_vlan=4095 dl_pcp=7", true),
+    ("dl_vlan=4096", false),
+    ("dl_vlan=1 dl_pcp=8", false),
+    ("dl_pcp=1", false),
+    ("nw_tos=4", true),
+    ("nw_tos=2", false),
+    ("dl_src=0x1000000000000", false),
+];
+
 #[test]
 fn valid_keys(rt: HostRuntime) -> Result<(), Fail> {
-    let rows = [
-        ("", true),
-        ("nw_proto=2", false),
-        ("nw_proto=2 tp_src=0 tp_dst=0", true),
-        ("dl_type=0x0806", false),
-        ("dl_vlan=4095 dl_pcp=7", true),
-        ("dl_vlan=4096", false),
-        ("dl_vlan=1 dl_pcp=8", false),
-        ("dl_pcp=1", false),
-        ("nw_tos=4", true),
-        ("nw_tos=2", false),
-        ("dl_src=0x1000000000000", false),
-    ];
-    for (words, valid) in rows {
-        assert_eq!(rt; key_with(TCP, words)?.valid(), valid, "{words}");
+    for (words, valid) in key_rows() {
+        assert_eq!(rt; key_with(TCP, words)?.valid(), *valid, "{words}");
     }
     Ok(())
 }
 
 // Matches, whether they fit the TCP packet, and whether they are normal.
+type MatchRow = (&'static str, bool, bool);
+
+fn match_rows() -> &'static [MatchRow] {
+    MATCHES
+}
+
+const MATCHES: &[MatchRow] = &[
+    ("", true, true),
+    ("dl_type=0x0800", true, true),
+    ("dl_type=0x0800 nw_proto=6 tp_dst=22", false, true),
+    ("dl_type=0x0800 nw_proto=6 tp_dst=80", true, true),
+    ("tp_dst=80", true, false),
+    ("nw_src=3", true, false),
+    ("dl_pcp=0", true, false),
+    ("dl_type=0x0800 nw_tos=1", false, false),
+];
+
+// Whether a match fits the TCP packet, is normal, and is exact.
+fn judged(words: &str) -> Result<(bool, bool, bool), Fail> {
+    let of = match_of(words)?;
+    Ok((of.fits(&TCP), of.is_normal(), of.is_exact()))
+}
+
 #[test]
 fn matches(rt: HostRuntime) -> Result<(), Fail> {
-    let rows = [
-        ("", true, true),
-        ("dl_type=0x0800", true, true),
-        ("dl_type=0x0800 nw_proto=6 tp_dst=22", false, true),
-        ("dl_type=0x0800 nw_proto=6 tp_dst=80", true, true),
-        ("tp_dst=80", true, false),
-        ("nw_src=3", true, false),
-        ("dl_pcp=0", true, false),
-        ("dl_type=0x0800 nw_tos=1", false, false),
-    ];
-    for (words, fits, normal) in rows {
-        let of = match_of(words)?;
-        assert_eq!(rt; of.fits(&TCP), fits, "{words}");
-        assert_eq!(rt; of.is_normal(), normal, "{words}");
-        assert!(rt; !of.is_exact(), "{words}");
+    for (words, fits, normal) in match_rows() {
+        assert_eq!(rt; judged(words)?, (*fits, *normal, false), "{words}");
     }
     Ok(())
 }
 
+// A text, and whether it is a name.
+type NameRow = (&'static str, bool);
+
+fn name_rows() -> &'static [NameRow] {
+    NAMES
+}
+
+const NAMES: &[NameRow] = &[
+    ("a", true),
+    ("_9", true),
+    ("abcdefghijklmnopqrstuvwxyz01234", true),
+    ("abcdefghijklmnopqrstuvwxyz012345", false),
+    ("", false),
+    ("9a", false),
+    ("A", false),
+    ("a-b", false),
+    ("table", false),
+    ("tables", true),
+    ("pkt", false),
+];
+
 #[test]
 fn names(rt: HostRuntime) {
-    let names = [
-        ("a", true),
-        ("_9", true),
-        ("abcdefghijklmnopqrstuvwxyz01234", true),
-        ("abcdefghijklmnopqrstuvwxyz012345", false),
-        ("", false),
-        ("9a", false),
-        ("A", false),
-        ("a-b", false),
-        ("table", false),
-        ("tables", true),
-        ("pkt", false),
-    ];
-    for (text, is_name) in names {
-        assert_eq!(rt; Name::new(text.as_bytes()).is_some(), is_name, "{text}");
+    for (text, is_name) in name_rows() {
+        assert_eq!(rt; Name::new(text.as_bytes()).is_some(), *is_name, "{text}");
     }
+}
+
+#[test]
+fn fields(rt: HostRuntime) {
     let fields = [
         ("tp_dst", Some(Field::TpDst)),
         ("in_port", Some(Field::InPort)),
@@ -90,11 +120,19 @@ fn names(rt: HostRuntime) {
     for (text, field) in fields {
         assert_eq!(rt; Field::named(text.as_bytes()), field, "{text}");
     }
+}
+
+#[test]
+fn the_name_of_a_field(rt: HostRuntime) {
     assert_eq!(rt; Field::DlType.name(), "dl_type");
 }
 
 // Words, and the numbers that they spell in decimal.
-const DECIMALS: [(&str, Option<u64>); 7] = [
+fn decimals() -> &'static [(&'static str, Option<u64>)] {
+    DECIMALS
+}
+
+const DECIMALS: &[(&str, Option<u64>)] = &[
     ("0", Some(0)),
     ("007", Some(7)),
     ("18446744073709551615", Some(u64::MAX)),
@@ -105,7 +143,11 @@ const DECIMALS: [(&str, Option<u64>); 7] = [
 ];
 
 // Words, and the numbers that they spell; those that spell none.
-const NUMERALS: [(&str, Option<Numeral>); 25] = [
+fn numerals() -> &'static [(&'static str, Option<Numeral>)] {
+    NUMERALS
+}
+
+const NUMERALS: &[(&str, Option<Numeral>)] = &[
     ("0", Some(Numeral::Number(0))),
     ("00022", Some(Numeral::Number(22))),
     ("0x16", Some(Numeral::Number(22))),
@@ -136,18 +178,25 @@ const NUMERALS: [(&str, Option<Numeral>); 25] = [
     ("02:00:00:00:00:0g", None),
 ];
 
+fn number_in(numeral: Option<Numeral>) -> Option<u64> {
+    match numeral {
+        Some(Numeral::Number(number)) => Some(number),
+        _ => None,
+    }
+}
+
 #[test]
 fn numbers(rt: HostRuntime) {
-    for (text, number) in DECIMALS {
-        assert_eq!(rt; number_of(text.as_bytes()), number, "{text}");
+    for (text, number) in decimals() {
+        assert_eq!(rt; number_of(text.as_bytes()), *number, "{text}");
     }
-    for (text, numeral) in NUMERALS {
-        let value = match numeral {
-            Some(Numeral::Number(number)) => Some(number),
-            _ => None,
-        };
-        assert_eq!(rt; numeral_of(text.as_bytes()), numeral, "{text}");
-        assert_eq!(rt; value_of(text.as_bytes()), value, "{text}");
+}
+
+#[test]
+fn numbers_in_any_form(rt: HostRuntime) {
+    for (text, numeral) in numerals() {
+        let got = (numeral_of(text.as_bytes()), value_of(text.as_bytes()));
+        assert_eq!(rt; got, (*numeral, number_in(*numeral)), "{text}");
     }
 }
 
@@ -170,12 +219,13 @@ fn parts(alloc: Global, text: &str) -> Result<Vec<u8>, Fail> {
 
 #[test]
 fn parts_of_a_text(rt: HostRuntime) -> Result<(), Fail> {
-    let rows = [("turn 1  3", "[turn][1][][3]")];
-    for (text, expected) in rows {
-        let written = parts(rt.alloc(), text)?;
-        assert_eq!(rt; written.as_slice(), expected.as_bytes(), "{text}");
-    }
+    let written = parts(rt.alloc(), "turn 1  3")?;
+    assert_eq!(rt; written.as_slice(), b"[turn][1][][3]".as_slice());
     Ok(())
+}
+
+fn hops() -> &'static [Place] {
+    &[Place { switch: 1, port: 5 }, Place { switch: 2, port: 6 }]
 }
 
 fn two_hops(alloc: Global) -> Result<Path, Fail> {
@@ -184,30 +234,44 @@ fn two_hops(alloc: Global) -> Result<Path, Fail> {
 }
 
 // Fails unless a copy of the decision has these actions at the switch.
-fn check_actions(decision: Decision, switch: u64, ports: &[u16], row: &str) -> Result<(), Fail> {
-    if decision.copy()?.actions_at(switch).items() == ports {
+fn check_actions(decision: &Decision, switch: u64, ports: &[u16]) -> Result<(), Fail> {
+    let copy = decision.copy()?;
+    if copy.actions_at(switch).items() == ports {
         Ok(())
     } else {
-        Err(Fail::from(row))
+        Err(Fail::from("other actions"))
     }
 }
 
 #[test]
-fn paths_and_decisions(rt: HostRuntime) -> Result<(), Fail> {
-    let alloc = rt.alloc();
-    let hops = [Place { switch: 1, port: 5 }, Place { switch: 2, port: 6 }];
+fn paths(rt: HostRuntime) -> Result<(), Fail> {
+    let path = two_hops(rt.alloc())?;
+    assert_eq!(rt; path.items(), hops());
+    Ok(())
+}
+
+#[test]
+fn copies_of_paths(rt: HostRuntime) -> Result<(), Fail> {
+    let path = copy_of_hops(rt.alloc())?;
+    assert_eq!(rt; path.items(), hops());
+    Ok(())
+}
+
+fn copy_of_hops(alloc: Global) -> Result<Path, Fail> {
     let path = two_hops(alloc)?;
-    assert_eq!(rt; path.items(), hops.as_slice());
-    assert_eq!(rt; path.copy()?.items(), hops.as_slice());
-    let out = Decision::Out(Actions::new(&[2, 3]));
-    check_actions(
-        Decision::Path(two_hops(alloc)?),
-        2,
-        &[6],
-        "a path at its switch",
-    )?;
-    check_actions(Decision::Path(two_hops(alloc)?), 3, &[], "a path elsewhere")?;
-    check_actions(Decision::Drop, 1, &[], "a drop")?;
-    check_actions(Decision::Flood, 1, &[0xfffb], "a flood")?;
-    check_actions(out, 9, &[2, 3], "two ports")
+    Ok(path.copy()?)
+}
+
+// Fails unless a path of two hops has these actions at the switch.
+fn check_hops(alloc: Global, switch: u64, ports: &[u16]) -> Result<(), Fail> {
+    check_actions(&Decision::Path(two_hops(alloc)?), switch, ports)
+}
+
+#[test]
+fn decisions(rt: HostRuntime) -> Result<(), Fail> {
+    check_hops(rt.alloc(), 2, &[6])?;
+    check_hops(rt.alloc(), 3, &[])?;
+    check_actions(&Decision::Drop, 1, &[])?;
+    check_actions(&Decision::Flood, 1, &[0xfffb])?;
+    check_actions(&Decision::Out(Actions::new(&[2, 3])), 9, &[2, 3])
 }

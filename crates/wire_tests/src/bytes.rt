@@ -1,7 +1,7 @@
 // Sources and sinks: what they answer, call after call.
-use crate::text::{hex, unhex};
+use crate::text::{push_hex, unhex};
 use maple_io::{Got, MemSink, MemSource, Put, ReadSource, Sink, Source, WriteSink};
-use std::alloc::Global;
+use std::alloc::{AllocError, Global};
 use std::io;
 use std::io::{ErrorKind, Read, Write};
 use std::test::Fail;
@@ -47,27 +47,29 @@ impl Write for Stubborn {
     }
 }
 
-// One read into two bytes: what it gave, and how many reads failed up to now.
-fn read_once<S: Source>(alloc: Global, source: &mut S) -> Result<String, Fail> {
+// Appends what one read into two bytes gave, and how many reads failed up to now.
+fn read_once<S: Source>(source: &mut S, answers: &mut String) -> Result<(), AllocError> {
     let mut into = [0u8; 2];
     let got = source.read(&mut into);
     let faults = source.faults();
-    Ok(match got {
-        Got::Bytes(count) => {
-            let front = hex(alloc, into.get(..count).unwrap_or(&[]))?;
-            format!(in alloc; " {front}/{faults}")?
-        }
-        Got::End => format!(in alloc; " end/{faults}")?,
-        Got::Failed => format!(in alloc; " failed/{faults}")?,
-    })
+    match got {
+        Got::Bytes(count) => push_got(answers, into.get(..count).unwrap_or(&[]), faults),
+        Got::End => write!(answers, " end/{faults}"),
+        Got::Failed => write!(answers, " failed/{faults}"),
+    }
+}
+
+fn push_got(answers: &mut String, bytes: &[u8], faults: u64) -> Result<(), AllocError> {
+    answers.push_str(" ")?;
+    push_hex(answers, bytes)?;
+    write!(answers, "/{faults}")
 }
 
 // Fails with the answers of six reads, where they are not these.
 fn check_reads<S: Source>(alloc: Global, source: &mut S, expected: &str) -> Result<(), Fail> {
     let mut answers = String::new(alloc);
     for _ in 0..6 {
-        let answer = read_once(alloc, source)?;
-        answers.push_str(&answer)?;
+        read_once(source, &mut answers)?;
     }
     if answers.as_str() == expected {
         Ok(())
@@ -76,16 +78,21 @@ fn check_reads<S: Source>(alloc: Global, source: &mut S, expected: &str) -> Resu
     }
 }
 
-#[test]
-fn reads(rt: HostRuntime) -> Result<(), Fail> {
-    let alloc = rt.alloc();
-    // the second read fails
-    let mut memory = MemSource::new(unhex(alloc, "0102030405")?, Vec::from_slice(alloc, &[2])?);
+// Of a source whose second read fails.
+fn check_memory_source(alloc: Global) -> Result<(), Fail> {
+    let content = unhex(alloc, "0102030405")?;
+    let mut memory = MemSource::new(content, Vec::from_slice(alloc, &[2])?);
     check_reads(
         alloc,
         &mut memory,
         " 0102/0 failed/1 0304/1 05/1 end/1 end/1",
-    )?;
+    )
+}
+
+#[test]
+fn reads(rt: HostRuntime) -> Result<(), Fail> {
+    let alloc = rt.alloc();
+    check_memory_source(alloc)?;
     let text: &[u8] = b"abc";
     let mut reader = ReadSource::new(text);
     check_reads(alloc, &mut reader, " 6162/0 63/0 end/0 end/0 end/0 end/0")?;
@@ -97,18 +104,19 @@ fn reads(rt: HostRuntime) -> Result<(), Fail> {
     )
 }
 
-// One write of a piece: what became of it, and how many writes failed up to now.
-fn write_once<S: Sink>(alloc: Global, sink: &mut S, piece: &str) -> Result<String, Fail> {
+// Appends what became of one write of a piece, and how many writes failed up to now.
+fn write_once<S: Sink>(sink: &mut S, piece: &str, answers: &mut String) -> Result<(), Fail> {
     if piece.is_empty() {
         return Err(Fail::from("an empty piece"));
     }
     let put = sink.write(piece.as_bytes());
     let faults = sink.faults();
-    Ok(match put {
-        Put::Took(count) => format!(in alloc; " {count}/{faults}")?,
-        Put::Failed => format!(in alloc; " failed/{faults}")?,
-        Put::NoMemory => format!(in alloc; " no memory/{faults}")?,
-    })
+    match put {
+        Put::Took(count) => write!(answers, " {count}/{faults}")?,
+        Put::Failed => write!(answers, " failed/{faults}")?,
+        Put::NoMemory => write!(answers, " no memory/{faults}")?,
+    }
+    Ok(())
 }
 
 // Fails with the answers of writes of these pieces, where they are not these.
@@ -120,8 +128,7 @@ fn check_writes<S: Sink>(
 ) -> Result<(), Fail> {
     let mut answers = String::new(alloc);
     for piece in pieces {
-        let answer = write_once(alloc, sink, piece)?;
-        answers.push_str(&answer)?;
+        write_once(sink, piece, &mut answers)?;
     }
     if answers.as_str() == expected {
         Ok(())
@@ -137,12 +144,24 @@ fn writes(rt: HostRuntime) -> Result<(), Fail> {
     let mut sink = WriteSink::new(&mut bytes);
     check_writes(alloc, &mut sink, &["ab", "c"], " 2/0 1/0")?;
     assert_eq!(rt; bytes.as_slice(), b"abc".as_slice());
-    // the first write fails
+    Ok(())
+}
+
+// The first write fails.
+#[test]
+fn writes_to_memory(rt: HostRuntime) -> Result<(), Fail> {
+    let alloc = rt.alloc();
     let mut memory = MemSink::new(Vec::from_slice(alloc, &[1])?);
     check_writes(alloc, &mut memory, &["gh"], " failed/1")?;
     assert!(rt; memory.bytes().is_empty());
     check_writes(alloc, &mut memory, &["gh", "i"], " 2/1 1/1")?;
     assert_eq!(rt; memory.bytes(), b"ghi".as_slice());
+    Ok(())
+}
+
+#[test]
+fn writes_that_falter(rt: HostRuntime) -> Result<(), Fail> {
+    let alloc = rt.alloc();
     let mut stubborn = WriteSink::new(Stubborn { calls: 0 });
     check_writes(
         alloc,

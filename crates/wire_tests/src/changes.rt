@@ -1,7 +1,6 @@
 // Every change of one byte of a FLOW_MOD, with what is wrong then worked out by hand from the
 // structures of the standard (OpenFlow 1.0, 5.1 to 5.3).
 use of10_codec::{Bad, decode_ref};
-use std::test::Fail;
 
 // Adds a rule for TCP packets, which sends them out of port 2: the header, the match from byte 8,
 // the cookie from 48 and the numbers behind it, one action from 72.
@@ -88,13 +87,21 @@ fn is_same(bytes: &[u8]) -> bool {
 }
 
 #[test]
-fn cuts_and_one_byte_changes(rt: HostRuntime) -> Result<(), Fail> {
+fn the_whole_message(rt: HostRuntime) {
     assert!(rt; is_read(&ADD_TCP));
-    // each cut is short or has a wrong length
+}
+
+// Each cut is short or has a wrong length.
+#[test]
+fn cuts(rt: HostRuntime) {
     for len in 0..80 {
         let fault = if len < 8 { Bad::Short } else { Bad::Length };
         assert_eq!(rt; decode_ref(&ADD_TCP[..len]), Err(fault), "{len} bytes");
     }
+}
+
+#[test]
+fn one_byte_changes(rt: HostRuntime) {
     for offset in 0..80 {
         for value in 0..=255_u8 {
             let mut bytes = ADD_TCP;
@@ -105,5 +112,4 @@ fn cuts_and_one_byte_changes(rt: HostRuntime) -> Result<(), Fail> {
             }
         }
     }
-    Ok(())
 }

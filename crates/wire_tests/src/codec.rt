@@ -1,11 +1,16 @@
 // Messages worked out by hand from the structures of the standard (OpenFlow 1.0, 5), and what is read of them.
-use crate::text::{hex, match_of, unhex};
-use maple_base::{Field, Match, Port, Ports};
+use crate::text::{match_of, push_hex, push_number, unhex};
+use maple_base::{Field, Match, Port};
 use of10_codec::{Bad, Body, BodyRef, DecodeError, Message, MessageRef, decode, decode_ref};
-use std::alloc::Global;
+use std::alloc::{AllocError, Global};
 use std::test::Fail;
 
-const FIELDS: [(Field, &str); 11] = [
+// The names of the fields.
+fn fields() -> &'static [(Field, &'static str)] {
+    FIELDS
+}
+
+const FIELDS: &[(Field, &str)] = &[
     (Field::InPort, "in_port"),
     (Field::DlSrc, "dl_src"),
     (Field::DlDst, "dl_dst"),
@@ -19,60 +24,84 @@ const FIELDS: [(Field, &str); 11] = [
     (Field::TpDst, "tp_dst"),
 ];
 
-// What a match fixes, in hexadecimal; the VLAN priority stands last.
-fn shown_match(alloc: Global, of: &Match) -> Result<String, Fail> {
-    let mut text = String::new(alloc);
-    for (field, name) in FIELDS {
-        if let Some(value) = of.fixed(field) {
-            let word = format!(in alloc; "{name}={value:x} ")?;
-            text.push_str(&word)?;
+// Appends what a match fixes, in hexadecimal; the VLAN priority stands last.
+fn push_match(text: &mut String, of: &Match) -> Result<(), AllocError> {
+    for (field, name) in fields() {
+        if let Some(value) = of.fixed(*field) {
+            write!(text, "{name}={value:x} ")?;
         }
     }
     if let Some(value) = of.dl_pcp {
-        let word = format!(in alloc; "dl_pcp={value:x} ")?;
-        text.push_str(&word)?;
+        write!(text, "dl_pcp={value:x} ")?;
     }
-    Ok(text)
+    Ok(())
 }
 
-fn shown_ports(alloc: Global, ports: &Ports) -> Result<String, Fail> {
-    let mut text = String::new(alloc);
-    for port in ports.items() {
-        let word = shown_port(alloc, *port)?;
-        text.push_str(&word)?;
-    }
-    Ok(text)
-}
-
-fn shown_port(alloc: Global, port: Port) -> Result<String, Fail> {
+fn push_port(text: &mut String, port: Port) -> Result<(), AllocError> {
     let state = if port.up { "up" } else { "down" };
-    Ok(format!(in alloc; " {}:{state}", port.number)?)
+    write!(text, " {}:{state}", port.number)
 }
 
-fn shown_body(alloc: Global, body: &Body) -> Result<String, Fail> {
-    Ok(match body {
-        Body::Hello { version } => format!(in alloc; "hello {version}")?,
-        Body::Error { kind, code, bytes } => {
-            format!(in alloc; "error {kind} {code} [{}]", hex(alloc, bytes.items())?)?
-        }
-        Body::EchoRequest(bytes) => {
-            format!(in alloc; "echo request [{}]", hex(alloc, bytes.items())?)?
-        }
-        Body::EchoReply(bytes) => format!(in alloc; "echo reply [{}]", hex(alloc, bytes.items())?)?,
-        Body::FeaturesRequest => format!(in alloc; "features request")?,
-        Body::FeaturesReply { dpid, ports } => {
-            format!(in alloc; "features reply {dpid:x}{}", shown_ports(alloc, ports)?)?
-        }
-        Body::SetConfig { miss_send_len } => format!(in alloc; "set config {miss_send_len}")?,
-        Body::BarrierRequest => format!(in alloc; "barrier request")?,
-        Body::BarrierReply => format!(in alloc; "barrier reply")?,
-        Body::Other { kind } => format!(in alloc; "other {kind}")?,
-        _ => shown_packet(alloc, body)?,
-    })
+fn push_ports(text: &mut String, ports: &[Port]) -> Result<(), AllocError> {
+    for port in ports {
+        push_port(text, *port)?;
+    }
+    Ok(())
 }
 
-fn shown_packet(alloc: Global, body: &Body) -> Result<String, Fail> {
-    Ok(match body {
+fn push_bytes(text: &mut String, bytes: &[u8]) -> Result<(), AllocError> {
+    text.push_str("[")?;
+    push_hex(text, bytes)?;
+    text.push_str("]")
+}
+
+fn push_body(text: &mut String, body: &Body) -> Result<(), AllocError> {
+    match body {
+        Body::Hello { version } => push_number(text, "hello", u64::from(*version)),
+        Body::FeaturesRequest => text.push_str("features request"),
+        Body::SetConfig { miss_send_len } => {
+            push_number(text, "set config", u64::from(*miss_send_len))
+        }
+        Body::BarrierRequest => text.push_str("barrier request"),
+        Body::BarrierReply => text.push_str("barrier reply"),
+        Body::Other { kind } => push_number(text, "other", u64::from(*kind)),
+        Body::PortStatus { reason, port } => push_status(text, *reason, *port),
+        _ => push_long_body(text, body),
+    }
+}
+
+fn push_status(text: &mut String, reason: u8, port: Port) -> Result<(), AllocError> {
+    write!(text, "port status {reason}")?;
+    push_port(text, port)
+}
+
+fn push_long_body(text: &mut String, body: &Body) -> Result<(), AllocError> {
+    match body {
+        Body::Error { kind, code, bytes } => push_error(text, *kind, *code, bytes.items()),
+        Body::EchoRequest(bytes) => push_echo(text, "request", bytes.items()),
+        Body::EchoReply(bytes) => push_echo(text, "reply", bytes.items()),
+        Body::FeaturesReply { dpid, ports } => push_features(text, *dpid, ports.items()),
+        _ => push_packet(text, body),
+    }
+}
+
+fn push_error(text: &mut String, kind: u16, code: u16, bytes: &[u8]) -> Result<(), AllocError> {
+    write!(text, "error {kind} {code} ")?;
+    push_bytes(text, bytes)
+}
+
+fn push_echo(text: &mut String, word: &str, bytes: &[u8]) -> Result<(), AllocError> {
+    write!(text, "echo {word} ")?;
+    push_bytes(text, bytes)
+}
+
+fn push_features(text: &mut String, dpid: u64, ports: &[Port]) -> Result<(), AllocError> {
+    write!(text, "features reply {dpid:x}")?;
+    push_ports(text, ports)
+}
+
+fn push_packet(text: &mut String, body: &Body) -> Result<(), AllocError> {
+    match body {
         Body::PacketIn {
             buffer,
             total,
@@ -80,32 +109,34 @@ fn shown_packet(alloc: Global, body: &Body) -> Result<String, Fail> {
             reason,
             bytes,
         } => {
-            format!(in alloc;
-                "packet in {buffer:x} {total} {in_port} {reason} [{}]",
-                hex(alloc, bytes.items())?
-            )?
+            write!(text, "packet in {buffer:x} {total} {in_port} {reason} ")?;
+            push_bytes(text, bytes.items())
         }
+        _ => push_packet_out(text, body),
+    }
+}
+
+fn push_packet_out(text: &mut String, body: &Body) -> Result<(), AllocError> {
+    match body {
         Body::PacketOut {
             buffer,
             in_port,
             actions,
             bytes,
         } => {
-            format!(in alloc;
-                "packet out {buffer:x} {in_port:x} {:?} [{}]",
-                actions.items(),
-                hex(alloc, bytes.items())?
-            )?
+            write!(
+                text,
+                "packet out {buffer:x} {in_port:x} {:?} ",
+                actions.items()
+            )?;
+            push_bytes(text, bytes.items())
         }
-        Body::PortStatus { reason, port } => {
-            format!(in alloc; "port status {reason}{}", shown_port(alloc, *port)?)?
-        }
-        _ => shown_rule(alloc, body)?,
-    })
+        _ => push_removed(text, body),
+    }
 }
 
-fn shown_rule(alloc: Global, body: &Body) -> Result<String, Fail> {
-    Ok(match body {
+fn push_removed(text: &mut String, body: &Body) -> Result<(), AllocError> {
+    match body {
         Body::FlowRemoved {
             of,
             cookie,
@@ -113,11 +144,16 @@ fn shown_rule(alloc: Global, body: &Body) -> Result<String, Fail> {
             reason,
             idle,
         } => {
-            format!(in alloc;
-                "flow removed {}{cookie:x} {priority:x} {reason} {idle}",
-                shown_match(alloc, of)?
-            )?
+            text.push_str("flow removed ")?;
+            push_match(text, of)?;
+            write!(text, "{cookie:x} {priority:x} {reason} {idle}")
         }
+        _ => push_change(text, body),
+    }
+}
+
+fn push_change(text: &mut String, body: &Body) -> Result<(), AllocError> {
+    match body {
         Body::FlowMod {
             of,
             cookie,
@@ -130,29 +166,45 @@ fn shown_rule(alloc: Global, body: &Body) -> Result<String, Fail> {
             flags,
             actions,
         } => {
-            let of = shown_match(alloc, of)?;
-            let numbers = format!(in alloc;
-                "{cookie:x} {command} {idle} {hard} {priority:x} {buffer:x} {out_port:x} {flags}"
-            )?;
-            format!(in alloc; "flow mod {of}{numbers} {:?}", actions.items())?
+            text.push_str("flow mod ")?;
+            push_match(text, of)?;
+            write!(text, "{cookie:x} {command} {idle} {hard} {priority:x} ")?;
+            write!(
+                text,
+                "{buffer:x} {out_port:x} {flags} {:?}",
+                actions.items()
+            )
         }
-        _ => return Err(Fail::from("no rule")),
-    })
+        _ => text.push_str("no rule"),
+    }
 }
 
-/// A message as text, behind its transaction id.
-pub fn shown(alloc: Global, message: &Message) -> Result<String, Fail> {
-    Ok(format!(in alloc; "{} {}", message.xid, shown_body(alloc, &message.body)?)?)
+/// Appends a message, behind its transaction id.
+pub fn push_message(text: &mut String, message: &Message) -> Result<(), AllocError> {
+    write!(text, "{} ", message.xid)?;
+    push_body(text, &message.body)
 }
 
-/// A fault as text.
-pub fn shown_bad(alloc: Global, bad: Bad) -> Result<String, Fail> {
-    Ok(match bad {
-        Bad::Short => format!(in alloc; "short")?,
-        Bad::Version => format!(in alloc; "version")?,
-        Bad::Length => format!(in alloc; "length")?,
-        Bad::Body { kind, offset } => format!(in alloc; "type {kind} at {offset}")?,
-    })
+fn shown(alloc: Global, message: &Message) -> Result<String, Fail> {
+    let mut text = String::new(alloc);
+    push_message(&mut text, message)?;
+    Ok(text)
+}
+
+fn shown_bad(alloc: Global, bad: Bad) -> Result<String, Fail> {
+    let mut text = String::new(alloc);
+    push_bad(&mut text, bad)?;
+    Ok(text)
+}
+
+/// Appends a fault.
+pub fn push_bad(text: &mut String, bad: Bad) -> Result<(), AllocError> {
+    match bad {
+        Bad::Short => text.push_str("short"),
+        Bad::Version => text.push_str("version"),
+        Bad::Length => text.push_str("length"),
+        Bad::Body { kind, offset } => write!(text, "type {kind} at {offset}"),
+    }
 }
 
 // What is read of these bytes.
@@ -167,29 +219,47 @@ fn decoded(alloc: Global, bytes: &[u8]) -> Result<String, Fail> {
 // What is read of these bytes where they lie.
 fn lent(alloc: Global, bytes: &[u8]) -> Result<String, Fail> {
     match decode_ref(bytes) {
-        Ok(message) => shown(alloc, &message.to_message(alloc)?),
+        Ok(message) => shown_lent(alloc, &message),
         Err(bad) => shown_bad(alloc, bad),
     }
 }
 
+fn shown_lent(alloc: Global, message: &MessageRef) -> Result<String, Fail> {
+    let own = message.to_message(alloc)?;
+    shown(alloc, &own)
+}
+
 // Fails unless these digits' bytes, with zeros up to a length, are read so, in either way.
 fn check(alloc: Global, digits: &str, len: usize, expected: &str) -> Result<(), Fail> {
+    let bytes = filled(alloc, digits, len)?;
+    expect(decoded(alloc, &bytes)?, expected)?;
+    expect(lent(alloc, &bytes)?, expected)
+}
+
+// The bytes of digits, with zeros up to a length.
+fn filled(alloc: Global, digits: &str, len: usize) -> Result<Vec<u8>, Fail> {
     let mut bytes = unhex(alloc, digits)?;
     for _ in bytes.len()..len {
         bytes.push(0)?;
     }
-    let own = decoded(alloc, &bytes)?;
-    if own.as_str() != expected {
-        return Err(Fail::from(own));
-    }
-    let lent = lent(alloc, &bytes)?;
-    if lent.as_str() != expected {
-        return Err(Fail::from(lent));
-    }
-    Ok(())
+    Ok(bytes)
 }
 
-const MESSAGES: [(&str, &str); 18] = [
+// Fails with a text that isn't this one.
+fn expect(text: String, expected: &str) -> Result<(), Fail> {
+    if text.as_str() == expected {
+        Ok(())
+    } else {
+        Err(Fail::from(text))
+    }
+}
+
+// Digits, and what is read of them.
+fn messages() -> &'static [(&'static str, &'static str)] {
+    MESSAGES
+}
+
+const MESSAGES: &[(&str, &str)] = &[
     ("04000010000000010001000800000010", "1 hello 4"),
     ("0104000c0000000500002320", "5 other 4"),
     ("0105000800000004", "4 features request"),
@@ -254,8 +324,14 @@ nw_src=a000001 nw_dst=a000002 tp_src=1f90 tp_dst=50 dl_pcp=5 1112131415161718 3 
     ),
 ];
 
-// The header, the length that zeros fill it up to, and the fault.
-const HEADERS: [(&str, usize, &str); 10] = [
+// Digits, the length that zeros fill their bytes up to, and the fault.
+type Faulty = (&'static str, usize, &'static str);
+
+fn headers() -> &'static [Faulty] {
+    HEADERS
+}
+
+const HEADERS: &[Faulty] = &[
     ("", 0, "short"),
     ("01050008000000", 7, "short"),
     ("0405000800000000", 8, "version"),
@@ -270,7 +346,11 @@ const HEADERS: [(&str, usize, &str); 10] = [
     ("0405000700000000", 8, "version"),
 ];
 
-const BODIES: [(&str, usize, &str); 30] = [
+fn bodies() -> &'static [Faulty] {
+    BODIES
+}
+
+const BODIES: &[Faulty] = &[
     // lengths that do not suit the type
     ("0101000b00000000", 11, "type 1 at 2"),
     ("0105000900000000", 9, "type 5 at 2"),
@@ -323,14 +403,14 @@ const BODIES: [(&str, usize, &str); 30] = [
 
 #[test]
 fn messages_and_faults(rt: HostRuntime) -> Result<(), Fail> {
-    for (digits, expected) in MESSAGES {
+    for (digits, expected) in messages() {
         check(rt.alloc(), digits, 0, expected)?;
     }
-    for (digits, len, expected) in HEADERS {
-        check(rt.alloc(), digits, len, expected)?;
+    for (digits, len, expected) in headers() {
+        check(rt.alloc(), digits, *len, expected)?;
     }
-    for (digits, len, expected) in BODIES {
-        check(rt.alloc(), digits, len, expected)?;
+    for (digits, len, expected) in bodies() {
+        check(rt.alloc(), digits, *len, expected)?;
     }
     Ok(())
 }
@@ -339,7 +419,11 @@ fn messages_and_faults(rt: HostRuntime) -> Result<(), Fail> {
 const FIXED: &str =
     "0001 020304050607 08090a0b0c0d 0e0f 05 00 0800 14 11 0000 0a000001 0a000002 1f90 0050";
 
-const FIXED_WORDS: [&str; 12] = [
+fn fixed_words() -> &'static [&'static str] {
+    FIXED_WORDS
+}
+
+const FIXED_WORDS: &[&str] = &[
     "in_port=1",
     "dl_src=0x020304050607",
     "dl_dst=0x08090a0b0c0d",
@@ -355,7 +439,11 @@ const FIXED_WORDS: [&str; 12] = [
 ];
 
 // The wildcards, and the names of the numbers that are not fixed then.
-const WILDCARDS: [(&str, &str); 17] = [
+fn wildcard_rows() -> &'static [(&'static str, &'static str)] {
+    WILDCARDS
+}
+
+const WILDCARDS: &[(&str, &str)] = &[
     ("00000000", "none"),
     ("00000001", "in_port"),
     ("00000002", "dl_vlan"),
@@ -378,7 +466,7 @@ const WILDCARDS: [(&str, &str); 17] = [
 // The match that fixes each number, without those of this name.
 fn without(alloc: Global, name: &str) -> Result<Match, Fail> {
     let mut words = String::new(alloc);
-    for word in FIXED_WORDS {
+    for word in fixed_words() {
         if name != "all" && !word.starts_with(name) {
             words.push_str(word)?;
             words.push_str(" ")?;
@@ -387,22 +475,28 @@ fn without(alloc: Global, name: &str) -> Result<Match, Fail> {
     match_of(&words)
 }
 
+// Cookie, priority, reason, pad, the seconds and nanoseconds that the rule stood, idle timeout, pad, packets, bytes.
+const END: &str =
+    "0102030405060708 8001 01 00 00000010 00000020 001e 0000 0000000000000003 00000000000000b4";
+
+fn removed_rule(alloc: Global, wildcards: &str) -> Result<Vec<u8>, Fail> {
+    let digits = format!(in alloc; "010b005800000000 {wildcards} {FIXED} {END}")?;
+    unhex(alloc, &digits)
+}
+
 #[test]
 fn wildcards(rt: HostRuntime) -> Result<(), Fail> {
     let alloc = rt.alloc();
-    // cookie, priority, reason, pad, the seconds and nanoseconds that the rule stood, idle timeout, pad, packets, bytes
-    let end =
-        "0102030405060708 8001 01 00 00000010 00000020 001e 0000 0000000000000003 00000000000000b4";
-    for (wildcards, name) in WILDCARDS {
-        let digits = format!(in alloc; "010b005800000000 {wildcards} {FIXED} {end}")?;
-        let bytes = unhex(alloc, &digits)?;
+    for (wildcards, name) in wildcard_rows() {
+        let of = without(alloc, name)?;
         let body = BodyRef::FlowRemoved {
-            of: without(alloc, name)?,
+            of,
             cookie: 0x0102_0304_0506_0708,
             priority: 0x8001,
             reason: 1,
             idle: 30,
         };
+        let bytes = removed_rule(alloc, wildcards)?;
         assert_eq!(rt;
             decode_ref(&bytes),
             Ok(MessageRef { xid: 0, body }),
@@ -413,7 +507,11 @@ fn wildcards(rt: HostRuntime) -> Result<(), Fail> {
 }
 
 // Bytes that zeros fill up to a length, how many actions to port 1 stand behind them, and what is read of it.
-const ACTIONS: [(&str, usize, usize, &str); 3] = [
+fn action_rows() -> &'static [(&'static str, usize, usize, &'static str)] {
+    ACTIONS
+}
+
+const ACTIONS: &[(&str, usize, usize, &str)] = &[
     (
         "010e00c800000000 003820ff",
         72,
@@ -429,18 +527,20 @@ const ACTIONS: [(&str, usize, usize, &str); 3] = [
     ("010e00d000000000", 72, 17, "type 14 at 200"),
 ];
 
+fn with_actions(alloc: Global, digits: &str, len: usize, count: usize) -> Result<Vec<u8>, Fail> {
+    let mut bytes = filled(alloc, digits, len)?;
+    for _ in 0..count {
+        bytes.extend_from_slice(&[0, 0, 0, 8, 0, 1, 0, 0])?;
+    }
+    Ok(bytes)
+}
+
 #[test]
 fn at_most_sixteen_actions(rt: HostRuntime) -> Result<(), Fail> {
     let alloc = rt.alloc();
-    for (digits, len, count, expected) in ACTIONS {
-        let mut bytes = unhex(alloc, digits)?;
-        for _ in bytes.len()..len {
-            bytes.push(0)?;
-        }
-        for _ in 0..count {
-            bytes.extend_from_slice(&[0, 0, 0, 8, 0, 1, 0, 0])?;
-        }
-        assert_eq!(rt; lent(alloc, &bytes)?.as_str(), expected, "{digits}");
+    for (digits, len, count, expected) in action_rows() {
+        let bytes = with_actions(alloc, digits, *len, *count)?;
+        expect(lent(alloc, &bytes)?, expected)?;
     }
     Ok(())
 }

@@ -2,7 +2,7 @@
 ghost use Rattle.std.specs.Prelude.{◌≡◌, true, IsTrue};
 ghost use Rattle.of10_codec.specs.Written.{is_address, match_fits_fields, fits_fields};
 
-use crate::text::{hex, match_of, unhex};
+use crate::text::{hex, match_of, push_hex, unhex};
 use maple_base::{Actions, Bytes, Match, Port, Ports};
 use of10_codec::{Body, BodyRef, EncodeError, Message, MessageRef, encode, match_bytes};
 use std::alloc::Global;
@@ -48,14 +48,14 @@ fn written(alloc: Global, message: &Message) -> Result<(Result<(), EncodeError>,
 // Digits without their blanks, behind those of the byte 7.
 fn behind_seven(alloc: Global, digits: &str) -> Result<String, Fail> {
     let bytes = unhex(alloc, digits)?;
-    Ok(format!(in alloc; "07{}", hex(alloc, &bytes)?)?)
+    let mut text = String::from_str(alloc, "07")?;
+    push_hex(&mut text, &bytes)?;
+    Ok(text)
 }
 
 // Fails with the bytes of the message, where they are not these.
 fn check(alloc: Global, message: &Message, digits: &str) -> Result<(), Fail> {
-    let (answer, bytes) = written(alloc, message)?;
-    answer?;
-    let text = hex(alloc, &bytes)?;
+    let text = written_text(alloc, message)?;
     let expected = behind_seven(alloc, digits)?;
     if text.as_str() == expected.as_str() {
         Ok(())
@@ -64,8 +64,26 @@ fn check(alloc: Global, message: &Message, digits: &str) -> Result<(), Fail> {
     }
 }
 
-// The messages, each with its transaction id and its bytes.
-fn message_row(row: u8) -> (u32, BodyRef<'static>, &'static str) {
+fn check_own(alloc: Global, message: Message, digits: &str) -> Result<(), Fail> {
+    check(alloc, &message, digits)
+}
+
+fn written_text(alloc: Global, message: &Message) -> Result<String, Fail> {
+    let (answer, bytes) = written(alloc, message)?;
+    answer?;
+    hex(alloc, &bytes)
+}
+
+// A message with its transaction id, and its bytes.
+type Written = (u32, BodyRef<'static>, &'static str);
+
+fn check_row(alloc: Global, row: u8) -> Result<(), Fail> {
+    let (xid, body, digits) = message_row(row);
+    let message = MessageRef { xid, body }.to_message(alloc)?;
+    check(alloc, &message, digits)
+}
+
+fn message_row(row: u8) -> Written {
     match row {
         // of whatever version, a HELLO is sent with version 1
         0 => (1, BodyRef::Hello { version: 4 }, "01 00 0008 00000001"),
@@ -74,6 +92,12 @@ fn message_row(row: u8) -> (u32, BodyRef<'static>, &'static str) {
         3 => (0x0102_0304, BodyRef::BarrierReply, "01 13 0008 01020304"),
         // a request for statistics
         4 => (6, BodyRef::Other { kind: 16 }, "01 10 0008 00000006"),
+        _ => message_row_with_bytes(row),
+    }
+}
+
+fn message_row_with_bytes(row: u8) -> Written {
+    match row {
         5 => (
             2,
             BodyRef::Error {
@@ -93,6 +117,12 @@ fn message_row(row: u8) -> (u32, BodyRef<'static>, &'static str) {
             BodyRef::EchoReply(&[0xff, 0xee]),
             "01 03 000a 00000004 ffee",
         ),
+        _ => message_row_with_numbers(row),
+    }
+}
+
+fn message_row_with_numbers(row: u8) -> Written {
+    match row {
         8 => (
             7,
             BodyRef::SetConfig {
@@ -131,9 +161,7 @@ fn message_row(row: u8) -> (u32, BodyRef<'static>, &'static str) {
 fn messages(rt: HostRuntime) -> Result<(), Fail> {
     let alloc = rt.alloc();
     for row in 0..11 {
-        let (xid, body, digits) = message_row(row);
-        let message = MessageRef { xid, body }.to_message(alloc)?;
-        check(alloc, &message, digits)?;
+        check_row(alloc, row)?;
     }
     Ok(())
 }
@@ -215,14 +243,18 @@ fn sent_packet(alloc: Global) -> Result<Message, Fail> {
 fn rules_and_packets_out(rt: HostRuntime) -> Result<(), Fail> {
     let alloc = rt.alloc();
     let of = match_of("dl_type=0x0800 nw_proto=6")?;
-    check(alloc, &removed_rule(of), REMOVED_RULE)?;
-    check(alloc, &changed_rule(of), CHANGED_RULE)?;
-    check(alloc, &added_rule(of), ADDED_RULE)?;
-    check(alloc, &sent_packet(alloc)?, SENT_PACKET)
+    check_own(alloc, removed_rule(of), REMOVED_RULE)?;
+    check_own(alloc, changed_rule(of), CHANGED_RULE)?;
+    check_own(alloc, added_rule(of), ADDED_RULE)?;
+    check_own(alloc, sent_packet(alloc)?, SENT_PACKET)
 }
 
 // Words of a match, and the first of its 40 bytes.
-const MATCHES: [(&str, &str); 15] = [
+fn match_rows() -> &'static [(&'static str, &'static str)] {
+    MATCHES
+}
+
+const MATCHES: &[(&str, &str)] = &[
     (
         "dl_type=0x0800 nw_proto=6",
         "003820cf 0000 000000000000 000000000000 0000 00 00 0800 00 06 0000 00000000 00000000 0000 0000",
@@ -251,7 +283,7 @@ nw_tos=0x51 nw_proto=0x52 nw_src=0x61626364 nw_dst=0x71727374 tp_src=0x8182 tp_d
 #[test]
 fn matches(rt: HostRuntime) -> Result<(), Fail> {
     let alloc = rt.alloc();
-    for (words, digits) in MATCHES {
+    for (words, digits) in match_rows() {
         let of = match_of(words)?;
         assert!(rt; match_fits(&of));
         let bytes = match_bytes(&of);
@@ -264,12 +296,20 @@ fn matches(rt: HostRuntime) -> Result<(), Fail> {
 // How long a message is, the front of what is written, and, where it is too long, the length that is told.
 type Longest = (usize, usize, &'static str, Option<u128>);
 
-const ECHOES: [Longest; 2] = [
+fn echoes() -> &'static [Longest] {
+    ECHOES
+}
+
+const ECHOES: &[Longest] = &[
     (65_527, 65_536, "070102ffff00000001", None),
     (65_528, 1, "07", Some(65_536)),
 ];
 
-const PORTS: [Longest; 2] = [
+fn port_lists() -> &'static [Longest] {
+    PORTS
+}
+
+const PORTS: &[Longest] = &[
     (1364, 65_505, "070106ffe000000001", None),
     (1365, 1, "07", Some(65_552)),
 ];
@@ -278,47 +318,69 @@ const PORTS: [Longest; 2] = [
 fn check_longest(alloc: Global, body: Body, longest: Longest) -> Result<Vec<u8>, Fail> {
     let (_, len, front, too_long) = longest;
     let (answer, out) = written(alloc, &Message { xid: 1, body })?;
-    let told = match answer {
-        Ok(()) => None,
-        Err(EncodeError::TooLong(told)) => Some(told),
-        Err(EncodeError::NoMemory) => return Err(Fail::from("no memory")),
-    };
-    if told != too_long || out.len() != len || !out.starts_with(&unhex(alloc, front)?) {
-        return Err(Fail::from("another length, front or answer"));
+    if length_told(answer)? == too_long && out.len() == len && begins(alloc, &out, front)? {
+        Ok(out)
+    } else {
+        Err(Fail::from("another length, front or answer"))
     }
-    Ok(out)
+}
+
+fn length_told(answer: Result<(), EncodeError>) -> Result<Option<u128>, Fail> {
+    match answer {
+        Ok(()) => Ok(None),
+        Err(EncodeError::TooLong(told)) => Ok(Some(told)),
+        Err(EncodeError::NoMemory) => Err(Fail::from("no memory")),
+    }
+}
+
+fn begins(alloc: Global, bytes: &[u8], digits: &str) -> Result<bool, Fail> {
+    let front = unhex(alloc, digits)?;
+    Ok(bytes.starts_with(&front))
+}
+
+fn check_echo(alloc: Global, row: Longest) -> Result<bool, Fail> {
+    let body = Body::EchoRequest(Bytes::new(vec![in alloc; 1u8; row.0]?));
+    let out = check_longest(alloc, body, row)?;
+    Ok(out.iter().skip(9).all(|byte| *byte == 1))
+}
+
+fn check_ports(alloc: Global, row: Longest) -> Result<(), Fail> {
+    let up = Port {
+        number: 9,
+        up: true,
+    };
+    let ports = Ports::new(vec![in alloc; up; row.0]?);
+    let _out = check_longest(alloc, Body::FeaturesReply { dpid: 1, ports }, row)?;
+    Ok(())
+}
+
+fn two_ports(alloc: Global) -> Result<Message, Fail> {
+    let two = [
+        Port {
+            number: 1,
+            up: true,
+        },
+        Port {
+            number: 0xfffe,
+            up: false,
+        },
+    ];
+    let body = Body::FeaturesReply {
+        dpid: 0x0102_0304_0506_0708,
+        ports: Ports::new(Vec::from_slice(alloc, &two)?),
+    };
+    Ok(Message { xid: 6, body })
 }
 
 #[test]
 fn longest(rt: HostRuntime) -> Result<(), Fail> {
     let alloc = rt.alloc();
-    for row in ECHOES {
-        let body = Body::EchoRequest(Bytes::new(vec![in alloc; 1u8; row.0]?));
-        let out = check_longest(alloc, body, row)?;
-        assert!(rt; out.iter().skip(9).all(|byte| *byte == 1));
+    for row in echoes() {
+        assert!(rt; check_echo(alloc, *row)?);
     }
-    let two = vec![in alloc;
-        Port {
-            number: 1,
-            up: true
-        },
-        Port {
-            number: 0xfffe,
-            up: false
-        },
-    ]?;
-    let body = Body::FeaturesReply {
-        dpid: 0x0102_0304_0506_0708,
-        ports: Ports::new(two),
-    };
-    check(alloc, &Message { xid: 6, body }, TWO_PORTS)?;
-    let up = Port {
-        number: 9,
-        up: true,
-    };
-    for row in PORTS {
-        let ports = Ports::new(vec![in alloc; up; row.0]?);
-        check_longest(alloc, Body::FeaturesReply { dpid: 1, ports }, row)?;
+    check_own(alloc, two_ports(alloc)?, TWO_PORTS)?;
+    for row in port_lists() {
+        check_ports(alloc, *row)?;
     }
     Ok(())
 }

@@ -3,7 +3,7 @@
 use crate::text::{hex, key_with, unhex};
 use maple_base::Key;
 use packet_key::{Malformed, key_of};
-use script_text::{Command, frame_of, read_line};
+use script_text::{Command, PacketSpec, frame_of, read_line};
 use std::alloc::Global;
 use std::test::Fail;
 
@@ -35,7 +35,11 @@ fn check_key(alloc: Global, frame: &str, words: &str) -> Result<(), Fail> {
 }
 
 // Frames to ffffffffffff from 020000000001: Ethernet, tags, SNAP, ARP (RFC 826) and IPv6.
-const LINKS: [(&str, &str); 15] = [
+fn links() -> &'static [(&'static str, &'static str)] {
+    LINKS
+}
+
+const LINKS: &[(&str, &str)] = &[
     // a length, and three bytes
     ("0026 424203", "dl_type=0x05ff"),
     ("0026 aaaa03 000000 88cc", "dl_type=0x88cc"),
@@ -75,7 +79,11 @@ const LINKS: [(&str, &str); 15] = [
 ];
 
 // Frames to 020000000002 from 020000000001 with an IPv4 packet (RFC 791) from 10.0.0.1 to 10.0.0.2.
-const PACKETS: [(&str, &str); 16] = [
+fn packets() -> &'static [(&'static str, &'static str)] {
+    PACKETS
+}
+
+const PACKETS: &[(&str, &str)] = &[
     (
         "0800 45000028 00000000 40060000 0a000001 0a000002 04d2 0016",
         "nw_proto=6 tp_src=1234 tp_dst=22",
@@ -151,7 +159,11 @@ const PACKETS: [(&str, &str); 16] = [
     ),
 ];
 
-const MALFORMED: [(&str, Malformed); 15] = [
+fn malformed() -> &'static [(&'static str, Malformed)] {
+    MALFORMED
+}
+
+const MALFORMED: &[(&str, Malformed)] = &[
     ("", Malformed::Ethernet),
     ("ffffffffffff 020000000001 81", Malformed::Ethernet),
     ("ffffffffffff 020000000001 8100", Malformed::Tag),
@@ -201,24 +213,37 @@ const MALFORMED: [(&str, Malformed); 15] = [
     ),
 ];
 
+fn check_link(alloc: Global, text: &str, words: &str) -> Result<(), Fail> {
+    let frame = format!(in alloc; "ffffffffffff 020000000001 {text}")?;
+    let words = format!(in alloc; "dl_dst=0xffffffffffff dl_src=0x020000000001 {words}")?;
+    check_key(alloc, &frame, &words)
+}
+
+fn check_packet(alloc: Global, text: &str, words: &str) -> Result<(), Fail> {
+    let frame = format!(in alloc; "020000000002 020000000001 {text}")?;
+    let words = format!(in alloc;
+        "dl_dst=0x020000000002 dl_src=0x020000000001 dl_type=0x0800 nw_src=10.0.0.1 nw_dst=10.0.0.2 {words}"
+    )?;
+    check_key(alloc, &frame, &words)
+}
+
 #[test]
 fn keys_of_frames(rt: HostRuntime) -> Result<(), Fail> {
     let alloc = rt.alloc();
-    for (text, words) in LINKS {
-        let frame = format!(in alloc; "ffffffffffff 020000000001 {text}")?;
-        let words = format!(in alloc; "dl_dst=0xffffffffffff dl_src=0x020000000001 {words}")?;
-        check_key(alloc, &frame, &words)?;
+    for (text, words) in links() {
+        check_link(alloc, text, words)?;
     }
-    for (text, words) in PACKETS {
-        let frame = format!(in alloc; "020000000002 020000000001 {text}")?;
-        let words = format!(in alloc;
-            "dl_dst=0x020000000002 dl_src=0x020000000001 dl_type=0x0800 nw_src=10.0.0.1 nw_dst=10.0.0.2 {words}"
-        )?;
-        check_key(alloc, &frame, &words)?;
+    for (text, words) in packets() {
+        check_packet(alloc, text, words)?;
     }
-    for (text, fault) in MALFORMED {
-        let frame = unhex(alloc, text)?;
-        assert_eq!(rt; key_of(7, &frame), Err(fault), "at {text}");
+    Ok(())
+}
+
+#[test]
+fn frames_without_keys(rt: HostRuntime) -> Result<(), Fail> {
+    for (text, fault) in malformed() {
+        let frame = unhex(rt.alloc(), text)?;
+        assert_eq!(rt; key_of(7, &frame), Err(*fault), "at {text}");
     }
     Ok(())
 }
@@ -228,16 +253,38 @@ fn frame(alloc: Global, line: &str) -> Result<(u16, Vec<u8>), Fail> {
     let Ok(command) = read_line(alloc, line.as_bytes()) else {
         return Err(Fail::from("no command"));
     };
-    let Command::Packet(_, spec) = &command else {
-        return Err(Fail::from("no packet"));
-    };
+    frame_of_command(alloc, &command)
+}
+
+fn frame_of_command(alloc: Global, command: &Command) -> Result<(u16, Vec<u8>), Fail> {
+    match command {
+        Command::Packet(_, spec) => Ok((spec.key().in_port, behind_ee(alloc, spec)?)),
+        _ => Err(Fail::from("no packet")),
+    }
+}
+
+fn behind_ee(alloc: Global, spec: &PacketSpec) -> Result<Vec<u8>, Fail> {
     let mut out = Vec::from_slice(alloc, &[0xee])?;
     frame_of(spec, &mut out)?;
-    Ok((spec.key().in_port, out))
+    Ok(out)
+}
+
+fn frame_of_words(alloc: Global, words: &str) -> Result<(u16, Vec<u8>), Fail> {
+    let line = format!(in alloc; "packet 1 {words}")?;
+    frame(alloc, &line)
+}
+
+fn frame_text(alloc: Global, words: &str) -> Result<String, Fail> {
+    let (_, bytes) = frame_of_words(alloc, words)?;
+    hex(alloc, &bytes)
 }
 
 // Packet lines behind `packet 1`, and their frames.
-const FRAMES: [(&str, &str); 5] = [
+fn frames() -> &'static [(&'static str, &'static str)] {
+    FRAMES
+}
+
+const FRAMES: &[(&str, &str)] = &[
     (
         "1 dl_src=02:00:00:00:00:01 dl_dst=02:00:00:00:00:02 nw_src=10.0.0.1 nw_dst=10.0.0.2 tp_src=1234 tp_dst=22",
         "0200000000020200000000010800450000280000000040060000\
@@ -259,7 +306,11 @@ const FRAMES: [(&str, &str); 5] = [
 ];
 
 // Packet lines behind `packet 1`, and the keys of their frames, worked out by hand from the words of the lines.
-const LINES: [(&str, &str); 9] = [
+fn lines() -> &'static [(&'static str, &'static str)] {
+    LINES
+}
+
+const LINES: &[(&str, &str)] = &[
     ("7", "dl_type=0x0800 nw_proto=6"),
     (
         "7 dl_src=02:00:00:00:00:01 dl_dst=02:00:00:00:00:02 nw_src=10.0.0.1 nw_dst=10.0.0.2 tp_src=1234 tp_dst=22",
@@ -290,16 +341,13 @@ const LINES: [(&str, &str); 9] = [
 #[test]
 fn frames_of_lines(rt: HostRuntime) -> Result<(), Fail> {
     let alloc = rt.alloc();
-    for (words, expected) in FRAMES {
-        let line = format!(in alloc; "packet 1 {words}")?;
-        let (_, bytes) = frame(alloc, &line)?;
-        let whole = format!(in alloc; "ee{expected}")?;
-        assert_eq!(rt; hex(alloc, &bytes)?.as_str(), whole.as_str(), "{words}");
+    for (words, expected) in frames() {
+        let text = frame_text(alloc, words)?;
+        assert_eq!(rt; text.strip_prefix("ee"), Some(*expected), "{words}");
     }
-    for (words, expected) in LINES {
-        let line = format!(in alloc; "packet 1 {words}")?;
-        let (port, bytes) = frame(alloc, &line)?;
+    for (words, expected) in lines() {
         let key = key_with(ZEROS, expected)?;
+        let (port, bytes) = frame_of_words(alloc, words)?;
         assert_eq!(rt;
             key_of(port, bytes.get(1..).unwrap_or(&[])),
             Ok(key),

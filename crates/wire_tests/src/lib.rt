@@ -2,6 +2,8 @@
 #![tactic(auto)]
 
 #[cfg(test)]
+mod adapters;
+#[cfg(test)]
 mod base;
 #[cfg(test)]
 mod bytes;
@@ -13,6 +15,10 @@ mod codec;
 mod encoding;
 #[cfg(test)]
 mod frames;
+#[cfg(test)]
+mod lent_messages;
+#[cfg(test)]
+mod line_room;
 #[cfg(test)]
 mod report;
 #[cfg(test)]

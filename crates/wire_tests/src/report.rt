@@ -17,7 +17,12 @@ fn check(alloc: Global, line: &Line, expected: &str) -> Result<(), Fail> {
     }
 }
 
-const LINES: [(Line, &str); 39] = [
+// A line, and its text.
+fn plain_rows() -> [(Line, &'static str); 19] {
+    LINES
+}
+
+const LINES: [(Line, &str); 19] = [
     (Line::Open { device: 1 }, "open c1"),
     (
         Line::Ready {
@@ -87,6 +92,13 @@ const LINES: [(Line, &str); 39] = [
     (Line::Absent { device: 1 }, "absent c1"),
     (Line::Gone { device: 1 }, "gone c1"),
     (Line::Present { device: 1 }, "present c1"),
+];
+
+fn closed_rows() -> [(Line, &'static str); 9] {
+    CLOSED
+}
+
+const CLOSED: [(Line, &str); 9] = [
     (
         Line::Closed {
             device: 9,
@@ -153,6 +165,13 @@ const LINES: [(Line, &str); 39] = [
         },
         "closed c9 fault",
     ),
+];
+
+fn refused_rows() -> [(Line, &'static str); 11] {
+    REFUSED
+}
+
+const REFUSED: [(Line, &str); 11] = [
     (
         Line::RefusedUpdate {
             kind: UpdateRefused::UnknownTable,
@@ -236,8 +255,23 @@ const LINES: [(Line, &str); 39] = [
 
 #[test]
 fn plain_lines(rt: HostRuntime) -> Result<(), Fail> {
-    let rows = &LINES[..];
-    for (line, expected) in rows {
+    for (line, expected) in &plain_rows() {
+        check(rt.alloc(), line, expected)?;
+    }
+    Ok(())
+}
+
+#[test]
+fn closed_lines(rt: HostRuntime) -> Result<(), Fail> {
+    for (line, expected) in &closed_rows() {
+        check(rt.alloc(), line, expected)?;
+    }
+    Ok(())
+}
+
+#[test]
+fn refused_lines(rt: HostRuntime) -> Result<(), Fail> {
+    for (line, expected) in &refused_rows() {
         check(rt.alloc(), line, expected)?;
     }
     Ok(())
@@ -260,6 +294,17 @@ fn check_hit(alloc: Global, ports: &[u16], expected: &str) -> Result<(), Fail> {
     )
 }
 
+fn check_rule(alloc: Global, words: &str, expected: &str) -> Result<(), Fail> {
+    let line = Line::Rule {
+        switch: 1,
+        priority: 3,
+        actions: Actions::new(&[]),
+        of: match_of(words)?,
+    };
+    let text = format!(in alloc; "rule s1 3 drop {expected}")?;
+    check(alloc, &line, &text)
+}
+
 fn check_answer(
     alloc: Global,
     decision: Decision,
@@ -279,6 +324,17 @@ fn check_answer(
     )
 }
 
+fn two_hops(alloc: Global) -> Result<Path, Fail> {
+    let hops = [
+        Place { switch: 1, port: 1 },
+        Place {
+            switch: 2,
+            port: 16,
+        },
+    ];
+    Ok(Path::new(Vec::from_slice(alloc, &hops)?))
+}
+
 #[test]
 fn answers(rt: HostRuntime) -> Result<(), Fail> {
     let alloc = rt.alloc();
@@ -288,54 +344,60 @@ fn answers(rt: HostRuntime) -> Result<(), Fail> {
         capacity: 4,
     };
     let out = Decision::Out(Actions::new(&[2]));
-    let hops = [
-        Place { switch: 1, port: 1 },
-        Place {
-            switch: 2,
-            port: 16,
-        },
-    ];
-    let path = Decision::Path(Path::new(Vec::from_slice(alloc, &hops)?));
     check_answer(alloc, Decision::Drop, Learnt::Known, "drop known")?;
     check_answer(alloc, out, levels, "out 2 unlearned levels 3 2")?;
     check_answer(alloc, Decision::Flood, rows, "flood unlearned rows 5 4")?;
     check_answer(alloc, Decision::Drop, Learnt::Quiet, "drop unlearned quiet")?;
-    check_answer(alloc, path, Learnt::Learned, "path s1:1,s2:16 learned")
+    check_answer(
+        alloc,
+        Decision::Path(two_hops(alloc)?),
+        Learnt::Learned,
+        "path s1:1,s2:16 learned",
+    )
 }
+
+// The ports of a rule, and its text.
+type Hit = (&'static [u16], &'static str);
+
+fn hits() -> &'static [Hit] {
+    HITS
+}
+
+const HITS: &[Hit] = &[
+    (&[], "drop"),
+    (&[0xfffb], "flood"),
+    (&[0xfffd], "barrier"),
+    (&[2], "out 2"),
+    (&[2, 0xfffb, 3], "out 2,65531,3"),
+];
+
+// The words of a match, and its text.
+type RuleRow = (&'static str, &'static str);
+
+fn rules() -> &'static [RuleRow] {
+    RULES
+}
+
+const RULES: &[RuleRow] = &[
+    ("", "any"),
+    (
+        "dl_type=0x0800 nw_proto=6 tp_dst=22",
+        "dl_type=0x0800,nw_proto=6,tp_dst=22",
+    ),
+    (
+        "in_port=1 dl_src=0x0200000000af dl_vlan=5 nw_dst=0x0a000007",
+        "in_port=1,dl_src=02:00:00:00:00:af,dl_vlan=5,nw_dst=10.0.0.7",
+    ),
+];
 
 #[test]
 fn hits_and_rules(rt: HostRuntime) -> Result<(), Fail> {
     let alloc = rt.alloc();
-    let hits: [(&[u16], &str); 5] = [
-        (&[], "drop"),
-        (&[0xfffb], "flood"),
-        (&[0xfffd], "barrier"),
-        (&[2], "out 2"),
-        (&[2, 0xfffb, 3], "out 2,65531,3"),
-    ];
-    for (ports, expected) in hits {
+    for (ports, expected) in hits() {
         check_hit(alloc, ports, expected)?;
     }
-    let rows = [
-        ("", "any"),
-        (
-            "dl_type=0x0800 nw_proto=6 tp_dst=22",
-            "dl_type=0x0800,nw_proto=6,tp_dst=22",
-        ),
-        (
-            "in_port=1 dl_src=0x0200000000af dl_vlan=5 nw_dst=0x0a000007",
-            "in_port=1,dl_src=02:00:00:00:00:af,dl_vlan=5,nw_dst=10.0.0.7",
-        ),
-    ];
-    for (words, expected) in rows {
-        let line = Line::Rule {
-            switch: 1,
-            priority: 3,
-            actions: Actions::new(&[]),
-            of: match_of(words)?,
-        };
-        let text = format!(in alloc; "rule s1 3 drop {expected}")?;
-        check(alloc, &line, &text)?;
+    for (words, expected) in rules() {
+        check_rule(alloc, words, expected)?;
     }
     Ok(())
 }

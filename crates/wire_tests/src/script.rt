@@ -1,45 +1,73 @@
 // The lines of scripts.
+use crate::text::push_number;
 use maple_base::NoMemory;
 use script_text::{Command, LineError, read_line};
-use std::alloc::Global;
+use std::alloc::{AllocError, Global};
 use std::test::Fail;
 
-fn shown_command(alloc: Global, command: &Command) -> Result<String, NoMemory> {
-    let text = match command {
-        Command::Nothing => format!(in alloc; "nothing")?,
-        Command::Plug(device) => format!(in alloc; "plug {device}")?,
-        Command::Unplug(device) => format!(in alloc; "unplug {device}")?,
-        Command::Packet(device, spec) => format!(in alloc; "packet {device} {:?}", spec.key())?,
+fn push_command(text: &mut String, command: &Command) -> Result<(), AllocError> {
+    match command {
+        Command::Nothing => text.push_str("nothing"),
+        Command::Plug(device) => push_number(text, "plug", *device),
+        Command::Unplug(device) => push_number(text, "unplug", *device),
+        Command::NoHost(address) => push_number(text, "nohost", *address),
+        Command::Rules(switch) => push_number(text, "rules", *switch),
+        Command::Settle => text.push_str("settle"),
+        Command::NewPolicy => text.push_str("newpolicy"),
+        Command::Quit => text.push_str("quit"),
+        _ => push_change(text, command),
+    }
+}
+
+fn push_change(text: &mut String, command: &Command) -> Result<(), AllocError> {
+    match command {
+        Command::Host(address, place) => write!(text, "host {address} {place:?}"),
+        Command::Turn(device, turns) => write!(text, "turn {device} {turns}"),
+        Command::Link(from, to) => write!(text, "link {from:?} {to:?}"),
+        Command::NoLink(from) => write!(text, "nolink {from:?}"),
+        _ => push_of_table(text, command),
+    }
+}
+
+fn push_of_table(text: &mut String, command: &Command) -> Result<(), AllocError> {
+    match command {
+        Command::Set(name, key, value) => write!(text, "set {:?} {key} {value}", name.text()),
+        Command::Unset(name, key) => write!(text, "unset {:?} {key}", name.text()),
+        _ => push_arrival(text, command),
+    }
+}
+
+fn push_arrival(text: &mut String, command: &Command) -> Result<(), AllocError> {
+    match command {
+        Command::Packet(device, spec) => write!(text, "packet {device} {:?}", spec.key()),
         Command::Frame(device, port, bytes) => {
-            format!(in alloc; "frame {device} {port} {:?}", bytes.items())?
+            write!(text, "frame {device} {port} {:?}", bytes.items())
         }
-        Command::Turn(device, turns) => format!(in alloc; "turn {device} {turns}")?,
-        Command::Settle => format!(in alloc; "settle")?,
-        Command::Host(address, place) => format!(in alloc; "host {address} {place:?}")?,
-        Command::NoHost(address) => format!(in alloc; "nohost {address}")?,
-        Command::Link(from, to) => format!(in alloc; "link {from:?} {to:?}")?,
-        Command::NoLink(from) => format!(in alloc; "nolink {from:?}")?,
-        Command::Set(name, key, value) => {
-            format!(in alloc; "set {:?} {key} {value}", name.text())?
-        }
-        Command::Unset(name, key) => format!(in alloc; "unset {:?} {key}", name.text())?,
-        Command::NewPolicy => format!(in alloc; "newpolicy")?,
-        Command::Rules(switch) => format!(in alloc; "rules {switch}")?,
-        Command::Quit => format!(in alloc; "quit")?,
-    };
+        _ => text.push_str("another command"),
+    }
+}
+
+fn shown_command(alloc: Global, command: &Command) -> Result<String, NoMemory> {
+    let mut text = String::new(alloc);
+    push_command(&mut text, command)?;
     Ok(text)
 }
 
 fn shown(alloc: Global, line: &[u8]) -> Result<String, NoMemory> {
     match read_line(alloc, line) {
         Ok(command) => shown_command(alloc, &command),
-        Err(LineError::TooLong) => Ok(format!(in alloc; "too long")?),
-        Err(LineError::Grammar) => Ok(format!(in alloc; "no command")?),
+        Err(LineError::TooLong) => Ok(String::from_str(alloc, "too long")?),
+        Err(LineError::Grammar) => Ok(String::from_str(alloc, "no command")?),
         Err(LineError::NoMemory) => Err(NoMemory),
     }
 }
 
-const COMMANDS: [(&str, &str); 18] = [
+// A line, and its command.
+fn commands() -> &'static [(&'static str, &'static str)] {
+    COMMANDS
+}
+
+const COMMANDS: &[(&str, &str)] = &[
     ("", "nothing"),
     ("# plug 1", "nothing"),
     ("plug 0", "plug 0"),
@@ -74,7 +102,11 @@ nw_tos: 0, nw_proto: 6, nw_src: 167772161, nw_dst: 0, tp_src: 0, tp_dst: 80 }",
     ),
 ];
 
-const NO_COMMANDS: [&str; 26] = [
+fn no_commands() -> &'static [&'static str] {
+    NO_COMMANDS
+}
+
+const NO_COMMANDS: &[&str] = &[
     "plug",
     "plug 1 2",
     "plug  1",
@@ -103,23 +135,32 @@ const NO_COMMANDS: [&str; 26] = [
     "packet 1 1 dl_vlan=4096",
 ];
 
+// Fails with what is read of a line, where it isn't this.
+fn check(alloc: Global, line: &[u8], expected: &str) -> Result<(), Fail> {
+    let text = shown(alloc, line)?;
+    if text.as_str() == expected {
+        Ok(())
+    } else {
+        Err(Fail::from(text))
+    }
+}
+
+fn check_comment(alloc: Global, len: usize, expected: &str) -> Result<(), Fail> {
+    let comment = vec![in alloc; b'#'; len]?;
+    check(alloc, &comment, expected)
+}
+
 #[test]
 fn lines(rt: HostRuntime) -> Result<(), Fail> {
-    let alloc = rt.alloc();
-    for (line, expected) in COMMANDS {
-        assert_eq!(rt; shown(alloc, line.as_bytes())?.as_str(), expected, "{line}");
+    for (line, expected) in commands() {
+        check(rt.alloc(), line.as_bytes(), expected)?;
     }
-    for line in NO_COMMANDS {
-        assert_eq!(rt;
-            shown(alloc, line.as_bytes())?.as_str(),
-            "no command",
-            "{line}"
-        );
+    for line in no_commands() {
+        check(rt.alloc(), line.as_bytes(), "no command")?;
     }
     // comments of so many bytes
     for (len, expected) in [(8192, "nothing"), (8193, "too long")] {
-        let comment = vec![in alloc; b'#'; len]?;
-        assert_eq!(rt; shown(alloc, &comment)?.as_str(), expected, "{len}");
+        check_comment(rt.alloc(), len, expected)?;
     }
     Ok(())
 }

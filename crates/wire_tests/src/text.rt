@@ -1,7 +1,7 @@
 // Bytes, keys and matches as text.
 use maple_base::{Key, Match};
 use maple_text::value_of;
-use std::alloc::Global;
+use std::alloc::{AllocError, Global};
 use std::test::Fail;
 
 fn digit(byte: u8) -> Option<u8> {
@@ -34,11 +34,21 @@ pub fn unhex(alloc: Global, text: &str) -> Result<Vec<u8>, Fail> {
 /// Bytes as hexadecimal digits.
 pub fn hex(alloc: Global, bytes: &[u8]) -> Result<String, Fail> {
     let mut text = String::new(alloc);
-    for byte in bytes {
-        let digits = format!(in alloc; "{byte:02x}")?;
-        text.push_str(&digits)?;
-    }
+    push_hex(&mut text, bytes)?;
     Ok(text)
+}
+
+/// Appends bytes as hexadecimal digits.
+pub fn push_hex(text: &mut String, bytes: &[u8]) -> Result<(), AllocError> {
+    for byte in bytes {
+        write!(text, "{byte:02x}")?;
+    }
+    Ok(())
+}
+
+/// Appends a word and a number.
+pub fn push_number(text: &mut String, word: &str, number: u64) -> Result<(), AllocError> {
+    write!(text, "{word} {number}")
 }
 
 fn narrow_u8(number: u64) -> Result<u8, Fail> {
@@ -65,39 +75,50 @@ fn narrow_u32(number: u64) -> Result<u32, Fail> {
     }
 }
 
-fn fixing(mut of: Match, name: &str, number: u64) -> Result<Match, Fail> {
+fn fix(of: &mut Match, name: &str, number: u64) -> Result<(), Fail> {
     match name {
-        "in_port" => of.in_port = Some(narrow_u16(number)?),
         "dl_src" => of.dl_src = Some(number),
         "dl_dst" => of.dl_dst = Some(number),
-        "dl_vlan" => of.dl_vlan = Some(narrow_u16(number)?),
         "dl_pcp" => of.dl_pcp = Some(narrow_u8(number)?),
-        "dl_type" => of.dl_type = Some(narrow_u16(number)?),
         "nw_tos" => of.nw_tos = Some(narrow_u8(number)?),
         "nw_proto" => of.nw_proto = Some(narrow_u8(number)?),
         "nw_src" => of.nw_src = Some(narrow_u32(number)?),
         "nw_dst" => of.nw_dst = Some(narrow_u32(number)?),
-        "tp_src" => of.tp_src = Some(narrow_u16(number)?),
-        "tp_dst" => of.tp_dst = Some(narrow_u16(number)?),
+        _ => fix_u16(of, name, narrow_u16(number)?)?,
+    }
+    Ok(())
+}
+
+fn fix_u16(of: &mut Match, name: &str, number: u16) -> Result<(), Fail> {
+    match name {
+        "in_port" => of.in_port = Some(number),
+        "dl_vlan" => of.dl_vlan = Some(number),
+        "dl_type" => of.dl_type = Some(number),
+        "tp_src" => of.tp_src = Some(number),
+        "tp_dst" => of.tp_dst = Some(number),
         _ => return Err(Fail::from("no such number of a key")),
     }
-    Ok(of)
+    Ok(())
+}
+
+// Fixes what a word names, as `tp_dst=80`.
+fn fix_word(of: &mut Match, word: &str) -> Result<(), Fail> {
+    let Some((name, number)) = word.split_once('=') else {
+        return Err(Fail::from("a word without a number"));
+    };
+    match value_of(number.as_bytes()) {
+        Some(number) => fix(of, name, number),
+        None => Err(Fail::from("no number")),
+    }
 }
 
 /// A match that fixes the numbers that words name, as `tp_dst=80`.
 pub fn match_of(words: &str) -> Result<Match, Fail> {
     let mut of = Match::any();
     for word in words.split(' ') {
-        if word.is_empty() {
-            continue;
+        if !word.is_empty() {
+            fix_word(&mut of, word)?;
         }
-        let Some((name, number)) = word.split_once('=') else {
-            return Err(Fail::from("a word without a number"));
-        };
-        let Some(number) = value_of(number.as_bytes()) else {
-            return Err(Fail::from("no number"));
-        };
-        of = fixing(of, name, number)?;
     }
     Ok(of)
 }

@@ -74,7 +74,7 @@ fn wildcards(of: &Match) -> u32
 }
 
 // The 40 bytes of a match (OpenFlow 1.0, 5.2.3, ofp_match).
-pub(super) fn bytes_of(of: &Match) -> [u8; 40]
+pub(crate) fn bytes_of(of: &Match) -> [u8; 40]
     ensures value { result ≡ written_match of.now }
     ensures bits { match_has_bits of.now ≡ true }
 {

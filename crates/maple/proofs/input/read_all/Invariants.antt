@@ -1,4 +1,4 @@
-use Rattle.std.proofs.Common.{◌≡◌, ◌-◌, ◌≤◌, length}
+use Rattle.std.proofs.Common.{◌≡◌, ◌-◌, length}
 use Rattle.std.specs.Prelude.{vec_len}
 use Rattle.std.specs.Io.KnownBytes.{Consumes}
 use Rattle.maple.proofs.input.read_all.Given as goal
@@ -7,7 +7,7 @@ use Rattle.maple.proofs.input.read_all.Given as goal
 abbrev pub invariant-reading : goal.invariant-reading
 invariant-reading g l = record {
   consumed : Consumes (g.I.Source.tells l.fn.input).left (g.I.Source.tells l.input).left l.all.items;
-  count : (g.I.Source.tells l.fn.input).failed ≤ (g.I.Source.tells l.input).failed;
+  spared : (g.I.Source.tells l.input).failed ≡ (g.I.Source.tells l.fn.input).failed;
   piece : length l.piece ≡ 4096;
 }
 

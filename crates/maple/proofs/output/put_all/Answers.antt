@@ -1,4 +1,4 @@
-use Rattle.std.proofs.Common.{rules}
+use Rattle.std.proofs.Common.{rules, ◌∙◌}
 use Rattle.std.proofs.lemmas.List.{take_rest}
 use Rattle.maple.proofs.Pieces.{piece_more, front_kept}
 use Rattle.maple.proofs.output.put_all.Goals as goal
@@ -7,7 +7,7 @@ pub loop-at-preserved : goal.loop-at-preserved
 loop-at-preserved g c = record {
   within = search rules;
   written = piece_more _ _ _ _ _ _ c.loop-at.invariant.written (rw (take_rest c.args.bytes.now c.loop-at.at) at c.in-Took.ensures.bytes);
-  count = search rules;
+  spared = c.in-Took.ensures.spared (λ e. cc) ∙ c.loop-at.invariant.spared;
 }
 
 pub returns-in-Failed-clause-front : goal.returns-in-Failed-clause-front

@@ -1,4 +1,4 @@
-use Rattle.std.proofs.Common.{◌-◌, ◌≤◌, take, length}
+use Rattle.std.proofs.Common.{◌≡◌, ◌-◌, ◌≤◌, take, length}
 use Rattle.maple_io.specs.Views.{Wrote}
 use Rattle.maple.proofs.output.put_all.Given as goal
 
@@ -7,7 +7,7 @@ abbrev pub invariant-loop-at : goal.invariant-loop-at
 invariant-loop-at g l = record {
   within : l.at ≤ length l.bytes;
   written : Wrote (g.O.Sink.tells l.fn.output) (g.O.Sink.tells l.output) (take l.at l.bytes);
-  count : (g.O.Sink.tells l.fn.output).failed ≤ (g.O.Sink.tells l.output).failed;
+  spared : (g.O.Sink.tells l.output).failed ≡ (g.O.Sink.tells l.fn.output).failed;
 }
 
 abbrev pub decreases-loop-at : goal.decreases-loop-at

@@ -11,17 +11,17 @@ use Rattle.maple.proofs.sim.run_script.Goals as goal
 
 pub loop-rest-init : goal.loop-rest-init
 loop-rest-init g c = record {
-  stands = ([], [], record { known = c.new-world.ensures c.args.policy.now c.args.budget c.requires.plain c.requires.budget; refused = refl; told = refl; appended = Appends-nil (g.O.Sink.tells c.args.output.now).taken; count = omega arith });
+  stands = ([], [], record { known = c.new-world.ensures c.args.policy.now c.args.budget c.requires.plain c.requires.budget; refused = refl; told = refl; appended = Appends-nil (g.O.Sink.tells c.args.output.now).taken; spared = refl });
   numbers = omega arith;
 }
 
-pub returns-in-Err-Refused : goal.returns-in-Err-Refused
-returns-in-Err-Refused g c =
+pub returns-in-Err-Refused-clause-runs : goal.returns-in-Err-Refused-clause-runs
+returns-in-Err-Refused-clause-runs g c =
     let traces = c.loop-rest.invariant.stands.0 in
     let s = rw (ap (map without_end) c.cut_line.ensures.lines) at c.loop-rest.invariant.stands.2 in
     let stop = rw c.in-Err-Refused.field-0-is at c.in-Err-Refused.ensures.stop in
     let bad : step_of (without_end c.cut_line.result.0.now) ≡ Err c.in-Err-Refused.kind = rw c.without_end.ensures at stop in
-    ends_at_refused _ _ _ _ _ _ _ _ _ traces _ (without_end c.cut_line.result.0.now) (map without_end (ended_lines c.cut_line.result.1.now)) s c.refuse.result c.in-Err-Refused.kind bad (rw c.in-Err-Refused.field-0-is at c.refuse.ensures)
+    ends_at_refused _ _ _ _ _ _ _ _ _ traces _ (without_end c.cut_line.result.0.now) (map without_end (ended_lines c.cut_line.result.1.now)) s c.refuse.result c.in-Err-Refused.kind bad (rw c.in-Err-Refused.field-0-is at c.refuse.ensures.ends)
 
 pub loop-rest-preserved : goal.loop-rest-preserved
 loop-rest-preserved g c =
@@ -37,13 +37,13 @@ loop-rest-preserved g c =
         _,
         _,
         stands_further _ _ _ _ _ _ _ _ _ traces _ (without_end c.cut_line.result.0.now) (map without_end (ended_lines c.cut_line.result.1.now)) s c.in-Ok.step good _ p.1
-            (subst (Wrote (g.O.Sink.tells c.loop-rest.output) (g.O.Sink.tells c.put_text.new.output)) text c.in-Done.ensures.ends.1) c.in-Done.ensures.count,
+            (subst (Wrote (g.O.Sink.tells c.loop-rest.output) (g.O.Sink.tells c.put_text.new.output)) text c.in-Done.ensures.ends.1) (c.in-Done.ensures.spared (λ e. cc)),
       );
       numbers = omega (arith, whole, length-append c.cut_line.result.0.now c.cut_line.result.1.now, c.cut_line.ensures.some, c.loop-rest.invariant.numbers);
     }
 
-pub returns-in_default-put_text : goal.returns-in_default-put_text
-returns-in_default-put_text g c =
+pub returns-in_default-put_text-clause-runs : goal.returns-in_default-put_text-clause-runs
+returns-in_default-put_text-clause-runs g c =
     let traces = c.loop-rest.invariant.stands.0 in
     let s = rw (ap (map without_end) c.cut_line.ensures.lines) at c.loop-rest.invariant.stands.2 in
     let good : step_of (without_end c.cut_line.result.0.now) ≡ Ok c.in-Ok.step = rw c.without_end.ensures at c.in-Ok.ensures.step in
@@ -53,8 +53,17 @@ returns-in_default-put_text g c =
     ends_within _ _ _ _ _ _ _ _ _ traces _ (without_end c.cut_line.result.0.now) (map without_end (ended_lines c.cut_line.result.1.now)) s c.in-Ok.step good c.put_text.result c.in_default-put_text.not-Done
     (rw text at c.put_text.ensures.ends)
 
-pub returns : goal.returns
-returns g c =
+pub returns-clause-runs : goal.returns-clause-runs
+returns-clause-runs g c =
     let ended : c.loop-rest.rest.now ≡ [] = nil_from_length c.loop-rest.rest.now (search rules) in
     let s = rw ended at c.loop-rest.invariant.stands.2 in
-    ends_after _ _ _ _ _ _ _ _ _ c.loop-rest.invariant.stands.0 _ s c.finish.result c.finish.ensures
+    ends_after _ _ _ _ _ _ _ _ _ c.loop-rest.invariant.stands.0 _ s c.finish.result c.finish.ensures.ends
+
+pub returns-in-Err-Refused-clause-spared : goal.returns-in-Err-Refused-clause-spared
+returns-in-Err-Refused-clause-spared g c = λ n. c.refuse.ensures.spared n ∙ c.loop-rest.invariant.stands.2.spared
+
+pub returns-in_default-put_text-clause-spared : goal.returns-in_default-put_text-clause-spared
+returns-in_default-put_text-clause-spared g c = λ n. c.put_text.ensures.spared n ∙ c.loop-rest.invariant.stands.2.spared
+
+pub returns-clause-spared : goal.returns-clause-spared
+returns-clause-spared g c = λ n. c.finish.ensures.spared n ∙ c.loop-rest.invariant.stands.2.spared

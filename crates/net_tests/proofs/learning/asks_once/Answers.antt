@@ -1,4 +1,4 @@
-use Rattle.net_tests.proofs.Runs.{asks_further}
+use Rattle.net_tests.proofs.Traces.{asks_further}
 use Rattle.net_tests.proofs.learning.asks_once.Goals as goal
 
 pub loop-item-preserved : goal.loop-item-preserved

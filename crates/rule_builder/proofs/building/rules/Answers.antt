@@ -1,7 +1,6 @@
-use Rattle.std.proofs.Common.{◌≡◌, ◌++◌, rules, sym, ◌∙◌, ap, subst}
-use Rattle.std.specs.List.Sorted.{IsPermutation, IsNonDecreasingBy}
-use Rattle.std.proofs.lemmas.List.Sorted.{IsNonDecreasingBy-from_sort_by_key, IsPermutation-trans}
-use Rattle.maple_base.specs.declared.decision.Rule.{Rule}
+use Rattle.std.proofs.Common.{◌≡◌, ◌++◌, sym, ◌∙◌, ap, subst}
+use Rattle.std.specs.List.Sorted.{IsPermutation}
+use Rattle.std.proofs.lemmas.List.Sorted.{IsPermutation-trans}
 use Rattle.maple_base.specs.Keys.{anything}
 use Rattle.trace_tree.specs.TreeOf.{tree_of}
 use Rattle.rule_builder.specs.Rules.{facts_of, barriers_of}
@@ -14,12 +13,7 @@ returns-clause-facts c =
     ∙ ap (λ t. facts_of t c.any-any.result 0) c.root-root.ensures.tree
     ∙ ap (λ m. facts_of c.args.tree.now m 0) c.any-any.ensures in
     subst (λ l. IsPermutation (facts_of c.args.tree.now anything 0) l) (sym c.new.ensures.facts)
-    (IsPermutation-trans _ _ _ (subst (λ l. IsPermutation l c.push_rules.new.facts.items) e c.in_ok-push_rules.ensures.facts) c.in_ok-sort_by_key.ensures.permutation)
-
-pub returns-clause-facts_order : goal.returns-clause-facts_order
-returns-clause-facts_order c =
-    subst (λ l. IsNonDecreasingBy (λ (r : Rule). r.priority) l) (sym c.new.ensures.facts)
-    (IsNonDecreasingBy-from_sort_by_key (λ r. r.priority) _ c.in_ok-sort_by_key.ensures.sorted (λ a r q k. search rules))
+    (IsPermutation-trans _ _ _ (subst (λ l. IsPermutation l c.push_rules.new.facts.items) e c.in_ok-push_rules.ensures.facts) c.in_ok-facts.ensures.same)
 
 pub returns-clause-barriers : goal.returns-clause-barriers
 returns-clause-barriers c =
@@ -28,9 +22,4 @@ returns-clause-barriers c =
     ∙ ap (λ t. barriers_of t c.any-any.result 0) c.root-root.ensures.tree
     ∙ ap (λ m. barriers_of c.args.tree.now m 0) c.any-any.ensures in
     subst (λ l. IsPermutation (barriers_of c.args.tree.now anything 0) l) (sym c.new.ensures.barriers)
-    (IsPermutation-trans _ _ _ (subst (λ l. IsPermutation l c.push_rules.new.barriers.items) e c.in_ok-push_rules.ensures.barriers) c.in_ok-sort_by_key-2.ensures.permutation)
-
-pub returns-clause-barriers_order : goal.returns-clause-barriers_order
-returns-clause-barriers_order c =
-    subst (λ l. IsNonDecreasingBy (λ (r : Rule). r.priority) l) (sym c.new.ensures.barriers)
-    (IsNonDecreasingBy-from_sort_by_key (λ r. r.priority) _ c.in_ok-sort_by_key-2.ensures.sorted (λ a r q k. search rules))
+    (IsPermutation-trans _ _ _ (subst (λ l. IsPermutation l c.push_rules.new.barriers.items) e c.in_ok-push_rules.ensures.barriers) c.in_ok-barriers.ensures.same)

@@ -2,7 +2,7 @@ use Rattle.std.proofs.Common.{◌≡◌, ℕ, ◌+◌, length, List, Option, Som
 use Rattle.std.specs.Borrow.{Bor}
 use Rattle.maple_base.specs.Keys.{anything}
 use Rattle.maple_text.specs.Parts.{rest_parts}
-use Rattle.script_text.specs.PacketFields.{named_by}
+use Rattle.script_text.specs.FieldReading.{named_by}
 use Rattle.script_text.proofs.packet_fields.named_fields.Given as goal
 
 abbrev left_of : Option (Bor (List ℕ)) → ℕ

@@ -4,8 +4,8 @@ use Rattle.std.specs.FinMap as map
 use Rattle.maple_base.specs.declared.cells.Place.{Place}
 use Rattle.env_cells.specs.Environment.{Environment}
 use Rattle.env_cells.specs.Limits.{IsWithinLimits}
-use Rattle.env_cells.specs.Lists.{StartApart, IsBetweenPorts, IsKnown, NamesFewSwitches}
-use Rattle.env_cells.proofs.LinkFacts.{links_apart, links_few, links_ports, links_known, links_named}
+use Rattle.env_cells.specs.Lists.{StartApart, RiseByPlace, IsBetweenPorts, IsKnown, NamesFewSwitches}
+use Rattle.env_cells.proofs.LinkFacts.{links_apart, links_rise, links_few, links_ports, links_known, links_named}
 use Rattle.env_cells.proofs.environment.Env.links.Goals as goal
 
 within : (c : goal.After-links) → IsWithinLimits c.args.self.now
@@ -16,6 +16,12 @@ lent c = sym (c.links.ensures ∙ ap (λ (e : Environment). map.entries e.links)
 
 pub returns-clause-apart : goal.returns-clause-apart
 returns-clause-apart c = subst StartApart (lent c) (links_apart c.args.self.now (within c))
+
+pub returns-clause-order : goal.returns-clause-order
+returns-clause-order c = subst RiseByPlace (lent c) (links_rise c.args.self.now (within c))
+
+pub returns-clause-limits : goal.returns-clause-limits
+returns-clause-limits c = within c
 
 pub returns-clause-few : goal.returns-clause-few
 returns-clause-few c = subst (λ (l : List (Place × Place)). length l ≤ 4096) (lent c) (links_few c.args.self.now (within c))

@@ -1,15 +1,16 @@
-use Rattle.std.proofs.Common.{◌≡◌, ◌⊎◌, ℕ, ◌<◌, Some, List, [], ◌∷◌, length, unwrap_or, sym, ap, ◌∙◌, subst, vec_len, arith}
+use Rattle.std.proofs.Common.{refl, inl, ◌≡◌, ◌⊎◌, ℕ, ◌<◌, Some, List, [], ◌∷◌, length, unwrap_or, sym, ap, ◌∙◌, subst, vec_len, arith}
 use Rattle.std.proofs.lemmas.Bool.{eqb-true, eqb-false}
 use Rattle.maple_base.specs.declared.cells.Place.{Place}
 use Rattle.maple_base.specs.Paths.{IsPath}
 use Rattle.topo_paths.specs.Walks.{Link, IsWay, NoWalk}
+use Rattle.topo_paths.specs.Graphs.{IsGraph}
 use Rattle.topo_paths.specs.NextHops.{next_hop, distance}
 use Rattle.topo_paths.proofs.Hopping.{hop_nearer}
-use Rattle.topo_paths.proofs.Ways.{IsUnderWay, way_start, way_turn, way_end, way_path, way_apart}
+use Rattle.topo_paths.proofs.Ways.{IsUnderWay, way_turn, way_end, way_path, way_apart}
 use Rattle.topo_paths.proofs.hops.Hops.path.Goals as goal
 
 pub loop-next-init : goal.loop-next-init
-loop-next-init c = subst (λ (x : List Place). IsUnderWay c.args.self.now c.args.from c.args.to c.args.from x) (sym c.new-hops.ensures.items) (way_start c.args.self.now c.args.from c.args.to)
+loop-next-init c = subst (λ (x : List Place). IsUnderWay c.args.self.now c.args.from c.args.to c.args.from x) (sym c.new-hops.ensures.items) (record { way = refl; on = inl refl; ports = refl })
 
 smaller : (links : List Link) (to at : ℕ) (hop : Place) → next_hop links at to ≡ Some hop → unwrap_or (distance links hop.switch to) 0 < unwrap_or (distance links at to) 0
 smaller links to at hop h =
@@ -20,7 +21,7 @@ pub loop-next-smaller : goal.loop-next-smaller
 loop-next-smaller c = smaller c.args.self.now c.args.to c.loop-next.at c.in-Some.next (sym c.in-Some.ensures.value)
 
 pub loop-next-preserved : goal.loop-next-preserved
-loop-next-preserved c = subst (λ (x : List Place). IsUnderWay c.args.self.now c.args.from c.args.to c.in-Some.next.switch x) (sym c.in_ok-push.ensures.items) (way_turn c.args.self.now c.args.from c.args.to c.loop-next.at c.loop-next.hops.items c.in-Some.next (sym c.in-Some.ensures.value) c.in-Some.ensures.port c.loop-next.invariant)
+loop-next-preserved c = subst (λ (x : List Place). IsUnderWay c.args.self.now c.args.from c.args.to c.in-Some.next.switch x) (sym c.in_ok-push.ensures.items) (way_turn c.args.self.now c.args.from c.args.to c.loop-next.at c.loop-next.hops.items c.in-Some.next (subst (λ (x : List Link). IsGraph x) c.self.view_is c.self.invariant.graph) (sym c.in-Some.ensures.value) c.in-Some.ensures.port c.loop-next.invariant)
 
 -- no hop was taken
 stayed : (links : List Link) (to from at : ℕ) (hops : List Place) → length hops ≡ 0 → IsWay links to from at hops → from ≡ at

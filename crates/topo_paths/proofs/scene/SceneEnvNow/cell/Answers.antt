@@ -1,15 +1,21 @@
-use Rattle.std.proofs.Common.{subst}
-use Rattle.maple_base.specs.declared.cells.Value.TheVariants.{Nothing, At}
+use Rattle.std.proofs.Common.{◌≡◌, IsTrue, sym, ap, ◌∙◌, subst}
+use Rattle.maple_base.specs.declared.cells.Value.{Value}
+use Rattle.maple_base.specs.Kinds.{of_kind}
 use Rattle.env_cells.specs.Environment.{Environment}
-use Rattle.topo_paths.specs.Scenes.{links_in, HopIsShown}
-use Rattle.topo_paths.proofs.Shown.{shown_kind, shown_hop, shown_none}
+use Rattle.env_cells.specs.Values.{at_or_nothing}
+use Rattle.topo_paths.specs.Graphs.{IsGraph}
+use Rattle.topo_paths.specs.NextHops.{next_hop}
+use Rattle.topo_paths.specs.Scenes.{links_in, cell_in, HopIsShown}
+use Rattle.topo_paths.proofs.Shown.{shown}
 use Rattle.topo_paths.proofs.scene.SceneEnvNow.cell.Goals as goal
 
-pub returns-in-Some-clause-kind : goal.returns-in-Some-clause-kind
-returns-in-Some-clause-kind c = shown_kind (links_in c.self.inside.env) c.self.inside.table c.self.invariant.1 c.args.cell c.in-Hop.from c.in-Hop.to c.in-Hop.is c.in-Some.place (c.in-Some.ensures (links_in c.self.inside.env) c.self.invariant.1)
-
-pub returns-in-Some-clause-hop : goal.returns-in-Some-clause-hop
-returns-in-Some-clause-hop c = subst (λ (e : Environment). HopIsShown (links_in e) c.args.cell (At c.in-Some.place)) c.self.view_is (shown_hop (links_in c.self.inside.env) c.self.inside.table c.self.invariant.1 c.args.cell c.in-Hop.from c.in-Hop.to c.in-Hop.is c.in-Some.place (c.in-Some.ensures (links_in c.self.inside.env) c.self.invariant.1))
-
-pub returns-in-None-clause-hop : goal.returns-in-None-clause-hop
-returns-in-None-clause-hop c = subst (λ (e : Environment). HopIsShown (links_in e) c.args.cell Nothing) c.self.view_is (shown_none (links_in c.self.inside.env) c.self.inside.table c.self.invariant.1 c.args.cell c.in-Hop.from c.in-Hop.to c.in-Hop.is (c.in-None.ensures (links_in c.self.inside.env) c.self.invariant.1))
+pub returns-in-Hop : goal.returns-in-Hop
+returns-in-Hop c =
+    let graph = subst (λ (e : Environment). IsGraph (links_in e)) c.self.view_is c.self.invariant.1.graph in
+    let value : c.hop.result ≡ next_hop (links_in c.args.self.now) c.in-Hop.from c.in-Hop.to = c.hop.ensures (links_in c.self.inside.env) c.self.invariant.1.hops ∙ ap (λ (e : Environment). next_hop (links_in e) c.in-Hop.from c.in-Hop.to) c.self.view_is in
+    let (kind, hop) = shown (links_in c.args.self.now) graph c.args.cell c.in-Hop.from c.in-Hop.to c.in-Hop.is c.hop.result value in
+    record {
+      told = c.at_or_nothing.ensures ∙ ap at_or_nothing value ∙ sym (ap (cell_in c.args.self.now) c.in-Hop.is);
+      kind = subst (λ (v : Value). IsTrue (of_kind c.args.cell v)) (sym c.at_or_nothing.ensures) kind;
+      hop = subst (λ (v : Value). HopIsShown (links_in c.args.self.now) c.args.cell v) (sym c.at_or_nothing.ensures) hop;
+    }

@@ -1,0 +1,2 @@
+-- Tests of what the calls that are tested require.
+pub mod Targets

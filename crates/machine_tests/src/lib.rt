@@ -1,0 +1,9 @@
+//! Tests of how switches are led from one list of rules to another.
+#![tactic(auto)]
+
+#[cfg(test)]
+mod plans;
+#[cfg(test)]
+mod rules;
+#[cfg(test)]
+mod targets;

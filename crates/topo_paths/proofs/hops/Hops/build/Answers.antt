@@ -1,0 +1,36 @@
+use Rattle.std.proofs.Common.{◌≡◌, List, sym, ◌∙◌, subst}
+use Rattle.std.specs.List.Sorted.{IsPermutation}
+use Rattle.std.proofs.lemmas.List.Sorted.{IsPermutation-sym, All-permutation}
+use Rattle.env_cells.specs.Lists.{IsAmong, NamesFewSwitches}
+use Rattle.topo_paths.specs.Walks.{Link}
+use Rattle.topo_paths.specs.Graphs.{RisePorts}
+use Rattle.topo_paths.specs.Tables.{HasTable}
+use Rattle.topo_paths.proofs.Moved.{next_hop_moved, moved_in}
+use Rattle.topo_paths.proofs.hops.Hops.build.Goals as goal
+
+pub rebuild-requires-clause-few : goal.rebuild-requires-clause-few
+rebuild-requires-clause-few c =
+    let (names, few, all) = c.requires.few in
+    let moved = subst (λ (x : List Link). IsPermutation x c.in_ok-rising.rising.items) c.items-2.ensures c.in_ok-rising.ensures.moved in
+    subst (λ (x : List Link). NamesFewSwitches x) (sym c.deref.ensures.value) (names, few, All-permutation (IsAmong names) c.args.links.now c.in_ok-rising.rising.items moved all)
+
+pub rebuild-requires-clause-rise : goal.rebuild-requires-clause-rise
+rebuild-requires-clause-rise c = subst (λ (x : List Link). RisePorts x) (sym c.deref.ensures.value) c.in_ok-rising.ensures.rise
+
+pub invariant_of-result : goal.invariant_of-result
+invariant_of-result c =
+    let links = c.args.links.now in
+    let lent = c.deref.result.now in
+    let moved = subst (λ (x : List Link). IsPermutation links x) (sym c.deref.ensures.value) (subst (λ (x : List Link). IsPermutation x c.in_ok-rising.rising.items) c.items-2.ensures c.in_ok-rising.ensures.moved) in
+    let back = IsPermutation-sym links lent moved in
+    let t = c.rebuild.ensures.table in
+    let kept : c.new-2.result ≡ links = c.new-2.ensures ∙ c.in_ok-list.ensures.items ∙ c.items.ensures in
+    subst (λ (x : List Link). HasTable x c.rebuild.new.self) (sym kept)
+    (record {
+      graph = c.requires;
+      hops = record {
+        named = All-permutation (IsAmong c.rebuild.new.self.switches.items) lent links back t.named;
+        square = t.square;
+        hops = λ from to lf lt. t.hops from to lf lt ∙ next_hop_moved lent links (moved_in lent links back) (moved_in links lent moved) c.requires.apart _ _;
+      };
+    })

@@ -1,0 +1,9 @@
+pub mod Distinct
+pub mod Counted
+pub mod During
+pub mod Found
+pub mod Keys
+pub mod Lists
+pub mod Members
+pub mod Safe
+pub mod Shielded
