@@ -1,0 +1,12 @@
+use Rattle.std.proofs.Common.{◌+◌, ◌*◌}
+use Rattle.plain_eval.proofs.evaluation.Evaluator.+expressions.Given as goal
+
+-- each expression counts a step ahead of its parts
+abbrev pub decreases-value : goal.decreases-value
+decreases-value g l = 2 * l.steps.now
+
+abbrev pub decreases-call : goal.decreases-call
+decreases-call g l = 2 * l.steps.now + 1
+
+abbrev pub decreases-pair : goal.decreases-pair
+decreases-pair g l = 2 * l.steps.now + 1

@@ -1,0 +1,5 @@
+pub mod Added
+pub mod Outs
+pub mod Piles
+pub mod Replays
+pub mod Terms

@@ -1,0 +1,11 @@
+//! The syntax tree of a policy's text.
+#![tactic(auto)]
+
+pub mod building;
+mod expressions;
+mod heads;
+mod pile;
+mod state;
+mod statements;
+
+pub use building::{Parts, build};
