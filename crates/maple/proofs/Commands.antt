@@ -5,11 +5,12 @@ use Rattle.maple_base.specs.PolicyFaults.{number_of, fault_numbered}
 use Rattle.maple_base.proofs.FaultNumbers.{numbered_back}
 use Rattle.maple_io.specs.Views.{SinkView}
 use Rattle.policy_lang.specs.declared.Policy.{Policy}
+use Rattle.policy_lang.specs.PolicyTree.{policy_tree}
 use Rattle.policy_print.specs.Printed.{policy_text}
 use Rattle.policy_text.specs.declared.reading.ReadError.TheVariants.{Refused}
 use Rattle.policy_text.specs.Basic.{is_basic}
+use Rattle.policy_text.specs.Laws.{OnePolicy}
 use Rattle.policy_text.specs.Texts.{IsTextOf, IsRefused}
-use Rattle.policy_text.proofs.OneText.{one_basis}
 use Rattle.report_text.specs.declared.line.Line.TheVariants.{RefusedPolicy}
 use Rattle.report_text.specs.declared.line.PolicyRefusal.TheVariants.{Fault, Later}
 use Rattle.report_text.specs.Report.{spelled}
@@ -44,23 +45,23 @@ no_other text line column kind r n =
 
 module _ (old new : SinkView) (input : List ℕ) (result : Status) where
   -- no policy of a text is basic where one is not
-  none_basic : (policy : Policy) (budget : ℕ) → IsTextOf policy (policy_part input) → is_basic policy ≡ false → HasNone (Sim budget) input
-  none_basic policy budget has isn q (h, basic) = let both = sym isn ∙ one_basis (policy_part input) policy q has h ∙ basic in cc
+  none_basic : OnePolicy → (policy : Policy) (budget : ℕ) → IsTextOf policy (policy_part input) → is_basic (policy_tree policy) ≡ false → HasNone (Sim budget) input
+  none_basic one policy budget has isn q (h, basic) = let both = sym isn ∙ ap is_basic (one (policy_part input) policy q has h) ∙ basic in cc
 
-  at_sim : (policy : Policy) (budget first : ℕ) (lines : List (List ℕ)) → IsTextOf policy (policy_part input) → first ≡ first_number input → lines ≡ script_lines input
+  at_sim : OnePolicy → (policy : Policy) (budget first : ℕ) (lines : List (List ℕ)) → IsTextOf policy (policy_part input) → first ≡ first_number input → lines ≡ script_lines input
       → Sims old new policy budget first lines result → RunsText old new (Sim budget) input result
-  at_sim policy budget first lines has number script (inl (basic, e)) =
+  at_sim one policy budget first lines has number script (inl (basic, e)) =
       inl (
         policy,
         (has, basic),
         subst (λ ls. Ends old new (due_of (refused_from (first_number input) ls)) (told_of policy budget [] (first_number input) ls) result) script
             (subst (λ n. Ends old new (due_of (refused_from n lines)) (told_of policy budget [] n lines) result) number e),
       )
-  at_sim policy budget first lines has number script (inr (isn, e)) = inr (inl (none_basic policy budget has isn, RefusedPolicy 1 1 Later, inr (policy, has, isn, refl), e))
+  at_sim one policy budget first lines has number script (inr (isn, e)) = inr (inl (none_basic one policy budget has isn, RefusedPolicy 1 1 Later, inr (policy, has, isn, refl), e))
 
-  pub ran_sim : (command : Command) (policy : Policy) (budget first : ℕ) (lines : List (List ℕ)) → command ≡ Sim budget → IsTextOf policy (policy_part input) → first ≡ first_number input → lines ≡ script_lines input
+  pub ran_sim : OnePolicy → (command : Command) (policy : Policy) (budget first : ℕ) (lines : List (List ℕ)) → command ≡ Sim budget → IsTextOf policy (policy_part input) → first ≡ first_number input → lines ≡ script_lines input
       → Sims old new policy budget first lines result → RunsText old new command input result
-  ran_sim command policy budget first lines is has number script h = subst (λ k. RunsText old new k input result) (sym is) (at_sim policy budget first lines has number script h)
+  ran_sim one command policy budget first lines is has number script h = subst (λ k. RunsText old new k input result) (sym is) (at_sim one policy budget first lines has number script h)
 
   pub ran_check : (command : Command) (policy : Policy) → command ≡ Check → IsTextOf policy (policy_part input) → Ends old new Done (policy_text policy) result → RunsText old new command input result
   ran_check command policy is has e = subst (λ k. RunsText old new k input result) (sym is) (inl (policy, (has, tt), e))

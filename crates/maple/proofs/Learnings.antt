@@ -26,6 +26,7 @@ use Rattle.maple_base.specs.Questions.{meets, clash, asks_once, within_domain}
 use Rattle.policy_lang.specs.declared.Policy.{Policy}
 use Rattle.policy_lang.specs.Courses.{course_of, items_of, outcome_at}
 use Rattle.policy_lang.specs.Laws.{begins_at}
+use Rattle.policy_lang.specs.TreeOf.{tree_of}
 use Rattle.policy_lang.proofs.Lawful.{same_trace, on_one_path, own_items, ends_as_evaluated, asks_within, asks_once_only, begins_here}
 use Rattle.trace_tree.specs.declared.node.Trace.{Trace}
 use Rattle.trace_tree.specs.Shape.{Shape, Branches, Empty, Ends, Reads, Tests, NoBranch, Branch}
@@ -124,26 +125,26 @@ fact_here (Path (p ∷ ps)) h = ap (actions_at (Path (p ∷ ps))) (eqb-true p.sw
 
 own_once : (policy : Policy) (budget : ℕ) (traces : List Trace) → AreOwn policy budget traces → AllAskOnce traces
 own_once policy budget [] h = tt
-own_once policy budget (x ∷ xs) h = (subst (λ is. asks_once [] is ≡ true) (sym h.0.items) (asks_once_only policy budget h.0.key h.0.valid), own_once policy budget xs h.1)
+own_once policy budget (x ∷ xs) h = (subst (λ is. asks_once [] is ≡ true) (sym h.0.items) (asks_once_only (tree_of policy.body) budget h.0.key h.0.valid), own_once policy budget xs h.1)
 
 own_push : (policy : Policy) (budget : ℕ) (traces : List Trace) (x : Trace) → AreOwn policy budget traces → IsOwn policy budget x → AreOwn policy budget (traces ++ x ∷ [])
 own_push policy budget [] x h i = (i, tt)
 own_push policy budget (y ∷ ys) x h i = (h.0, own_push policy budget ys x h.1 i)
 
 -- a found run decided what the key's own run decides
-decides_alike : (policy : Policy) (budget : ℕ) (traces : List Trace) (k : Key) (x : Trace) → AreOwn policy budget traces → found traces k ≡ Some x → outcome_at (course_of policy budget) k ≡ Decided x.decision
+decides_alike : (policy : Policy) (budget : ℕ) (traces : List Trace) (k : Key) (x : Trace) → AreOwn policy budget traces → found traces k ≡ Some x → outcome_at (course_of (tree_of policy.body) budget) k ≡ Decided x.decision
 decides_alike policy budget [] k x h e = absurd (cc)
 decides_alike policy budget (y ∷ ys) k x h e =
     ⊎_elim
     (λ m.
     let is : y ≡ x = let f = sym (ap (λ b. cond b (Some y) (found ys k)) m) ∙ e in cc in
     let met = sym (ap (meets k) h.0.items) ∙ m in
-    (same_trace (course_of policy budget) k h.0.key met).1 ∙ h.0.decided ∙ ap (λ z. Decided z.decision) is)
+    (same_trace (course_of (tree_of policy.body) budget) k h.0.key met).1 ∙ h.0.decided ∙ ap (λ z. Decided z.decision) is)
     (λ m. decides_alike policy budget ys k x h.1 (sym (ap (λ b. cond b (Some y) (found ys k)) m) ∙ e))
     (cases_Bool (meets k y.items))
 
 -- the key's own run clashes with none, where none is found
-clashes_none : (policy : Policy) (budget : ℕ) (traces : List Trace) (k : Key) → AreOwn policy budget traces → found traces k ≡ None → AllByRecursion (λ x. clash (items_of (course_of policy budget) k) x.items ≡ false) traces
+clashes_none : (policy : Policy) (budget : ℕ) (traces : List Trace) (k : Key) → AreOwn policy budget traces → found traces k ≡ None → AllByRecursion (λ x. clash (items_of (course_of (tree_of policy.body) budget) k) x.items ≡ false) traces
 clashes_none policy budget [] k h e = tt
 clashes_none policy budget (y ∷ ys) k h e =
     ⊎_elim
@@ -151,11 +152,11 @@ clashes_none policy budget (y ∷ ys) k h e =
     (λ m. (
       ⊎_elim
           (λ c.
-          let alike = (on_one_path (course_of policy budget) k h.0.key (sym (ap (clash (items_of (course_of policy budget) k)) h.0.items) ∙ c)).0 in
-          let met = ap (meets k) (h.0.items ∙ sym alike) ∙ own_items (course_of policy budget) k in
+          let alike = (on_one_path (course_of (tree_of policy.body) budget) k h.0.key (sym (ap (clash (items_of (course_of (tree_of policy.body) budget) k)) h.0.items) ∙ c)).0 in
+          let met = ap (meets k) (h.0.items ∙ sym alike) ∙ own_items (course_of (tree_of policy.body) budget) k in
           let f = sym met ∙ m in absurd (cc))
           (λ c. c)
-          (cases_Bool (clash (items_of (course_of policy budget) k) y.items)),
+          (cases_Bool (clash (items_of (course_of (tree_of policy.body) budget) k) y.items)),
       clashes_none policy budget ys k h.1 (sym (ap (λ b. cond b (Some y) (found ys k)) m) ∙ e),
     ))
     (cases_Bool (meets k y.items))
@@ -180,8 +181,8 @@ module _ (policy : Policy) (budget : ℕ) (traces : List Trace) (world : World) 
   holds : HoldsRules (scratch traces) (table_of world.rules)
   holds = table_law (scratch traces) world.rules.facts world.rules.barriers knows.facts knows.barriers
 
-  evaluated : outcome_at (course_of policy budget) k ≡ plain policy budget k
-  evaluated = ends_as_evaluated policy budget blank_value 1 k knows.plainly valid
+  evaluated : outcome_at (course_of (tree_of policy.body) budget) k ≡ plain policy budget k
+  evaluated = ends_as_evaluated (tree_of policy.body) budget blank_value 1 k knows.plainly valid
 
   -- a fact that is chosen does what plain evaluation decides
   pub hit_step : (r : Rule) (actions : List ℕ) (old new : List ℕ) → Contains world.rules.facts r → MayChoose (table_of world.rules) k r → r.actions ≡ actions → new ≡ old ++ spelled (Hit 1 k.in_port actions)
@@ -190,7 +191,7 @@ module _ (policy : Policy) (budget : ℕ) (traces : List Trace) (world : World) 
       let inside = Contains-permutation world.rules.facts (facts_of (scratch traces) anything 0) r (IsPermutation-sym (facts_of (scratch traces) anything 0) world.rules.facts knows.facts) c in
       let f = chooses.fact (table_of world.rules) r holds may inside in
       let d : plain policy budget k ≡ Decided f.0.decision = sym evaluated ∙ decides_alike policy budget traces k f.0 knows.own f.1 in
-      let begins : begins_at 1 (Decided f.0.decision) ≡ true = ap (begins_at 1) (sym d) ∙ begins_here policy budget blank_value 1 k valid in
+      let begins : begins_at 1 (Decided f.0.decision) ≡ true = ap (begins_at 1) (sym d) ∙ begins_here (tree_of policy.body) budget blank_value 1 k valid in
       let acts : actions ≡ outcome_actions (plain policy budget k) = sym does ∙ f.2.does ∙ fact_here f.0.decision begins ∙ sym (ap outcome_actions d) in
       let line : new ≡ old ++ text_of (said policy budget traces k (Some f.0)) = e ∙ ap (λ x. old ++ spelled (Hit 1 k.in_port x)) acts ∙ ap (λ t. old ++ t) (sym (append-nil (spelled (Hit 1 k.in_port (outcome_actions (plain policy budget k)))))) in
       subst (λ o. (new ≡ old ++ text_of (said policy budget traces k o)) × Knows policy budget (after policy budget traces k o) world) (sym f.1) (line, knows)
@@ -231,10 +232,10 @@ module _ (policy : Policy) (budget : ℕ) (traces : List Trace) (world : World) 
   leaves_are = let e = ap leaves_of knows.tree in let h = leaves_grown traces Empty admitted in omega (arith, e, h)
 
   pub next_within : items_within next.items ≡ true
-  next_within = within_items next.items (asks_within policy budget k valid)
+  next_within = within_items next.items (asks_within (tree_of policy.body) budget k valid)
 
   pub next_once : asks_once [] next.items ≡ true
-  next_once = asks_once_only policy budget k valid
+  next_once = asks_once_only (tree_of policy.body) budget k valid
 
   module _ (unfound : found traces k ≡ None) where
     pub next_admitted : admits next.items world.tree ≡ true

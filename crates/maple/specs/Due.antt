@@ -2,6 +2,7 @@
 use Rattle.std.specs.Prelude.{◌≡◌, ◌⊎◌, ℕ, ◌<◌, ◌≤◌, true, List, [], length, Option, Some, None, IfSome}
 use Rattle.maple_io.specs.Views.{SourceView, SinkView, ReadFailed, NoReadFailed, Gave, Wrote}
 use Rattle.policy_lang.specs.declared.Policy.{Policy}
+use Rattle.policy_lang.specs.PolicyTree.{policy_tree}
 use Rattle.policy_text.specs.Basic.{is_basic}
 use Rattle.maple.specs.declared.status.Status.{Status}
 use Rattle.maple.specs.declared.status.Status.TheVariants.{Done, Usage, Policy as PolicyRefused, Script, ReadFault, WriteFault, NoMemory, TooLong}
@@ -47,7 +48,7 @@ IsFit input = length input ≤ most_bytes
 
 -- the command takes this policy: `check` each, and `sim` each that is basic
 abbrev pub Takes : Command → Policy → Type 0
-Takes (Sim budget) policy = is_basic policy ≡ true
+Takes (Sim budget) policy = is_basic (policy_tree policy) ≡ true
 Takes Check policy = Unit {0}
 
 -- the input begins with the text of this policy, which the command takes

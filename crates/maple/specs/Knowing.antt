@@ -7,6 +7,7 @@ use Rattle.maple_base.specs.declared.decision.Outcome.TheVariants.{Decided}
 use Rattle.maple_base.specs.Keys.{valid_key, anything}
 use Rattle.policy_lang.specs.declared.Policy.{Policy}
 use Rattle.policy_lang.specs.Plain.{is_plain}
+use Rattle.policy_lang.specs.TreeOf.{tree_of}
 use Rattle.policy_eval.specs.Answers.{IsBudget}
 use Rattle.policy_lang.specs.Courses.{course_of, items_of, outcome_at}
 use Rattle.trace_tree.specs.declared.node.Trace.{Trace}
@@ -23,8 +24,8 @@ use Rattle.maple.specs.Report.{switch_rows, text_of, step_said, step_after, arri
 pub record IsOwn (policy : Policy) (budget : ℕ) (trace : Trace) : Type 0 where
   pub key : Key
   pub valid : valid_key key ≡ true
-  pub items : trace.items ≡ items_of (course_of policy budget) key
-  pub decided : outcome_at (course_of policy budget) key ≡ Decided trace.decision
+  pub items : trace.items ≡ items_of (course_of (tree_of policy.body) budget) key
+  pub decided : outcome_at (course_of (tree_of policy.body) budget) key ≡ Decided trace.decision
 
 abbrev pub AreOwn : Policy → ℕ → List Trace → Type 0
 AreOwn policy budget [] = Unit {0}
@@ -32,7 +33,7 @@ AreOwn policy budget (trace ∷ traces) = IsOwn policy budget trace × AreOwn po
 
 -- the policy is plain, the budget within its limits, and these traces were learned: they are the policy's own and no two clash, the tree is theirs, and the rules are the tree's, not more than the switch has room for
 pub record Knows (policy : Policy) (budget : ℕ) (traces : List Trace) (world : World) : Type 0 where
-  pub plainly : is_plain policy ≡ true
+  pub plainly : is_plain (tree_of policy.body) ≡ true
   pub steps : IsBudget budget
   pub own : AreOwn policy budget traces
   pub apart : AreApart traces

@@ -3,6 +3,7 @@ use Rattle.std.specs.Prelude.{◌≡◌, ◌⊎◌, ℕ, false, List}
 use Rattle.maple_base.specs.declared.policy_fault.PolicyFault.{PolicyFault}
 use Rattle.maple_base.specs.PolicyFaults.{number_of}
 use Rattle.policy_lang.specs.declared.Policy.{Policy}
+use Rattle.policy_lang.specs.PolicyTree.{policy_tree}
 use Rattle.policy_text.specs.Basic.{is_basic}
 use Rattle.policy_text.specs.declared.reading.ReadError.TheVariants.{Refused}
 use Rattle.policy_text.specs.Texts.{IsTextOf, IsRefused}
@@ -18,7 +19,7 @@ IsReadRefusal text l = (line column : ℕ) × (fault : PolicyFault) × IsRefused
 
 -- it has a policy that the command doesn't run yet: `sim` runs basic policies alone
 abbrev pub IsLater : Command → List ℕ → Line → Type 0
-IsLater (Sim budget) text l = (policy : Policy) × IsTextOf policy text × (is_basic policy ≡ false) × (l ≡ RefusedPolicy 1 1 Later)
+IsLater (Sim budget) text l = (policy : Policy) × IsTextOf policy text × (is_basic (policy_tree policy) ≡ false) × (l ≡ RefusedPolicy 1 1 Later)
 IsLater Check text l = ⊥
 
 -- the line by which a command refuses the policy of a text

@@ -13,6 +13,7 @@ use Rattle.packet_key.specs.declared.malformed.Malformed.{Malformed as Fault}
 use Rattle.packet_key.specs.Frames.{key_of, fault_number}
 use Rattle.policy_lang.specs.declared.Policy.{Policy}
 use Rattle.policy_lang.specs.Evaluation.{eval_of}
+use Rattle.policy_lang.specs.TreeOf.{tree_of}
 use Rattle.policy_lang.specs.Courses.{course_of, items_of, outcome_at}
 use Rattle.report_text.specs.declared.line.Line.{Line}
 use Rattle.report_text.specs.declared.line.Line.TheVariants.{Hit, Miss, Malformed, Answer, Spent as SpentRun}
@@ -45,11 +46,11 @@ outcome_actions o = actions_at (decided o) 1
 module _ (policy : Policy) (budget : ℕ) where
   -- plain evaluation at switch 1, in at most so many steps as the budget has, where no host, hop, port and number is known
   abbrev pub plain : Key → Outcome
-  plain k = eval_of policy budget blank_value 1 k
+  plain k = eval_of (tree_of policy.body) budget blank_value 1 k
 
   -- the trace of the policy's run on a key, as the nth
   abbrev pub own_trace : ℕ → Key → Trace
-  own_trace n k = record { number = n; items = items_of (course_of policy budget) k; cells = []; decision = decided (outcome_at (course_of policy budget) k) }
+  own_trace n k = record { number = n; items = items_of (course_of (tree_of policy.body) budget) k; cells = []; decision = decided (outcome_at (course_of (tree_of policy.body) budget) k) }
 
   -- the traces with the key's own behind them
   abbrev pub with_trace : List Trace → Key → List Trace

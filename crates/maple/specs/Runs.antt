@@ -3,6 +3,7 @@ use Rattle.std.specs.Prelude.{◌≡◌, ◌⊎◌, ℕ, ◌<◌, true, false, L
 use Rattle.std.specs.Io.KnownBytes.{IsAtEnd}
 use Rattle.maple_io.specs.Views.{SourceView, SinkView, ReadFailed, Wrote}
 use Rattle.policy_lang.specs.declared.Policy.{Policy}
+use Rattle.policy_lang.specs.PolicyTree.{policy_tree}
 use Rattle.policy_text.specs.Basic.{is_basic}
 use Rattle.maple.specs.declared.status.Status.{Status}
 use Rattle.maple.specs.declared.status.Status.TheVariants.{Usage, Policy as PolicyRefused, ReadFault, NoMemory, TooLong}
@@ -22,8 +23,8 @@ use Rattle.maple.specs.Statuses.{last_line}
 -- a script, whose first line has this number, runs under a basic policy, and another policy is refused
 abbrev pub Sims : SinkView → SinkView → Policy → ℕ → ℕ → List (List ℕ) → Status → Type 0
 Sims old new policy budget first lines result =
-    ((is_basic policy ≡ true) × Ends old new (due_of (refused_from first lines)) (told_of policy budget [] first lines) result)
-    ⊎ ((is_basic policy ≡ false) × Ends old new PolicyRefused (spelled (RefusedPolicy 1 1 Later)) result)
+    ((is_basic (policy_tree policy) ≡ true) × Ends old new (due_of (refused_from first lines)) (told_of policy budget [] first lines) result)
+    ⊎ ((is_basic (policy_tree policy) ≡ false) × Ends old new PolicyRefused (spelled (RefusedPolicy 1 1 Later)) result)
 
 -- an input that was read runs by its policy, has none that the command takes, or finds no memory for it
 abbrev pub RunsText : SinkView → SinkView → Command → List ℕ → Status → Type 0

@@ -10,7 +10,7 @@ use crate::finish::put_text;
 use crate::status::Status;
 use maple_io::Sink;
 use policy_lang::Policy;
-use policy_print::print_policy;
+use policy_text::print_policy;
 use report_text::{Line, PolicyRefusal, write_line};
 use std::alloc::Global;
 

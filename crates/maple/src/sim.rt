@@ -2,6 +2,7 @@
 ghost use Rattle.std.specs.Prelude.{◌≡◌, ◌≢◌, true, ◌+◌, ◌<◌, ◌^◌, [], map, length};
 ghost use Rattle.maple_io.specs.Views.{NoWriteFailed};
 ghost use Rattle.policy_lang.specs.Plain.{is_plain};
+ghost use Rattle.policy_lang.specs.TreeOf.{tree_of};
 ghost use Rattle.policy_eval.specs.Answers.{IsBudget};
 ghost use Rattle.maple.specs.Ends.{Ends};
 ghost use Rattle.maple.specs.Lines.{lines_of};
@@ -30,7 +31,7 @@ pub fn run_script<O: Sink>(
     script: &[u8],
     output: &mut O,
 ) -> Status
-    requires plain { is_plain policy.now ≡ true }
+    requires plain { is_plain (tree_of policy.now.body) ≡ true }
     requires budget { IsBudget budget }
     requires numbers { first + length script.now < 2 ^ 32 }
     ensures runs { RunsScript policy.now budget first (lines_of script.now) (O.tells output.old) (O.tells output.new) result }

@@ -21,7 +21,7 @@ use crate::words::{Command, command_of};
 use maple_base::{PolicyFault, Words};
 use maple_io::{Sink, Source};
 use policy_lang::Policy;
-use policy_text::{ReadError, is_basic, read_policy};
+use policy_text::{ReadError, is_basic, one_policy, read_policy};
 use report_text::PolicyRefusal;
 use std::alloc::Global;
 
@@ -121,6 +121,8 @@ fn run_text<O: Sink>(alloc: Global, command: Command, text: &[u8], output: &mut 
         Ok(policy) => match command {
             Command::Check => put_policy(alloc, &policy, output),
             Command::Sim(budget) => {
+                // No other policy of the text is basic where this one isn't.
+                one_policy();
                 let first = line_count(text) as u32 + 2;
                 sim(alloc, &policy, budget, first, script, output)
             }

@@ -5,6 +5,7 @@ ghost use Rattle.maple_base.specs.Keys.{anything, valid_key};
 ghost use Rattle.maple_base.specs.Limits.{most_items};
 ghost use Rattle.maple_base.specs.Questions.{asks_once};
 ghost use Rattle.policy_lang.specs.Plain.{is_plain};
+ghost use Rattle.policy_lang.specs.TreeOf.{tree_of};
 ghost use Rattle.policy_lang.specs.declared.Policy.{Policy as PolicyData};
 ghost use Rattle.policy_eval.specs.Answers.{IsBudget};
 ghost use Rattle.trace_tree.specs.declared.node.Trace.{Trace as TraceData};
@@ -44,7 +45,7 @@ pub struct World {
 impl World {
     /// A switch and a controller that know no trace, for any plain policy and any budget.
     pub fn new(alloc: Global) -> World
-        ensures { (policy : PolicyData) (budget : ℕ) → is_plain policy ≡ true → IsBudget budget → Knows policy budget [] result }
+        ensures { (policy : PolicyData) (budget : ℕ) → is_plain (tree_of policy.body) ≡ true → IsBudget budget → Knows policy budget [] result }
     {
         World {
             tree: Tree::new(alloc),

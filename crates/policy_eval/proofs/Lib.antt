@@ -5,3 +5,4 @@ pub mod Numbers
 pub mod Ways
 pub mod Rounds
 pub mod Runs
+pub mod Pairs

@@ -4,18 +4,13 @@ use Rattle.std.specs.declared.vec.Vec.{Vec}
 use Rattle.std.specs.Global.{Global}
 use Rattle.maple_base.specs.declared.cells.Place.{Place}
 use Rattle.maple_base.specs.declared.decision.Decision.{Decision}
-use Rattle.policy_lang.specs.declared.Statement.{Statement, fold-Statement}
 use Rattle.policy_lang.specs.declared.Expr.{Expr}
 use Rattle.policy_lang.specs.Values.{Scope}
-use Rattle.policy_lang.specs.Evaluation.{AllGiven, Ending, Spends, Decides, Goes, Running, Way, Unread, Lost, Leads, by_statement, by_block}
+use Rattle.policy_lang.specs.Evaluation.{AllGiven, Ending, Spends, Decides, Goes, Way, Unread, Lost, Leads}
 use Rattle.policy_eval.specs.declared.ending.Fault.{Fault}
 use Rattle.policy_eval.specs.declared.ending.Fault.TheVariants.{Spent, NoMemory}
 use Rattle.policy_eval.specs.declared.ending.Flow.{Flow}
 use Rattle.policy_eval.specs.declared.ending.Flow.TheVariants.{Decides as Decided, Goes as Went}
-
--- how one statement ends
-abbrev pub statement_ending : Statement → Running
-statement_ending = fold-Statement Running Running by_statement by_block
 
 -- an answer, with the names in force and the steps left, says this ending
 abbrev pub EndsAs : Result Flow Fault → Scope → ℕ → Ending → Type 0

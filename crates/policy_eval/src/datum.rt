@@ -1,7 +1,8 @@
 // What expressions give.
 ghost use Rattle.std.specs.Prelude.{◌≡◌};
 ghost use Rattle.policy_lang.specs.Values.{number_in, truth_in, place_in};
-ghost use Rattle.policy_eval.specs.Data.{datum_of, applied, Settles};
+ghost use Rattle.policy_lang.specs.Evaluation.{applied, settling};
+ghost use Rattle.policy_eval.specs.Data.{datum_of, IsSettled, IsMade};
 
 use maple_base::{Operator, Place};
 
@@ -34,14 +35,15 @@ impl Datum {
         }
     }
 
-    /// The answer where a left part that is this settles it: false settles `and`, true `or`.
-    pub fn settled_by(self, truth: bool) -> Option<Datum>
-        ensures { Settles result (truth_in (datum_of self)) truth }
+    /// The answer where a left part that is this settles an operator: false settles `and`, true
+    /// settles `or`.
+    pub fn settles(self, operator: Operator) -> Option<Datum>
+        ensures { IsSettled result (settling operator) (datum_of self) }
     {
-        if self.truth() == truth {
-            Some(Datum::Truth(truth))
-        } else {
-            None
+        match operator {
+            Operator::Or if self.truth() => Some(Datum::Truth(true)),
+            Operator::And if !self.truth() => Some(Datum::Truth(false)),
+            _ => None,
         }
     }
 
@@ -69,5 +71,15 @@ pub fn applied(operator: Operator, left: Datum, right: Datum) -> Datum
         Operator::LessEqual => Datum::Truth(left.number() <= right.number()),
         Operator::Add => Datum::Number(left.number().saturating_add(right.number())),
         Operator::Sub => Datum::Number(left.number().saturating_sub(right.number())),
+    }
+}
+
+/// What an operator makes of both parts, where the left one doesn't settle it.
+pub fn made(operator: Operator, left: Datum, right: Datum) -> Datum
+    ensures { IsMade result (settling operator) operator (datum_of left) (datum_of right) }
+{
+    match operator {
+        Operator::Or | Operator::And => right,
+        _ => applied(operator, left, right),
     }
 }

@@ -1,22 +1,23 @@
 // Plain evaluation of a policy.
 ghost use Rattle.std.specs.Prelude.{◌≡◌, ◌≤◌, ◌<◌, length, IfOk, IsTrue, OnOk};
 ghost use Rattle.maple_base.specs.Keys.{valid_key};
-ghost use Rattle.policy_lang.specs.Evaluation.{value_of, place_at, numbers_of, out_ending, way_to, route_ending, head_of, block_ending, eval_of};
-ghost use Rattle.policy_eval.specs.Data.{applied};
-ghost use Rattle.policy_eval.specs.Parts.{of_two, up_of, both_of, either_of, branch_ending, repeat_ending};
+ghost use Rattle.policy_lang.specs.Evaluation.{value_of, atom_given, called, act_ending, numbers_of, out_ending, way_to, route_ending, head_of, block_ending, eval_of};
+ghost use Rattle.policy_lang.specs.Forms.{atom_of, callee_of};
+ghost use Rattle.policy_lang.specs.TreeOf.{term_of, terms_of, ask_of, act_of, tree_of};
+ghost use Rattle.policy_eval.specs.Data.{datum_of};
+ghost use Rattle.policy_eval.specs.Parts.{call_of, pair_of, branch_ending, repeat_ending};
 ghost use Rattle.policy_eval.specs.Answers.{IsBudget, given_of};
 ghost use Rattle.policy_eval.specs.Arrivals.{arrival_of};
 ghost use Rattle.policy_eval.specs.HeadAnswers.{IsHead};
-ghost use Rattle.policy_eval.specs.Endings.{EndsAs, OnGoes, DecidesAs, AreNumbers, IsWay, statement_ending};
+ghost use Rattle.policy_eval.specs.Endings.{EndsAs, OnGoes, DecidesAs, AreNumbers, IsWay};
 
 use crate::heads::{bind, flag_in, number_in_table, place_of_host, port_of_hop};
 use crate::sides::{Side, chosen_side};
-use crate::{Datum, Fault, Flow, Scope, Spent, Steps, applied, sent_out};
-use maple_base::Operator::{Add, Equal, Less, LessEqual, NotEqual, Sub};
+use crate::{Datum, Fault, Flow, Scope, Spent, Steps, made, sent_out};
 use maple_base::{
     Cell, Decision, EnvNow, Key, NoMemory, Operator, Outcome, Path, Place, Value, is_port,
 };
-use policy_lang::{Block, Expr, Head, Policy, Statement};
+use policy_lang::{Atom, Block, Callee, Expr, Form, Head, Policy, Statement};
 use std::alloc::Global;
 
 // The most next hops of a way.
@@ -34,38 +35,71 @@ impl<'a, E: EnvNow> Evaluator<'a, E> {
     // What an expression gives.
     #[cycle(expressions)]
     fn value(&self, expr: &Expr, scope: &Scope, steps: &mut Steps) -> Result<Datum, Spent>
-        ensures given { given_of result steps.new ≡ value_of expr.now (arrival_of E.has self.now) scope.now steps.old }
+        ensures given { given_of result steps.new ≡ value_of (term_of expr.now) (arrival_of E.has self.now) scope.now steps.old }
         ensures fewer { OnOk result (steps.new < steps.old) }
     {
         steps.count()?;
-        match expr {
-            Expr::Number(number) => Ok(Datum::Number(*number)),
-            Expr::Var(name) => Ok(scope.named(name)),
-            Expr::SwitchOf(name) => Ok(Datum::Number(scope.named(name).place().switch)),
-            Expr::PortOf(name) => Ok(Datum::Number(scope.named(name).place().port)),
-            Expr::PacketSwitch => Ok(Datum::Number(self.switch)),
-            Expr::Packet(field) => Ok(Datum::Number(self.key.get(*field))),
-            Expr::Up(switch, port) => self.is_up(switch, port, scope, steps),
-            Expr::At(switch, port) => self.place_at(switch, port, scope, steps),
-            Expr::Is(field, right) => {
+        match expr.form() {
+            Form::Single(atom) => Ok(self.atom(atom, scope)),
+            Form::Call(callee, left, right) => self.call(callee, left, right, scope, steps),
+            Form::Is(field, right) => {
                 let datum = self.value(right, scope, steps)?;
-                Ok(Datum::Truth(self.key.get(*field) == datum.number()))
+                Ok(Datum::Truth(self.key.get(field) == datum.number()))
             }
-            Expr::Not(right) => Ok(Datum::Truth(!self.value(right, scope, steps)?.truth())),
-            Expr::And(left, right) => self.both(left, right, scope, steps),
-            Expr::Or(left, right) => self.either(left, right, scope, steps),
-            Expr::Add(left, right) => self.operation(Add, left, right, scope, steps),
-            Expr::Sub(left, right) => self.operation(Sub, left, right, scope, steps),
-            Expr::Equal(left, right) => self.operation(Equal, left, right, scope, steps),
-            Expr::NotEqual(left, right) => self.operation(NotEqual, left, right, scope, steps),
-            Expr::Less(left, right) => self.operation(Less, left, right, scope, steps),
-            Expr::LessEqual(left, right) => self.operation(LessEqual, left, right, scope, steps),
+            Form::Not(right) => Ok(Datum::Truth(!self.value(right, scope, steps)?.truth())),
+            Form::Pair(operator, left, right) => self.pair(operator, left, right, scope, steps),
         }
     }
 
-    // What an operator makes of two expressions.
+    // What an expression without parts gives.
+    fn atom(&self, atom: Atom<'_>, scope: &Scope) -> Datum
+        ensures { datum_of result ≡ atom_given (atom_of atom.entry) (arrival_of E.has self.now) scope.now }
+    {
+        match atom {
+            Atom::Number(number) => Datum::Number(number),
+            Atom::Var(name) => scope.named(name),
+            Atom::SwitchOf(name) => Datum::Number(scope.named(name).place().switch),
+            Atom::PortOf(name) => Datum::Number(scope.named(name).place().port),
+            Atom::PacketSwitch => Datum::Number(self.switch),
+            Atom::Packet(field) => Datum::Number(self.key.get(field)),
+        }
+    }
+
+    // What a call gives of two data.
+    fn called(&self, callee: Callee, left: Datum, right: Datum) -> Datum
+        ensures { datum_of result ≡ called (callee_of callee) (arrival_of E.has self.now).env (datum_of left) (datum_of right) }
+    {
+        let switch = left.number();
+        let port = right.number();
+        match callee {
+            Callee::Up => Datum::Truth(flag_in(self.env.cell(Cell::Up { switch, port }))),
+            Callee::At => Datum::At(Place { switch, port }),
+        }
+    }
+
+    // What a call gives.
     #[cycle(expressions)]
-    fn operation(
+    fn call(
+        &self,
+        callee: Callee,
+        left: &Expr,
+        right: &Expr,
+        scope: &Scope,
+        steps: &mut Steps,
+    ) -> Result<Datum, Spent>
+        ensures given { given_of result steps.new ≡ call_of (callee_of callee) left.now right.now (arrival_of E.has self.now) scope.now steps.old }
+        ensures fewer { OnOk result (steps.new < steps.old) }
+    {
+        let left = self.value(left, scope, steps)?;
+        let right = self.value(right, scope, steps)?;
+        Ok(self.called(callee, left, right))
+    }
+
+    // What an operator makes of two expressions; the right one is evaluated only where the left one
+    // doesn't settle the operator.
+    #[cycle(expressions)]
+    #[tactic(auto, using(crate::proofs::Pairs::pair_goes))]
+    fn pair(
         &self,
         operator: Operator,
         left: &Expr,
@@ -73,87 +107,20 @@ impl<'a, E: EnvNow> Evaluator<'a, E> {
         scope: &Scope,
         steps: &mut Steps,
     ) -> Result<Datum, Spent>
-        ensures given { given_of result steps.new ≡ of_two (applied operator) left.now right.now (arrival_of E.has self.now) scope.now steps.old }
+        ensures given { given_of result steps.new ≡ pair_of operator left.now right.now (arrival_of E.has self.now) scope.now steps.old }
         ensures fewer { OnOk result (steps.new < steps.old) }
     {
         let left = self.value(left, scope, steps)?;
+        if let Some(datum) = left.settles(operator) {
+            return Ok(datum);
+        }
         let right = self.value(right, scope, steps)?;
-        Ok(applied(operator, left, right))
-    }
-
-    // The place of a switch and a port.
-    #[cycle(expressions)]
-    fn place_at(
-        &self,
-        switch: &Expr,
-        port: &Expr,
-        scope: &Scope,
-        steps: &mut Steps,
-    ) -> Result<Datum, Spent>
-        ensures given { given_of result steps.new ≡ of_two place_at switch.now port.now (arrival_of E.has self.now) scope.now steps.old }
-        ensures fewer { OnOk result (steps.new < steps.old) }
-    {
-        let switch = self.value(switch, scope, steps)?.number();
-        let port = self.value(port, scope, steps)?.number();
-        Ok(Datum::At(Place { switch, port }))
-    }
-
-    // Whether a port of a switch is up.
-    #[cycle(expressions)]
-    fn is_up(
-        &self,
-        switch: &Expr,
-        port: &Expr,
-        scope: &Scope,
-        steps: &mut Steps,
-    ) -> Result<Datum, Spent>
-        ensures given { given_of result steps.new ≡ up_of switch.now port.now (arrival_of E.has self.now) scope.now steps.old }
-        ensures fewer { OnOk result (steps.new < steps.old) }
-    {
-        let switch = self.value(switch, scope, steps)?.number();
-        let port = self.value(port, scope, steps)?.number();
-        Ok(Datum::Truth(flag_in(self.env.cell(Cell::Up { switch, port }))))
-    }
-
-    // Whether both hold; the second is evaluated only where the first holds.
-    #[cycle(expressions)]
-    fn both(
-        &self,
-        left: &Expr,
-        right: &Expr,
-        scope: &Scope,
-        steps: &mut Steps,
-    ) -> Result<Datum, Spent>
-        ensures given { given_of result steps.new ≡ both_of left.now right.now (arrival_of E.has self.now) scope.now steps.old }
-        ensures fewer { OnOk result (steps.new < steps.old) }
-    {
-        match self.value(left, scope, steps)?.settled_by(false) {
-            Some(datum) => Ok(datum),
-            None => self.value(right, scope, steps),
-        }
-    }
-
-    // Whether one holds; the second is evaluated only where the first does not hold.
-    #[cycle(expressions)]
-    fn either(
-        &self,
-        left: &Expr,
-        right: &Expr,
-        scope: &Scope,
-        steps: &mut Steps,
-    ) -> Result<Datum, Spent>
-        ensures given { given_of result steps.new ≡ either_of left.now right.now (arrival_of E.has self.now) scope.now steps.old }
-        ensures fewer { OnOk result (steps.new < steps.old) }
-    {
-        match self.value(left, scope, steps)?.settled_by(true) {
-            Some(datum) => Ok(datum),
-            None => self.value(right, scope, steps),
-        }
+        Ok(made(operator, left, right))
     }
 
     // The numbers of expressions, from left to right.
     fn numbers(&self, exprs: &[Expr], scope: &Scope, steps: &mut Steps) -> Result<Vec<u64>, Fault>
-        ensures { AreNumbers exprs.now result steps.new (numbers_of exprs.now (arrival_of E.has self.now) scope.now steps.old) }
+        ensures { AreNumbers exprs.now result steps.new (numbers_of (terms_of exprs.now) (arrival_of E.has self.now) scope.now steps.old) }
     {
         let mut numbers = Vec::new(self.alloc);
         for expr in exprs {
@@ -166,7 +133,7 @@ impl<'a, E: EnvNow> Evaluator<'a, E> {
     // What an `out` decides.
     fn out(&self, exprs: &[Expr], scope: &Scope, steps: &mut Steps) -> Result<Decision, Fault>
         requires { length exprs.now ≤ 16 }
-        ensures { DecidesAs result (out_ending (numbers_of exprs.now (arrival_of E.has self.now) scope.now steps.old)) }
+        ensures { DecidesAs result (out_ending (numbers_of (terms_of exprs.now) (arrival_of E.has self.now) scope.now steps.old)) }
     {
         let numbers = self.numbers(exprs, scope, steps)?;
         Ok(sent_out(self.alloc, &numbers)?)
@@ -205,7 +172,7 @@ impl<'a, E: EnvNow> Evaluator<'a, E> {
 
     // What a `route` decides.
     fn route(&self, expr: &Expr, scope: &Scope, steps: &mut Steps) -> Result<Decision, Fault>
-        ensures { DecidesAs result (route_ending (arrival_of E.has self.now) (value_of expr.now (arrival_of E.has self.now) scope.now steps.old)) }
+        ensures { DecidesAs result (route_ending (arrival_of E.has self.now) (value_of (term_of expr.now) (arrival_of E.has self.now) scope.now steps.old)) }
     {
         let to = self.value(expr, scope, steps)?.place();
         match self.way(to, steps)? {
@@ -216,7 +183,7 @@ impl<'a, E: EnvNow> Evaluator<'a, E> {
 
     // Whether a head holds; a name that it binds is then in force.
     fn head(&self, head: &Head, scope: &mut Scope, steps: &mut Steps) -> Result<bool, Fault>
-        ensures head { IsHead result scope.old scope.new steps.new (head_of head.now (arrival_of E.has self.now) scope.old steps.old) }
+        ensures head { IsHead result scope.old scope.new steps.new (head_of (ask_of head.now) (arrival_of E.has self.now) scope.old steps.old) }
         ensures fewer { OnOk result (steps.new < steps.old) }
     {
         match head {
@@ -252,7 +219,7 @@ impl<'a, E: EnvNow> Evaluator<'a, E> {
         scope: &mut Scope,
         steps: &mut Steps,
     ) -> Result<Flow, Fault>
-        ensures ending { EndsAs result scope.new steps.new (statement_ending statement.now (arrival_of E.has self.now) scope.old steps.old) }
+        ensures ending { EndsAs result scope.new steps.new (act_ending (act_of statement.now) (arrival_of E.has self.now) scope.old steps.old) }
         ensures fewer { OnGoes result (steps.new < steps.old) }
     {
         steps.count()?;
@@ -326,7 +293,7 @@ impl<'a, E: EnvNow> Evaluator<'a, E> {
     // are in force up to their end.
     #[cycle(statements)]
     fn block(&self, block: &Block, scope: &mut Scope, steps: &mut Steps) -> Result<Flow, Fault>
-        ensures ending { EndsAs result scope.new steps.new (block_ending block.now (arrival_of E.has self.now) scope.old steps.old) }
+        ensures ending { EndsAs result scope.new steps.new (block_ending (tree_of block.now) (arrival_of E.has self.now) scope.old steps.old) }
         ensures fewer { OnGoes result (steps.new ≤ steps.old) }
     {
         let outer = scope.len();
@@ -352,7 +319,7 @@ pub fn eval<E: EnvNow>(
 ) -> Result<Outcome, NoMemory>
     requires key { IsTrue (valid_key key.now) }
     requires budget { IsBudget budget }
-    ensures { IfOk result (λ outcome. outcome ≡ eval_of policy.now budget (E.has env.now) switch key.now) }
+    ensures { IfOk result (λ outcome. outcome ≡ eval_of (tree_of policy.now.body) budget (E.has env.now) switch key.now) }
 {
     let evaluator = Evaluator {
         alloc,

@@ -10,7 +10,7 @@ pub mod scope;
 pub mod sides;
 pub mod steps;
 
-pub use datum::{Datum, applied};
+pub use datum::{Datum, applied, made};
 pub use ending::{Fault, Flow};
 pub use evaluation::eval;
 pub use ports::sent_out;

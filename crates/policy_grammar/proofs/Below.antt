@@ -1,9 +1,8 @@
 -- What lies on a stack below some things, and what ends ahead of a token.
-use Rattle.std.proofs.Common.{◌≡◌, ℕ, ◌+◌, ◌-◌, ◌<◌, cond, Bool, true, false, List, [], ◌∷◌, ◌++◌, Some, None, zero, suc, length, drop, get_or, reverse, refl, sym, ap, subst, ◌∙◌, append_assoc, arith}
-use Rattle.std.specs.Prelude.{nat_lt}
-use Rattle.std.proofs.Math.Seq.{drop-nil}
+use Rattle.std.proofs.Common.{◌≡◌, ℕ, ◌+◌, ◌-◌, ◌<◌, cond, List, [], ◌∷◌, ◌++◌, Some, length, drop, get_or, reverse, refl, sym, ap, subst, ◌∙◌, append_assoc, arith}
 use Rattle.std.proofs.lemmas.Bool.{lt-ltb}
-use Rattle.std.proofs.lemmas.List.{get_or-reverse, length-reverse}
+use Rattle.std.proofs.lemmas.List.{get_or-reverse, length-reverse, drop_more, drop-drop}
+use Rattle.std.proofs.lemmas.Bool.Decides.{nat_tests}
 use Rattle.policy_grammar.specs.declared.event.Event.{Event}
 use Rattle.policy_grammar.specs.declared.stage.Around.{Around}
 use Rattle.policy_grammar.specs.declared.stage.Shape.{Shape}
@@ -11,35 +10,25 @@ use Rattle.policy_grammar.specs.Automaton.{least, made, settle}
 use Rattle.policy_grammar.specs.Events.{ended, endings}
 use Rattle.policy_grammar.specs.Stacks.{top_of}
 
-top_drop : {A : Type 0} (xs : List A) (d : ℕ) (x : A) → d < length xs → top_of (drop d xs) ≡ Some (get_or xs d x)
-top_drop [] d x h = absurd (omega (arith, h))
-top_drop (y ∷ ys) zero x h = refl
-top_drop (y ∷ ys) (suc d) x h = top_drop ys d x (omega (arith, h))
-
 pub top_below : {A : Type 0} (xs ys : List A) (n d : ℕ) (x : A) → reverse xs ≡ ys → n ≡ length xs → d < n → x ≡ get_or xs (n - 1 - d) x → Some x ≡ top_of (drop d ys)
 top_below xs ys n d x r l h e =
     let lt : d < length xs = omega (arith, l, h) in
     let at_end : x ≡ get_or xs (length xs - 1 - d) x = subst (λ m. x ≡ get_or xs (m - 1 - d) x) l e in
-    ap (λ y. Some y) (at_end ∙ sym (get_or-reverse xs d x lt)) ∙ sym (top_drop (reverse xs) d x (omega (arith, lt, length-reverse xs))) ∙ ap (λ zs. top_of (drop d zs)) r
+    ap (λ y. Some y) (at_end ∙ sym (get_or-reverse xs d x lt)) ∙ sym (ap top_of (drop_more (reverse xs) d x (omega (arith, lt, length-reverse xs)))) ∙ ap (λ zs. top_of (drop d zs)) r
 
-drop_top : {A : Type 0} (xs : List A) (d : ℕ) (a : A) → top_of (drop d xs) ≡ Some a → drop d xs ≡ a ∷ drop (suc d) xs
-drop_top [] d a h = let none : None ≡ Some a = ap top_of (sym (drop-nil d)) ∙ h in absurd (cc)
-drop_top (y ∷ ys) zero a h = cc
-drop_top (y ∷ ys) (suc d) a h = drop_top ys d a h
+with_top : {A : Type 0} (xs : List A) (a : A) → top_of xs ≡ Some a → xs ≡ a ∷ drop 1 xs
+with_top [] a h = absurd (cc)
+with_top (x ∷ xs) a h = cc
 
 drop_next : {A : Type 0} (xs : List A) (d : ℕ) (a : A) → top_of (drop d xs) ≡ Some a → drop d xs ≡ a ∷ drop (d + 1) xs
-drop_next xs d a h = drop_top xs d a h ∙ ap (λ n. a ∷ drop n xs) (let e : suc d ≡ d + 1 = omega arith in e)
+drop_next xs d a h = with_top (drop d xs) a h ∙ ap (λ ys. a ∷ ys) (drop-drop 1 d xs)
 
 -- ---- what ends ahead of a token
 
 -- where a part ends, it is the same whatever its shape is
 stays_around : (n : ℕ) (as_ : List Around) (s r : Shape) → (settle n as_ s).around ≡ (settle n as_ r).around
 stays_around n [] s r = refl
-stays_around n (a ∷ as_) s r = go (nat_lt n (least a))
-  where
-    go : (v : Bool) → (cond v (settle n as_ (made a)) (record { around = a ∷ as_; shape = s })).around ≡ (cond v (settle n as_ (made a)) (record { around = a ∷ as_; shape = r })).around
-    go true = refl
-    go false = refl
+stays_around n (a ∷ as_) s r = grind (arith, nat_tests)
 
 -- so many of what stands around have ended, and were added to what there was
 pub record Ending (n : ℕ) (xs : List Around) (d : ℕ) (start es : List Event) : Type 0 where

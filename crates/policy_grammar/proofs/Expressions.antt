@@ -8,7 +8,6 @@ use Rattle.policy_tokens.specs.declared.token.Token.TheVariants.{Keyword as keyw
 use Rattle.policy_tokens.specs.declared.token.Keyword.TheVariants as word
 use Rattle.policy_tokens.specs.declared.token.Sign.TheVariants as mark
 use Rattle.maple_base.specs.declared.operator.Operator.{Operator}
-use Rattle.maple_base.specs.declared.operator.Operator.TheVariants.{Or, And, Equal, NotEqual, Less, LessEqual, Add, Sub}
 use Rattle.policy_grammar.specs.declared.stage.Around.{Around}
 use Rattle.policy_grammar.specs.declared.stage.Around.TheVariants.{Left, Not, Is, Group, First, Second}
 use Rattle.policy_grammar.specs.declared.stage.Base.{Base}
@@ -18,10 +17,11 @@ use Rattle.policy_grammar.specs.declared.stage.Shape.TheVariants as shape
 use Rattle.policy_grammar.specs.declared.stage.Block.{Block}
 use Rattle.policy_grammar.specs.declared.stage.Block.TheVariants as block
 use Rattle.policy_grammar.specs.declared.stage.Stage.TheVariants as at
-use Rattle.maple_base.specs.Operators.{level_of, left_level}
-use Rattle.policy_grammar.specs.Grammar.{Phrase, Single, Call, Group as grouped, Up, At, operator_token, phrase_tokens, IsPhrase, more_tokens, Host, Hop, Lookup, Holds, Out, Route, Let, Assign}
-use Rattle.policy_grammar.specs.Automaton.{State, is_keyword, least_in, shape_level, pull, Settled, to, ahead, behind, behind_operator, behind_is, behind_bracket, behind_parenthesis, behind_comma, behind_semicolon, behind_brace, behind_index}
+use Rattle.maple_base.specs.Operators.{left_level}
+use Rattle.policy_grammar.specs.Grammar.{Phrase, Single, Call, Group as grouped, Up, At, operator_token, phrase_tokens, IsPhrase, more_tokens, Question, question_tokens, IsQuestion, Host, Hop, Lookup, Holds, Out, Route, Let, Assign}
+use Rattle.policy_grammar.specs.Automaton.{State, is_keyword, least_in, shape_level, pull, Settled, ahead, behind, behind_operator, behind_is, behind_bracket, behind_parenthesis, behind_comma, behind_semicolon, behind_brace, behind_index}
 use Rattle.policy_grammar.proofs.Told.{row, value_single}
+use Rattle.policy_grammar.proofs.Settles.{pull_operator, levels}
 use Rattle.policy_grammar.proofs.Written.{PhraseOf, AroundOf, around_tokens, ShapedOf, BaseOf, base_tokens, ahead_tokens, StatementsOf, AskingOf, OpenOf, inner_tokens, Leads}
 use Rattle.policy_grammar.proofs.Moves.{on_keyword, on_sign, on_name, on_field, on_operator, nowhere, goes, acts, opens}
 use Rattle.policy_grammar.proofs.Settling.{IsPhrase-lesser, SettledOf}
@@ -29,20 +29,7 @@ use Rattle.policy_grammar.proofs.Settling.{IsPhrase-lesser, SettledOf}
 -- ---- ahead of an expression
 
 least_small : (as_ : List Around) → least_in as_ ≤ 5
-least_small [] = omega arith
-least_small (Left Or ∷ as_) = omega arith
-least_small (Left And ∷ as_) = omega arith
-least_small (Left Equal ∷ as_) = omega arith
-least_small (Left NotEqual ∷ as_) = omega arith
-least_small (Left Less ∷ as_) = omega arith
-least_small (Left LessEqual ∷ as_) = omega arith
-least_small (Left Add ∷ as_) = omega arith
-least_small (Left Sub ∷ as_) = omega arith
-least_small (Not ∷ as_) = omega arith
-least_small (Is ∷ as_) = omega arith
-least_small (Group ∷ as_) = omega arith
-least_small (First ∷ as_) = omega arith
-least_small (Second ∷ as_) = omega arith
+least_small as_ = grind (arith, levels)
 
 pub ahead_leads : (bs : List Block) (o : OpenOf bs) (ss : StatementsOf) (b : Base) (x : BaseOf b) (as_ : List Around) (w : AroundOf as_) (t : Token)
     → Leads (inner_tokens bs o ss (base_tokens b x ++ around_tokens as_ w)) t (ahead b as_ bs t)
@@ -88,10 +75,11 @@ by_bracket bs o ss base.If x [] w shape.Name a =
     goes bs o ss (behind_tokens base.If x [] w a.phrase) (sign mark.OpenBracket) (at.Ahead base.Lookup) [] (n, tt) (rw is)
 by_bracket bs o ss b x as_ w s a = nowhere
 
--- behind `host(a)` and its kin
-asked : (bs : List Block) (o : OpenOf bs) (ss : StatementsOf) (ts : List Token) (t : Token) (q : AskingOf) → keyword word.If ∷ q.front ≡ ts ++ t ∷ []
-    → Leads (inner_tokens bs o ss ts) t (to at.Asked bs)
-asked bs o ss ts t q e = goes bs o ss ts t at.Asked [] q e
+-- what an `if` asks, as `host(a)`
+abbrev asking : (t u v : Token) (a : Phrase) (q : List ℕ → Question) → ((x : List ℕ) → IsQuestion (q x)) → ((x : List ℕ) → question_tokens (q x) ≡ t ∷ u ∷ (phrase_tokens a ++ v ∷ keyword word.As ∷ name x ∷ []))
+    → AskingOf
+asking t u v a q right same =
+    record { front = t ∷ u ∷ (phrase_tokens a ++ v ∷ []); question = q; right = right; same = λ x. same x ∙ ap (λ ts. t ∷ u ∷ ts) (sym (append_assoc (phrase_tokens a) (v ∷ []) (keyword word.As ∷ name x ∷ []))) }
 
 by_parenthesis : LeadsOn (sign mark.CloseParenthesis) (λ b as_ s bs. behind_parenthesis b as_ bs)
 by_parenthesis bs o ss b x (Group ∷ as_) w s a =
@@ -101,35 +89,17 @@ by_parenthesis bs o ss b x (Second ∷ as_) w s a =
     goes bs o ss (behind_tokens b x (Second ∷ as_) w a.phrase) (sign mark.CloseParenthesis) (at.Behind b shape.Whole) as_
     (x, w.0, record { phrase = Call w.1 w.2.phrase a.phrase; right = (w.2.right, (whole a).right); alone = tt; room = least_small as_ }) (simp append_assoc)
 by_parenthesis bs o ss base.Host x [] w s a =
-    asked bs o ss (behind_tokens base.Host x [] w a.phrase) (sign mark.CloseParenthesis)
-    (record {
-      front = keyword word.Host ∷ sign mark.OpenParenthesis ∷ (phrase_tokens a.phrase ++ sign mark.CloseParenthesis ∷ []);
-      question = Host a.phrase;
-      right = λ n. (whole a).right;
-      same = λ n. simp append_assoc;
-    })
-    refl
+    goes bs o ss (behind_tokens base.Host x [] w a.phrase) (sign mark.CloseParenthesis) at.Asked []
+    (asking (keyword word.Host) (sign mark.OpenParenthesis) (sign mark.CloseParenthesis) a.phrase (Host a.phrase) (λ n. (whole a).right) (λ n. refl)) refl
 by_parenthesis bs o ss base.Hop x [] w s a =
-    asked bs o ss (behind_tokens base.Hop x [] w a.phrase) (sign mark.CloseParenthesis)
-    (record {
-      front = keyword word.Hop ∷ sign mark.OpenParenthesis ∷ (phrase_tokens a.phrase ++ sign mark.CloseParenthesis ∷ []);
-      question = Hop a.phrase;
-      right = λ n. (whole a).right;
-      same = λ n. simp append_assoc;
-    })
-    refl
+    goes bs o ss (behind_tokens base.Hop x [] w a.phrase) (sign mark.CloseParenthesis) at.Asked []
+    (asking (keyword word.Hop) (sign mark.OpenParenthesis) (sign mark.CloseParenthesis) a.phrase (Hop a.phrase) (λ n. (whole a).right) (λ n. refl)) refl
 by_parenthesis bs o ss b x as_ w s a = nowhere
 
 by_index : LeadsOn (sign mark.CloseBracket) (λ b as_ s bs. behind_index b as_ bs)
 by_index bs o ss base.Lookup x [] w s a =
-    asked bs o ss (behind_tokens base.Lookup x [] w a.phrase) (sign mark.CloseBracket)
-    (record {
-      front = name x ∷ sign mark.OpenBracket ∷ (phrase_tokens a.phrase ++ sign mark.CloseBracket ∷ []);
-      question = Lookup x a.phrase;
-      right = λ n. (whole a).right;
-      same = λ n. simp append_assoc;
-    })
-    refl
+    goes bs o ss (behind_tokens base.Lookup x [] w a.phrase) (sign mark.CloseBracket) at.Asked []
+    (asking (name x) (sign mark.OpenBracket) (sign mark.CloseBracket) a.phrase (Lookup x a.phrase) (λ n. (whole a).right) (λ n. refl)) refl
 by_index bs o ss b x as_ w s a = nowhere
 
 ahead_more : (as_ : List Phrase) (a : Phrase) → ahead_tokens (as_ ++ a ∷ []) ≡ ahead_tokens as_ ++ (phrase_tokens a ++ sign mark.Comma ∷ [])
@@ -192,16 +162,6 @@ by_brace bs o ss base.If x [] w s a =
 by_brace bs o ss base.While x [] w s a =
     opens bs o ss (behind_tokens base.While x [] w a.phrase) (sign mark.OpenBrace) block.Loop (o, ss, whole a) refl
 by_brace bs o ss b x as_ w s a = nowhere
-
-pull_operator : (o : Operator) → pull (operator_token o) ≡ level_of o
-pull_operator Or = refl
-pull_operator And = refl
-pull_operator Equal = refl
-pull_operator NotEqual = refl
-pull_operator Less = refl
-pull_operator LessEqual = refl
-pull_operator Add = refl
-pull_operator Sub = refl
 
 by_operator : (bs : List Block) (o : OpenOf bs) (ss : StatementsOf) (b : Base) (x : BaseOf b) (as_ : List Around) (w : AroundOf as_) (s : Shape) (a : ShapedOf s (least_in as_)) (t : Token) (k : Operator)
     → least_in as_ ≤ pull t → t ≡ operator_token k → Leads (inner_tokens bs o ss (behind_tokens b x as_ w a.phrase)) t (behind_operator b as_ s bs k)

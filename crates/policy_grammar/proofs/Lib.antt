@@ -11,12 +11,6 @@ pub mod Expressions
 pub mod Stages
 pub mod Sound
 pub mod Finishing
-pub mod Writer
-pub mod WrittenPhrases
-pub mod OneFile
-pub mod PhraseEvents
-pub mod StatementEvents
-pub mod Traces
 pub mod Readable
 pub mod Below
 pub mod Progress

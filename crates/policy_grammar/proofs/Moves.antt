@@ -12,8 +12,8 @@ use Rattle.policy_grammar.specs.declared.stage.Block.{Block}
 use Rattle.policy_grammar.specs.declared.stage.Stage.{Stage}
 use Rattle.policy_grammar.specs.declared.stage.Stage.TheVariants as at
 use Rattle.policy_grammar.specs.Grammar.{operator_token, Action, action_tokens, IsAction, Statements, Nothing, Plain, If, IfElse, While, statements_tokens, AreStatements}
-use Rattle.policy_grammar.specs.Automaton.{State, is_keyword, is_sign, is_name, is_field, operator_in, to, within}
-use Rattle.policy_grammar.proofs.Told.{keyword_is, sign_is, name_is, field_is, operator_is}
+use Rattle.policy_grammar.specs.Automaton.{State, is_keyword, is_sign, is_name, is_field, operator_in, only, to, within}
+use Rattle.policy_grammar.proofs.Told.{row, keyword_is, sign_is, name_is, field_is, operator_is}
 use Rattle.policy_grammar.proofs.Written.{StatementsOf, OpenOf, open_tokens, StageOf, stage_tokens, inner_tokens, Inner, Leads}
 
 -- ---- rows of tables
@@ -39,6 +39,16 @@ on_operator {ts} t f l = go (operator_in t) refl
 
 pub nowhere : {ts : List Token} {t : Token} → Leads ts t None
 nowhere = record { led = tt }
+
+-- where one token alone may stand
+pub only_keyword : {ts : List Token} {t : Token} {x : Option State} (k : Keyword) → Leads ts (keyword k) x → Leads ts t (only (is_keyword k t) x)
+only_keyword {ts} {t} k l = row (λ next. Leads ts t next) (on_keyword k l) nowhere
+
+pub only_sign : {ts : List Token} {t : Token} {x : Option State} (s : Sign) → Leads ts (sign s) x → Leads ts t (only (is_sign s t) x)
+only_sign {ts} {t} s l = row (λ next. Leads ts t next) (on_sign s l) nowhere
+
+pub only_name : {ts : List Token} {t : Token} {x : Option State} → ((n : List ℕ) → Leads ts (name n) x) → Leads ts t (only (is_name t) x)
+only_name {ts} {t} l = row (λ next. Leads ts t next) (on_name l) nowhere
 
 -- ---- statements one behind the other
 

@@ -1,16 +1,15 @@
 -- Reading tokens one after the other, and what each adds.
-use Rattle.std.proofs.Common.{◌≡◌, ◌≢◌, ℕ, ◌+◌, ◌<◌, ◌≤◌, true, List, [], ◌∷◌, ◌++◌, length, take, get_or, Option, Some, None, refl, sym, ap, subst, ◌∙◌, append_assoc, append-nil, arith}
-use Rattle.std.proofs.lemmas.List.{take_more, take_all, get_or-map, length-map}
+use Rattle.std.proofs.Common.{◌≡◌, ◌≢◌, ℕ, ◌+◌, ◌<◌, ◌≤◌, List, [], ◌∷◌, ◌++◌, length, take, get_or, Option, Some, None, sym, ap, ◌∙◌, append_assoc, append-nil, arith}
+use Rattle.std.proofs.lemmas.List.{take_more, take_all}
 use Rattle.std.proofs.lemmas.Option.{slice_get_past, slice_get-get_or}
 use Rattle.std.specs.Option.{option_and_then}
 use Rattle.policy_tokens.specs.declared.token.Token.{Token}
 use Rattle.policy_tokens.specs.declared.token.Token.TheVariants.{PacketSwitch}
-use Rattle.policy_tokens.specs.declared.token.PlacedToken.{PlacedToken}
 use Rattle.policy_grammar.specs.declared.event.Event.{Event}
 use Rattle.policy_grammar.specs.declared.stage.Stage.TheVariants as at
 use Rattle.policy_grammar.specs.Automaton.{State, step, run, start}
 use Rattle.policy_grammar.specs.Events.{events, events_onto, trace}
-use Rattle.policy_grammar.specs.Reading.{plain, Reads, RunsToEnd, StopsAt}
+use Rattle.policy_grammar.specs.Reading.{RunsToEnd, StopsAt}
 use Rattle.policy_grammar.proofs.Runs.{run_append}
 
 behind_step : (ts us : List Token) (n : State) → ((s : State) → run s ts ≡ Some n → trace s (ts ++ us) ≡ trace s ts ++ trace n us) → (o : Option State)
@@ -31,8 +30,7 @@ pub record Progress (ts : List Token) (s : State) (es : List Event) : Type 0 whe
   pub events : es ≡ trace start ts
 
 adds_nothing : (o : Option State) → events_onto o (λ s. trace s []) ≡ []
-adds_nothing None = refl
-adds_nothing (Some s) = refl
+adds_nothing o = grind arith
 
 run_one : (s n : State) (t : Token) → step s t ≡ Some n → run s (t ∷ []) ≡ Some n
 run_one s n t e = ap (option_and_then (λ m. run m [])) e
@@ -48,18 +46,6 @@ goes_on ts s n es t e p =
           ∙ sym (trace_append start s ts (t ∷ []) p.run);
     }
 
--- the next token with its place
-next_token : (ps : List PlacedToken) (i : ℕ) (p : PlacedToken) → i < length ps → p ≡ get_or ps i p → take (i + 1) (plain ps) ≡ take i (plain ps) ++ p.token ∷ []
-next_token ps i p h e =
-    take_more (plain ps) i p.token (omega (arith, h, length-map ps (λ q. q.token)))
-    ∙ ap (λ t. take i (plain ps) ++ t ∷ []) (get_or-map (λ q. q.token) ps i p p.token h ∙ ap (λ q. q.token) (sym e))
-
-pub reads_on : (ps : List PlacedToken) (i : ℕ) (p : PlacedToken) (s n : State) (es us : List Event) → i < length ps → p ≡ get_or ps i p → Reads true s n es us p.token
-    → Progress (take i (plain ps)) s es → Progress (take (i + 1) (plain ps)) n us
-reads_on ps i p s n es us h e r q =
-    subst (λ ts. Progress ts n us) (sym (next_token ps i p h e)) (subst (Progress (take i (plain ps) ++ p.token ∷ []) n) (sym r.1) (goes_on (take i (plain ps)) s n es p.token r.0 q))
-
--- all was read
 all_read : (ts : List Token) (i : ℕ) (s : State) (es : List Event) → length ts ≤ i → Progress (take i ts) s es → run start ts ≡ Some s
 all_read ts i s es h p = ap (run start) (sym (take_all i ts h)) ∙ p.run
 

@@ -4,20 +4,18 @@ use Rattle.std.specs.Prelude.{nat_lt}
 use Rattle.std.proofs.lemmas.Bool.{cond_both, ltb-true, ltb-false}
 use Rattle.policy_tokens.specs.declared.token.Token.{Token}
 use Rattle.policy_grammar.specs.declared.stage.Around.{Around}
-use Rattle.policy_grammar.specs.declared.stage.Around.TheVariants.{Left, Not, Is, Group, First, Second}
+use Rattle.policy_grammar.specs.declared.stage.Around.TheVariants.{Left, Not, Is}
 use Rattle.policy_grammar.specs.declared.stage.Shape.{Shape}
-use Rattle.policy_grammar.specs.Grammar.{Phrase, Single, Call, Group as grouped, Negation, Test, Pair, phrase_tokens, IsPhrase}
+use Rattle.policy_grammar.specs.Grammar.{Phrase, Negation, Test, Pair, phrase_tokens, IsPhrase}
 use Rattle.policy_grammar.specs.Automaton.{least, least_in, shape_level, made, Settled, settle}
 use Rattle.policy_grammar.proofs.Written.{AroundOf, around_tokens, ShapedOf}
 
 -- an expression of a level is one of each lesser level
 pub IsPhrase-lesser : (j k : ℕ) (a : Phrase) → k ≤ j → IsPhrase j a → IsPhrase k a
-IsPhrase-lesser j k (Single t) le h = h
-IsPhrase-lesser j k (Call c a b) le h = h
-IsPhrase-lesser j k (grouped a) le h = h
 IsPhrase-lesser j k (Negation a) le h = (omega (arith, h.0), h.1)
 IsPhrase-lesser j k (Test f a) le h = (omega (arith, h.0), h.1)
 IsPhrase-lesser j k (Pair o a b) le h = (omega (arith, h.0), h.1, h.2)
+IsPhrase-lesser j k a le h = h
 
 -- of what is settled: all of its tokens, and the level of what may stand there
 pub record SettledOf (n : ℕ) (r : Settled) (ts : List Token) : Type 0 where
@@ -52,9 +50,7 @@ joined n Is as_ s w x lt =
       shaped = record { phrase = Test w.1 x.phrase; right = (omega arith, IsPhrase-lesser (shape_level s) 4 x.phrase x.room x.right); alone = tt; room = w.2 };
       same = simp append_assoc;
     }
-joined n Group as_ s w x lt = absurd (omega (arith, lt))
-joined n First as_ s w x lt = absurd (omega (arith, lt))
-joined n Second as_ s w x lt = absurd (omega (arith, lt))
+joined n a as_ s w x lt = absurd (omega (arith, lt))
 
 pub settled : (n : ℕ) (as_ : List Around) (s : Shape) (w : AroundOf as_) (x : ShapedOf s (least_in as_)) → SettledOf n (settle n as_ s) (around_tokens as_ w ++ phrase_tokens x.phrase)
 settled n [] s w x = record { around = tt; shaped = x; low = omega arith; same = refl }

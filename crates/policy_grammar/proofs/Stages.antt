@@ -16,7 +16,7 @@ use Rattle.policy_grammar.specs.Grammar.{IsPhrase, phrase_tokens, Drop, Flood, N
 use Rattle.policy_grammar.specs.Automaton.{State, pull, settle, to, statement, closed, step_at, step}
 use Rattle.policy_grammar.proofs.Told.{row}
 use Rattle.policy_grammar.proofs.Written.{StatementsOf, OpenOf, open_tokens, StageOf, stage_tokens, around_tokens, OuterOf, outer_tokens, Written, Outer, Inner, inner_tokens, tokens_of, Leads}
-use Rattle.policy_grammar.proofs.Moves.{on_keyword, on_sign, on_name, nowhere, no_statements, added, added_tokens, goes, adds, acts, opens}
+use Rattle.policy_grammar.proofs.Moves.{on_keyword, on_sign, on_name, only_keyword, only_sign, only_name, nowhere, no_statements, added, added_tokens, goes, adds, acts, opens}
 use Rattle.policy_grammar.proofs.Settling.{settled}
 use Rattle.policy_grammar.proofs.Expressions.{ahead_leads, behind_leads}
 
@@ -38,21 +38,15 @@ outer_leads at.Start as_ bs t w =
     let P : Option State → Type 0 = λ next. Leads (tables_tokens w.1) t next in
     row P (on_keyword word.Table (stays at.Table bs w (tables_tokens w.1) (keyword word.Table) refl))
     (row P (on_keyword word.Policy (stays at.Policy bs w (tables_tokens w.1) (keyword word.Policy) refl)) nowhere)
-outer_leads at.Table as_ bs t w =
-    let ts = outer_tokens at.Table bs w in
-    row (λ next. Leads ts t next) (on_name (λ x. stays at.TableName bs (w.0, w.1, x) ts (name x) (simp append_assoc))) nowhere
-outer_leads at.TableName as_ bs t w =
-    let ts = outer_tokens at.TableName bs w in
-    row (λ next. Leads ts t next) (on_sign mark.Semicolon (stays at.Start bs (w.0, w.1 ++ w.2 ∷ []) ts (sign mark.Semicolon) (rw tables_more (simp append_assoc)))) nowhere
+outer_leads at.Table as_ bs t w = only_name (λ x. stays at.TableName bs (w.0, w.1, x) _ (name x) (simp append_assoc))
+outer_leads at.TableName as_ bs t w = only_sign mark.Semicolon (stays at.Start bs (w.0, w.1 ++ w.2 ∷ []) _ (sign mark.Semicolon) (rw tables_more (simp append_assoc)))
 outer_leads at.Policy as_ [] t w =
     let ts = outer_tokens at.Policy [] w in
     let P : Option State → Type 0 = λ next. Leads ts t next in
     row P (on_keyword word.Learning (stays at.Learning [] w ts (keyword word.Learning) (simp append_assoc)))
     (row P (on_sign mark.OpenBrace (begins [] (record { tables = w.1; learning = false }) ts (sign mark.OpenBrace) (simp append_assoc))) nowhere)
 outer_leads at.Policy as_ (b ∷ bs) t w = absurd w.0
-outer_leads at.Learning as_ [] t w =
-    let ts = outer_tokens at.Learning [] w in
-    row (λ next. Leads ts t next) (on_sign mark.OpenBrace (begins [] (record { tables = w.1; learning = true }) ts (sign mark.OpenBrace) (simp append_assoc))) nowhere
+outer_leads at.Learning as_ [] t w = only_sign mark.OpenBrace (begins [] (record { tables = w.1; learning = true }) _ (sign mark.OpenBrace) (simp append_assoc))
 outer_leads at.Learning as_ (b ∷ bs) t w = absurd w.0
 outer_leads at.End as_ bs t w = nowhere
 outer_leads p as_ bs t w = absurd w
@@ -95,48 +89,28 @@ inner_leads at.Else as_ bs o ss w t =
     row (λ next. Leads (inner_tokens bs o ss ts) t next) (on_keyword word.Else (goes bs o ss ts (keyword word.Else) at.ElseBlock [] w refl))
     (subst (λ us. Leads us t (statement bs t)) same (statement_leads bs o past t))
 inner_leads at.Decided as_ bs o ss w t =
-    row (λ next. Leads (inner_tokens bs o ss w.front) t next) (on_sign mark.Semicolon (acts bs o ss w.front (sign mark.Semicolon) w.action w.right w.same)) nowhere
-inner_leads at.Let as_ bs o ss w t =
-    let ts = stage_tokens at.Let as_ w in
-    row (λ next. Leads (inner_tokens bs o ss ts) t next) (on_name (λ x. goes bs o ss ts (name x) at.LetName [] x refl)) nowhere
-inner_leads at.LetName as_ bs o ss w t =
-    let ts = stage_tokens at.LetName as_ w in
-    row (λ next. Leads (inner_tokens bs o ss ts) t next) (on_sign mark.Assign (goes bs o ss ts (sign mark.Assign) (at.Ahead base.Let) [] (w, tt) refl)) nowhere
-inner_leads at.Assigned as_ bs o ss w t =
-    let ts = stage_tokens at.Assigned as_ w in
-    row (λ next. Leads (inner_tokens bs o ss ts) t next) (on_sign mark.Assign (goes bs o ss ts (sign mark.Assign) (at.Ahead base.Assign) [] (w, tt) refl)) nowhere
+    only_sign mark.Semicolon (acts bs o ss w.front (sign mark.Semicolon) w.action w.right w.same)
+inner_leads at.Let as_ bs o ss w t = only_name (λ x. goes bs o ss _ (name x) at.LetName [] x refl)
+inner_leads at.LetName as_ bs o ss w t = only_sign mark.Assign (goes bs o ss _ (sign mark.Assign) (at.Ahead base.Let) [] (w, tt) refl)
+inner_leads at.Assigned as_ bs o ss w t = only_sign mark.Assign (goes bs o ss _ (sign mark.Assign) (at.Ahead base.Assign) [] (w, tt) refl)
 inner_leads at.If as_ bs o ss w t =
     let ts = stage_tokens at.If as_ w in
     let P : Option State → Type 0 = λ next. Leads (inner_tokens bs o ss ts) t next in
     row P (on_keyword word.Host (goes bs o ss ts (keyword word.Host) (at.Asks base.Host) [] tt refl))
     (row P (on_keyword word.Hop (goes bs o ss ts (keyword word.Hop) (at.Asks base.Hop) [] tt refl)) (ahead_leads bs o ss base.If tt [] tt t))
-inner_leads (at.Asks base.Host) as_ bs o ss w t =
-    let ts = stage_tokens (at.Asks base.Host) as_ w in
-    row (λ next. Leads (inner_tokens bs o ss ts) t next) (on_sign mark.OpenParenthesis (goes bs o ss ts (sign mark.OpenParenthesis) (at.Ahead base.Host) [] (tt, tt) refl)) nowhere
-inner_leads (at.Asks base.Hop) as_ bs o ss w t =
-    let ts = stage_tokens (at.Asks base.Hop) as_ w in
-    row (λ next. Leads (inner_tokens bs o ss ts) t next) (on_sign mark.OpenParenthesis (goes bs o ss ts (sign mark.OpenParenthesis) (at.Ahead base.Hop) [] (tt, tt) refl)) nowhere
+inner_leads (at.Asks base.Host) as_ bs o ss w t = only_sign mark.OpenParenthesis (goes bs o ss _ (sign mark.OpenParenthesis) (at.Ahead base.Host) [] (tt, tt) refl)
+inner_leads (at.Asks base.Hop) as_ bs o ss w t = only_sign mark.OpenParenthesis (goes bs o ss _ (sign mark.OpenParenthesis) (at.Ahead base.Hop) [] (tt, tt) refl)
 inner_leads (at.Asks b) as_ bs o ss w t = absurd w
 inner_leads (at.Ahead b) as_ bs o ss w t = ahead_leads bs o ss b w.0 as_ w.1 t
 inner_leads (at.Callee b) as_ bs o ss w t =
-    let ts = stage_tokens (at.Callee b) as_ w in
-    row (λ next. Leads (inner_tokens bs o ss ts) t next)
-    (on_sign mark.OpenParenthesis (goes bs o ss ts (sign mark.OpenParenthesis) (at.Ahead b) (First ∷ as_) (w.0, (w.1, w.2)) (simp append_assoc))) nowhere
+    only_sign mark.OpenParenthesis (goes bs o ss _ (sign mark.OpenParenthesis) (at.Ahead b) (First ∷ as_) (w.0, (w.1, w.2)) (simp append_assoc))
 inner_leads (at.Behind b s) as_ bs o ss w t =
     behind_leads bs o ss b w.0 (settle (pull t) as_ s) t (around_tokens as_ w.1 ++ phrase_tokens w.2.phrase) (settled (pull t) as_ s w.1 w.2)
-inner_leads at.Asked as_ bs o ss w t =
-    let ts = stage_tokens at.Asked as_ w in
-    row (λ next. Leads (inner_tokens bs o ss ts) t next) (on_keyword word.As (goes bs o ss ts (keyword word.As) at.As [] w refl)) nowhere
+inner_leads at.Asked as_ bs o ss w t = only_keyword word.As (goes bs o ss _ (keyword word.As) at.As [] w refl)
 inner_leads at.As as_ bs o ss w t =
-    let ts = stage_tokens at.As as_ w in
-    row (λ next. Leads (inner_tokens bs o ss ts) t next)
-    (on_name (λ x. goes bs o ss ts (name x) at.Bound [] (record { question = w.question x; right = w.right x }) (ap (λ us. keyword word.If ∷ us) (w.same x) ∙ simp append_assoc))) nowhere
-inner_leads at.Bound as_ bs o ss w t =
-    let ts = stage_tokens at.Bound as_ w in
-    row (λ next. Leads (inner_tokens bs o ss ts) t next) (on_sign mark.OpenBrace (opens bs o ss ts (sign mark.OpenBrace) block.First (o, ss, w) refl)) nowhere
-inner_leads at.ElseBlock as_ bs o ss w t =
-    let ts = stage_tokens at.ElseBlock as_ w in
-    row (λ next. Leads (inner_tokens bs o ss ts) t next) (on_sign mark.OpenBrace (opens bs o ss ts (sign mark.OpenBrace) block.Second (o, ss, w.0, w.1) (simp append_assoc))) nowhere
+    only_name (λ x. goes bs o ss _ (name x) at.Bound [] (record { question = w.question x; right = w.right x }) (ap (λ us. keyword word.If ∷ us) (w.same x) ∙ simp append_assoc))
+inner_leads at.Bound as_ bs o ss w t = only_sign mark.OpenBrace (opens bs o ss _ (sign mark.OpenBrace) block.First (o, ss, w) refl)
+inner_leads at.ElseBlock as_ bs o ss w t = only_sign mark.OpenBrace (opens bs o ss _ (sign mark.OpenBrace) block.Second (o, ss, w.0, w.1) (simp append_assoc))
 inner_leads p as_ bs o ss w t = absurd w
 
 -- what is read with one more token

@@ -1,20 +1,17 @@
 -- What a test of a token tells, and what follows in a table of tests.
-use Rattle.std.proofs.Common.{◌≡◌, ℕ, Bool, true, if◌then◌else◌, List, Option, Some, Ok, refl, sym, ap, ◌∙◌}
+use Rattle.std.proofs.Common.{◌≡◌, ℕ, Bool, true, if◌then◌else◌, List, Some, Ok, refl, sym, ap, ◌∙◌, arith}
 use Rattle.std.specs.Str.{bytes_eq}
 use Rattle.std.proofs.lemmas.Bool.{cond_both, false≢true}
 use Rattle.std.proofs.lemmas.Slice.Eq.{bytes_eq-Decides}
 use Rattle.maple_base.specs.declared.key.Field.{Field}
 use Rattle.policy_tokens.specs.declared.token.Token.{Token}
-use Rattle.policy_tokens.specs.declared.token.Token.TheVariants.{Keyword as keyword, Name as name, Field as field, PacketSwitch, SwitchOf, PortOf, Number, Sign as sign}
+use Rattle.policy_tokens.specs.declared.token.Token.TheVariants.{Keyword as keyword, Name as name, Field as field, Sign as sign}
 use Rattle.policy_tokens.specs.declared.token.Keyword.{Keyword}
-use Rattle.policy_tokens.specs.declared.token.Keyword.TheVariants as word
 use Rattle.policy_tokens.specs.declared.token.Sign.{Sign}
-use Rattle.policy_tokens.specs.declared.token.Sign.TheVariants as mark
 use Rattle.policy_tokens.specs.Spellings.{keyword_text, sign_text}
 use Rattle.policy_tokens.specs.Words.{token_of}
 use Rattle.policy_tokens.proofs.Readings.{keywords_read, signs_read}
 use Rattle.maple_base.specs.declared.operator.Operator.{Operator}
-use Rattle.maple_base.specs.declared.operator.Operator.TheVariants.{Or, And, Equal, NotEqual, Less, LessEqual, Add, Sub}
 use Rattle.policy_grammar.specs.Grammar.{is_single, operator_token}
 use Rattle.policy_grammar.specs.Automaton.{is_keyword, is_sign, is_name, is_field, is_value, operator_in}
 
@@ -51,19 +48,7 @@ field_is (field f) h = (f, refl)
 field_is t h = absurd (false≢true h)
 
 pub value_single : (t : Token) → is_value t ≡ true → is_single t ≡ true
-value_single PacketSwitch h = refl
-value_single (SwitchOf x) h = refl
-value_single (PortOf x) h = refl
-value_single (Number n) h = refl
-value_single t h = absurd (false≢true h)
-
-operator_row : (t : Token) (k o : Operator) → t ≡ operator_token k → Some k ≡ Some o → t ≡ operator_token o
-operator_row t k o is e = let same : k ≡ o = cc in is ∙ ap operator_token same
+value_single t h = grind arith
 
 pub operator_is : (t : Token) (o : Operator) → operator_in t ≡ Some o → t ≡ operator_token o
-operator_is t o =
-    let P : Option Operator → Type 0 = λ x. x ≡ Some o → t ≡ operator_token o in
-    row P (λ h. operator_row t Or o (keyword_is word.Or t h)) (row P (λ h. operator_row t And o (keyword_is word.And t h))
-    (row P (λ h. operator_row t Equal o (sign_is mark.Equal t h)) (row P (λ h. operator_row t NotEqual o (sign_is mark.NotEqual t h))
-    (row P (λ h. operator_row t Less o (sign_is mark.Less t h)) (row P (λ h. operator_row t LessEqual o (sign_is mark.LessEqual t h))
-    (row P (λ h. operator_row t Add o (sign_is mark.Plus t h)) (row P (λ h. operator_row t Sub o (sign_is mark.Minus t h)) (λ e. absurd (cc)))))))))
+operator_is t o e = grind arith

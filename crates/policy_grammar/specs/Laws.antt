@@ -1,24 +1,14 @@
 -- What holds of the tokens of each policy.
 use Rattle.std.specs.Prelude.{◌≡◌, List, Some, ◌↔◌}
 use Rattle.policy_tokens.specs.declared.token.Token.{Token}
-use Rattle.policy_grammar.specs.declared.stage.Stage.TheVariants as at
 use Rattle.policy_grammar.specs.Grammar.{File, AreStatements, file_tokens, IsText, Begins}
 use Rattle.policy_grammar.specs.Automaton.{State, start, run}
 use Rattle.policy_grammar.specs.Events.{trace, file_events}
-
--- tokens are those of one file alone
-abbrev pub OneFile : Type 0
-OneFile = (f g : File) → AreStatements f.body → AreStatements g.body → file_tokens f ≡ file_tokens g → f ≡ g
-
--- the reader reads these tokens to the end of a policy
-pub record IsReadToEnd (tokens : List Token) : Type 0 where
-  pub state : State
-  pub reached : run start tokens ≡ Some state
-  pub end : state.stage ≡ at.End
+use Rattle.policy_grammar.specs.Reading.{RunsToEnd}
 
 -- exactly the tokens of the grammar's files are read to the end
 abbrev pub ReadsTexts : Type 0
-ReadsTexts = (tokens : List Token) → IsReadToEnd tokens ↔ IsText tokens
+ReadsTexts = (tokens : List Token) → RunsToEnd tokens ↔ IsText tokens
 
 -- the reader reads these tokens
 pub record IsRead (tokens : List Token) : Type 0 where

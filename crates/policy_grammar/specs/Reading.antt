@@ -1,12 +1,10 @@
 -- What a reader's answers say.
-use Rattle.std.specs.Prelude.{◌≡◌, ◌≢◌, ℕ, ◌≤◌, ◌++◌, Bool, true, false, List, length, map, take, Option, Some, None}
+use Rattle.std.specs.Prelude.{◌≡◌, ◌≢◌, ℕ, ◌≤◌, Bool, true, false, List, length, map, take, Option, Some, None}
 use Rattle.std.specs.List.{slice_get}
 use Rattle.policy_tokens.specs.declared.token.Token.{Token}
 use Rattle.policy_tokens.specs.declared.token.PlacedToken.{PlacedToken}
-use Rattle.policy_grammar.specs.declared.event.Event.{Event}
 use Rattle.policy_grammar.specs.declared.stage.Stage.TheVariants as at
 use Rattle.policy_grammar.specs.Automaton.{State, start, step, run}
-use Rattle.policy_grammar.specs.Events.{events}
 
 -- the token was read, and this is the state behind it; or none like it may stand there
 abbrev pub Goes : Bool → State → Option State → Type 0
@@ -23,11 +21,6 @@ plain = map (λ p. p.token)
 abbrev pub ahead_of : Option ℕ → List Token → List Token
 ahead_of None tokens = tokens
 ahead_of (Some i) tokens = take i tokens
-
--- one more token was read, and what it adds was added; or none like it may stand there, and nothing was
-abbrev pub Reads : Bool → State → State → List Event → List Event → Token → Type 0
-Reads true s n old new t = (step s t ≡ Some n) × (new ≡ old ++ events s t)
-Reads false s n old new t = (step s t ≡ None) × (new ≡ old)
 
 -- the tokens are read to the end of a policy
 pub record RunsToEnd (tokens : List Token) : Type 0 where

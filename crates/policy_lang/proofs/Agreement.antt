@@ -1,244 +1,176 @@
--- The course of a policy agrees with the evaluation of its plain parts.
-use Rattle.std.proofs.Common.{◌≡◌, ℕ, zero, suc, ◌+◌, ◌*◌, Bool, true, false, List, [], ◌∷◌, map, refl, sym, subst, arith}
-use Rattle.std.specs.Prelude.{◌==◌, Option, Some, None}
-use Rattle.maple_base.specs.declared.key.Key.{Key}
+-- The course of a policy asks as it may, and where the policy is plain it ends as plain evaluation does.
+use Rattle.std.proofs.Common.{◌≡◌, ℕ, zero, suc, ◌+◌, ◌-◌, ◌*◌, Bool, true, false, List, [], ◌∷◌, length, drop, refl, sym, subst, arith}
+use Rattle.std.specs.Prelude.{◌==◌, ◌&&◌, if◌then◌else◌, Option, Some, None}
+use Rattle.std.specs.List.{list_all}
 use Rattle.maple_base.specs.declared.items.Item.{Item}
 use Rattle.maple_base.specs.declared.decision.Decision.TheVariants.{Drop as Dropped}
 use Rattle.maple_base.specs.declared.decision.Outcome.{Outcome}
 use Rattle.maple_base.specs.declared.decision.Outcome.TheVariants.{Decided, Spent}
 use Rattle.maple_base.specs.Keys.{field_of, valid_key}
 use Rattle.maple_base.specs.Questions.{meets}
-use Rattle.policy_lang.specs.declared.Expr.{Expr}
-use Rattle.policy_lang.specs.declared.Expr.TheVariants.{Number, Var, SwitchOf, PortOf, PacketSwitch, Packet, Up', At', Is', Not', And', Or', Add', Sub', Equal', NotEqual', Less', LessEqual'}
-use Rattle.policy_lang.specs.declared.Head.{Head}
-use Rattle.policy_lang.specs.declared.Head.TheVariants.{Host, Hop, Lookup, Test}
-use Rattle.policy_lang.specs.declared.Statement.{Statement}
-use Rattle.policy_lang.specs.declared.Statement.TheOpen.{Statement-F, Block-F, Drop as drop, Flood as flood, Out as out, Route as route, Let as let_, Assign as assign, If as if_, While as while_}
-use Rattle.policy_lang.specs.declared.Statement.TheFolds.{fold-Statement, fold-roll-Statement, fold-roll-Block, map-Statement, ind-Block}
-use Rattle.policy_lang.specs.declared.Statement.TheViews.{roll-Statement, roll-Block}
-use Rattle.policy_lang.specs.declared.Block.{Block}
-use Rattle.policy_lang.specs.Values.{Datum, Numeral, Truth, number_in, truth_in, ports_among, sent_out}
-use Rattle.policy_lang.specs.Evaluation.{Given, AllGiven, from_one, has_value, ahead_of, with_number}
-use Rattle.policy_lang.specs.Courses.{Stops, Going, Coursing, ask_test, value_course, numbers_course, otherwise_course, chosen_course, course_statement, courses, course_block, block_course}
-use Rattle.policy_lang.proofs.PlainRuns.{plain_value, plain_numbers, Halt, Exhausts, Settles, Passes, PlainRun, passed_on, plain_out, plain_otherwise, plain_side, plain_chosen, plain_statement_run, plain_order, plain_block_run, plain_run}
+use Rattle.policy_lang.specs.Tree.{Number, Var, SwitchOf, PortOf, PacketSwitch, Packet, Term, Single, Call, Is, Not, Pair, Ask, Binds, Holds as AskHolds, Act, Acts, Drop, Flood, Out, Route, Let, Assign, If, IfElse, While, Done, Then}
+use Rattle.policy_lang.specs.Values.{Datum, Numeral, Truth, Scope, number_in, truth_in, ports_among, sent_out}
+use Rattle.policy_lang.specs.Evaluation.{Arrival, Given, AllGiven, from_one, has_value, ahead_of, with_number, value_of, numbers_of, Ending, Spends, Decides, Goes, Running, and_then, out_ending, leaving, otherwise, Holds, Fails, by_truth, chosen, by_deciding, by_out, by_if, by_block, act_ending, acts_ending, block_ending}
+use Rattle.policy_lang.specs.Plain.{plain_expr, plain_head, is_plain_act, is_plain}
+use Rattle.policy_lang.specs.Courses.{Stops, Going, Coursing, ask_test, value_course, numbers_course, otherwise_course, chosen_course, stopped_course, drop_course, out_course, if_course, act_course, acts_course}
+use Rattle.policy_lang.proofs.Courses.{both}
 use Rattle.policy_lang.proofs.Follows.{Follows, follows_more, follows_stop, follows_asked}
 
--- how a run ends behind an expression, by what it gives
-abbrev behind_given : Given → (Datum → ℕ → Outcome) → Outcome
+-- how a run ends behind expressions, by what they give
+abbrev behind_given : {X : Type 0} → Option (X × ℕ) → (X → ℕ → Outcome) → Outcome
 behind_given None o = Spent
-behind_given (Some (d, left)) o = o d left
-
-abbrev behind_all : AllGiven → (List ℕ → ℕ → Outcome) → Outcome
-behind_all None o = Spent
-behind_all (Some (ns, left)) o = o ns left
+behind_given (Some (x, left)) o = o x left
 
 -- how a run ends behind a part of a policy
-abbrev pub behind : Halt → (ℕ → Outcome) → Outcome
-behind Exhausts o = Spent
-behind (Settles d) o = Decided d
-behind (Passes left) o = o left
-
-abbrev pub GoesOn : Key → ℕ → (ℕ → Outcome) → Going → Type 0
-GoesOn k m o next = (seen : List Item) (left : ℕ) → meets k seen ≡ true → Follows k seen (3 * left + m) (o left) (next seen left)
-
-abbrev ValueGoesOn : Key → ℕ → (Datum → ℕ → Outcome) → (Datum → Going) → Type 0
-ValueGoesOn k m o next = (d : Datum) → GoesOn k m (o d) (next d)
+abbrev pub behind : Ending → (Scope → ℕ → Outcome) → Outcome
+behind Spends o = Spent
+behind (Decides d) o = Decided d
+behind (Goes s left) o = o s left
 
 behind_tested : (n : ℕ) (g : Given) (o : Datum → ℕ → Outcome) → behind_given g (λ d left. o (Truth (n == number_in d)) left) ≡ behind_given (from_one (has_value n) g) o
 behind_tested n None o = refl
 behind_tested n (Some (d, left)) o = refl
 
-value_agrees : (k : Key) (e : Expr) (seen : List Item) (left m : ℕ) (o : Datum → ℕ → Outcome) (next : Datum → Going)
-    → valid_key k ≡ true → meets k seen ≡ true → ValueGoesOn k m o next → Follows k seen (3 * left + m) (behind_given (plain_value e k left) o) (value_course e seen left next)
-value_agrees k e seen zero m o next valid met on = follows_stop k seen (3 * 0 + m) Spent
-value_agrees k (Number n) seen (suc left) m o next valid met on =
-    follows_more k seen (3 * left + m) (3 * suc left + m) (o (Numeral n) left) (next (Numeral n) seen left) (omega arith) (on (Numeral n) seen left met)
-value_agrees k (Is' f p e) seen (suc left) m o next valid met on =
-    let then : Datum → Going = λ d seen left. ask_test f (number_in d) seen (λ answer seen. next (Truth answer) seen left) in
-    let after : Datum → ℕ → Outcome = λ d left. o (Truth (field_of k f == number_in d)) left in
-    let inner : ValueGoesOn k (m + 3) after then = λ d seen left met.
-    follows_more k seen (3 * left + m + 3) (3 * left + (m + 3)) (after d left) (then d seen left) (omega arith)
-    (follows_asked k f (number_in d) seen (3 * left + m) (after d left) (λ answer seen. next (Truth answer) seen left) valid met
-    (λ seen met. on (Truth (field_of k f == number_in d)) seen left met)) in
-    follows_more k seen (3 * left + (m + 3)) (3 * suc left + m) (behind_given (plain_value (Is' f p e) k (suc left)) o) (value_course e seen left then) (omega arith)
-    (subst (λ x. Follows k seen (3 * left + (m + 3)) x (value_course e seen left then)) (behind_tested (field_of k f) (plain_value e k left) o)
-    (value_agrees k e seen left (m + 3) after then valid met inner))
-value_agrees k (Var x) seen (suc left) m o next valid met on = follows_stop k seen (3 * suc left + m) Spent
-value_agrees k (SwitchOf x) seen (suc left) m o next valid met on = follows_stop k seen (3 * suc left + m) Spent
-value_agrees k (PortOf x) seen (suc left) m o next valid met on = follows_stop k seen (3 * suc left + m) Spent
-value_agrees k PacketSwitch seen (suc left) m o next valid met on = follows_stop k seen (3 * suc left + m) Spent
-value_agrees k (Packet f) seen (suc left) m o next valid met on = follows_stop k seen (3 * suc left + m) Spent
-value_agrees k (Up' p l q r) seen (suc left) m o next valid met on = follows_stop k seen (3 * suc left + m) Spent
-value_agrees k (At' p l q r) seen (suc left) m o next valid met on = follows_stop k seen (3 * suc left + m) Spent
-value_agrees k (Not' p e) seen (suc left) m o next valid met on = follows_stop k seen (3 * suc left + m) Spent
-value_agrees k (And' p l q r) seen (suc left) m o next valid met on = follows_stop k seen (3 * suc left + m) Spent
-value_agrees k (Or' p l q r) seen (suc left) m o next valid met on = follows_stop k seen (3 * suc left + m) Spent
-value_agrees k (Add' p l q r) seen (suc left) m o next valid met on = follows_stop k seen (3 * suc left + m) Spent
-value_agrees k (Sub' p l q r) seen (suc left) m o next valid met on = follows_stop k seen (3 * suc left + m) Spent
-value_agrees k (Equal' p l q r) seen (suc left) m o next valid met on = follows_stop k seen (3 * suc left + m) Spent
-value_agrees k (NotEqual' p l q r) seen (suc left) m o next valid met on = follows_stop k seen (3 * suc left + m) Spent
-value_agrees k (Less' p l q r) seen (suc left) m o next valid met on = follows_stop k seen (3 * suc left + m) Spent
-value_agrees k (LessEqual' p l q r) seen (suc left) m o next valid met on = follows_stop k seen (3 * suc left + m) Spent
-
-behind_ahead : (n : ℕ) (g : AllGiven) (o : List ℕ → ℕ → Outcome) → behind_all g (λ ns left. o (n ∷ ns) left) ≡ behind_all (ahead_of n g) o
+behind_ahead : (n : ℕ) (g : AllGiven) (o : List ℕ → ℕ → Outcome) → behind_given g (λ ns left. o (n ∷ ns) left) ≡ behind_given (ahead_of n g) o
 behind_ahead n None o = refl
 behind_ahead n (Some (ns, left)) o = refl
 
 behind_number : (g : Given) (rest : ℕ → AllGiven) (o : List ℕ → ℕ → Outcome)
-    → behind_given g (λ d left. behind_all (rest left) (λ ns left. o (number_in d ∷ ns) left)) ≡ behind_all (with_number g rest) o
+    → behind_given g (λ d left. behind_given (rest left) (λ ns left. o (number_in d ∷ ns) left)) ≡ behind_given (with_number g rest) o
 behind_number None rest o = refl
 behind_number (Some (d, left)) rest o = behind_ahead (number_in d) (rest left) o
 
-numbers_agree : (k : Key) (es : List Expr) (seen : List Item) (left m : ℕ) (o : List ℕ → ℕ → Outcome) (next : List ℕ → Going)
-    → valid_key k ≡ true → meets k seen ≡ true → ((ns : List ℕ) → GoesOn k m (o ns) (next ns)) → Follows k seen (3 * left + m) (behind_all (plain_numbers es k left) o) (numbers_course es seen left next)
-numbers_agree k [] seen left m o next valid met on = on [] seen left met
-numbers_agree k (e ∷ es) seen left m o next valid met on =
-    let then : Datum → Going = λ d seen left. numbers_course es seen left (λ ns. next (number_in d ∷ ns)) in
-    let after : Datum → ℕ → Outcome = λ d left. behind_all (plain_numbers es k left) (λ ns left. o (number_in d ∷ ns) left) in
-    subst (λ x. Follows k seen (3 * left + m) x (value_course e seen left then)) (behind_number (plain_value e k left) (plain_numbers es k) o)
-    (value_agrees k e seen left m after then valid met
-    (λ d seen left met. numbers_agree k es seen left m (λ ns left. o (number_in d ∷ ns) left) (λ ns. next (number_in d ∷ ns)) valid met (λ ns. on (number_in d ∷ ns))))
-
--- a part's course agrees with its evaluation
-abbrev pub Agrees : PlainRun → Coursing → Type 0
-Agrees run course =
-    (k : Key) (seen : List Item) (left m : ℕ) (o : ℕ → Outcome) (next : Going)
-    → valid_key k ≡ true → meets k seen ≡ true → GoesOn k m o next → Follows k seen (3 * left + m) (behind (run k left) o) (course seen left next)
-
-behind_out : (g : AllGiven) (o : ℕ → Outcome) → behind_all g (λ ns left. Decided (sent_out (ports_among ns))) ≡ behind (plain_out g) o
+behind_out : (g : AllGiven) (o : Scope → ℕ → Outcome) → behind_given g (λ ns left. Decided (sent_out (ports_among ns))) ≡ behind (out_ending g) o
 behind_out None o = refl
 behind_out (Some (ns, left)) o = refl
 
-drop_agrees : Agrees (plain_statement_run drop) (course_statement drop)
-drop_agrees k seen zero m o next valid met on = follows_stop k seen (3 * 0 + m) Spent
-drop_agrees k seen (suc left) m o next valid met on = follows_stop k seen (3 * suc left + m) (Decided Dropped)
+behind_leaving : (s : Scope) (e : Ending) (o : Scope → ℕ → Outcome) → behind e (λ inner left. o (drop (length inner - length s) inner) left) ≡ behind (leaving s e) o
+behind_leaving s Spends o = refl
+behind_leaving s (Decides d) o = refl
+behind_leaving s (Goes inner left) o = refl
 
-flood_agrees : Agrees (plain_statement_run flood) (course_statement flood)
-flood_agrees k seen zero m o next valid met on = follows_stop k seen (3 * 0 + m) Spent
-flood_agrees k seen (suc left) m o next valid met on = follows_stop k seen (3 * suc left + m) Spent
+behind_then : (e : Ending) (rest : Scope → ℕ → Ending) (o : Scope → ℕ → Outcome) → behind e (λ s left. behind (rest s left) o) ≡ behind (and_then e rest) o
+behind_then Spends rest o = refl
+behind_then (Decides d) rest o = refl
+behind_then (Goes s left) rest o = refl
 
-route_agrees : (e : Expr) → Agrees (plain_statement_run (route e)) (course_statement (route e))
-route_agrees e k seen zero m o next valid met on = follows_stop k seen (3 * 0 + m) Spent
-route_agrees e k seen (suc left) m o next valid met on = follows_stop k seen (3 * suc left + m) Spent
+none_left : (n : ℕ) → n - n ≡ 0
+none_left n = omega arith
 
-let_agrees : (x : List ℕ) (e : Expr) → Agrees (plain_statement_run (let_ x e)) (course_statement (let_ x e))
-let_agrees x e k seen zero m o next valid met on = follows_stop k seen (3 * 0 + m) Spent
-let_agrees x e k seen (suc left) m o next valid met on = follows_stop k seen (3 * suc left + m) Spent
+three : (q : Ask) (b c : Acts) → (plain_head q && is_plain b && is_plain c) ≡ true → (plain_head q ≡ true) × (is_plain b ≡ true) × (is_plain c ≡ true)
+three q b c h = let p = both (plain_head q && is_plain b) (is_plain c) h in let r = both (plain_head q) (is_plain b) p.0 in (r.0, r.1, p.1)
 
-assign_agrees : (x : List ℕ) (e : Expr) → Agrees (plain_statement_run (assign x e)) (course_statement (assign x e))
-assign_agrees x e k seen zero m o next valid met on = follows_stop k seen (3 * 0 + m) Spent
-assign_agrees x e k seen (suc left) m o next valid met on = follows_stop k seen (3 * suc left + m) Spent
+module _ (plain : Bool) (a : Arrival) (valid : valid_key a.key ≡ true) where
+  abbrev GoesOn : ℕ → (ℕ → Outcome) → Going → Type 0
+  GoesOn m o next = (seen : List Item) (left : ℕ) → meets a.key seen ≡ true → Follows plain a.key seen (3 * left + m) (o left) (next seen left)
 
-while_agrees : (e : Expr) (run : PlainRun) (course : Coursing) → Agrees (plain_statement_run (while_ e run)) (course_statement (while_ e course))
-while_agrees e run course k seen zero m o next valid met on = follows_stop k seen (3 * 0 + m) Spent
-while_agrees e run course k seen (suc left) m o next valid met on = follows_stop k seen (3 * suc left + m) Spent
+  -- a part that no plain policy has
+  never : (seen : List Item) (n : ℕ) (o : Outcome) → (plain ≡ true → false ≡ true) → Follows plain a.key seen n o (Stops Spent)
+  never seen n o is = follows_stop plain a.key seen n o Spent (λ p. absurd (let z = is p in cc))
 
-out_agrees : (es : List Expr) → Agrees (plain_statement_run (out es)) (course_statement (out es))
-out_agrees es k seen zero m o next valid met on = follows_stop k seen (3 * 0 + m) Spent
-out_agrees es k seen (suc left) m o next valid met on =
-    let then : List ℕ → Going = λ ns seen left. Stops (Decided (sent_out (ports_among ns))) in
-    follows_more k seen (3 * left + m) (3 * suc left + m) (behind (plain_out (plain_numbers es k left)) o) (numbers_course es seen left then) (omega arith)
-    (subst (λ x. Follows k seen (3 * left + m) x (numbers_course es seen left then)) (behind_out (plain_numbers es k left) o)
-    (numbers_agree k es seen left m (λ ns left. Decided (sent_out (ports_among ns))) then valid met
-    (λ ns seen left met. follows_stop k seen (3 * left + m) (Decided (sent_out (ports_among ns))))))
+  value_agrees : (e : Term) (s : Scope) (seen : List Item) (left m : ℕ) (o : Datum → ℕ → Outcome) (next : Datum → Going) → (plain ≡ true → plain_expr e ≡ true)
+      → meets a.key seen ≡ true → ((d : Datum) → GoesOn m (o d) (next d)) → Follows plain a.key seen (3 * left + m) (behind_given (value_of e a s left) o) (value_course e seen left next)
+  value_agrees e s seen zero m o next is met on = follows_stop plain a.key seen (3 * 0 + m) Spent Spent (λ p. refl)
+  value_agrees (Single (Number n)) s seen (suc left) m o next is met on =
+      follows_more plain a.key seen (3 * left + m) (3 * suc left + m) (o (Numeral n) left) (next (Numeral n) seen left) (omega arith) (on (Numeral n) seen left met)
+  value_agrees (Is f e) s seen (suc left) m o next is met on =
+      let further : Datum → Going = λ d seen left. ask_test f (number_in d) seen (λ answer seen. next (Truth answer) seen left) in
+      let after : Datum → ℕ → Outcome = λ d left. o (Truth (field_of a.key f == number_in d)) left in
+      let inner : (d : Datum) → GoesOn (m + 3) (after d) (further d) = λ d seen left met.
+      follows_more plain a.key seen (3 * left + m + 3) (3 * left + (m + 3)) (after d left) (further d seen left) (omega arith)
+      (follows_asked plain a.key f (number_in d) seen (3 * left + m) (after d left) (λ answer seen. next (Truth answer) seen left) valid met
+      (λ seen met. on (Truth (field_of a.key f == number_in d)) seen left met)) in
+      follows_more plain a.key seen (3 * left + (m + 3)) (3 * suc left + m) (behind_given (value_of (Is f e) a s (suc left)) o) (value_course e seen left further) (omega arith)
+      (subst (λ x. Follows plain a.key seen (3 * left + (m + 3)) x (value_course e seen left further)) (behind_tested (field_of a.key f) (value_of e a s left) o)
+      (value_agrees e s seen left (m + 3) after further is met inner))
+  value_agrees (Single (Var x)) s seen (suc left) m o next is met on = never seen (3 * suc left + m) _ is
+  value_agrees (Single (SwitchOf x)) s seen (suc left) m o next is met on = never seen (3 * suc left + m) _ is
+  value_agrees (Single (PortOf x)) s seen (suc left) m o next is met on = never seen (3 * suc left + m) _ is
+  value_agrees (Single PacketSwitch) s seen (suc left) m o next is met on = never seen (3 * suc left + m) _ is
+  value_agrees (Single (Packet f)) s seen (suc left) m o next is met on = never seen (3 * suc left + m) _ is
+  value_agrees (Call c l r) s seen (suc left) m o next is met on = never seen (3 * suc left + m) _ is
+  value_agrees (Not e) s seen (suc left) m o next is met on = never seen (3 * suc left + m) _ is
+  value_agrees (Pair p l r) s seen (suc left) m o next is met on = never seen (3 * suc left + m) _ is
 
-behind_chosen : (g : Given) (first : PlainRun) (second : Option PlainRun) (k : Key) (o : ℕ → Outcome)
-    → behind_given g (λ d left. behind (plain_side (truth_in d) first second k left) o) ≡ behind (plain_chosen g first second k) o
-behind_chosen None first second k o = refl
-behind_chosen (Some (d, left)) first second k o = refl
+  numbers_agree : (es : List Term) (s : Scope) (seen : List Item) (left m : ℕ) (o : List ℕ → ℕ → Outcome) (next : List ℕ → Going) → (plain ≡ true → list_all plain_expr es ≡ true)
+      → meets a.key seen ≡ true → ((ns : List ℕ) → GoesOn m (o ns) (next ns)) → Follows plain a.key seen (3 * left + m) (behind_given (numbers_of es a s left) o) (numbers_course es seen left next)
+  numbers_agree [] s seen left m o next is met on = on [] seen left met
+  numbers_agree (e ∷ es) s seen left m o next is met on =
+      let further : Datum → Going = λ d seen left. numbers_course es seen left (λ ns. next (number_in d ∷ ns)) in
+      let after : Datum → ℕ → Outcome = λ d left. behind_given (numbers_of es a s left) (λ ns left. o (number_in d ∷ ns) left) in
+      subst (λ x. Follows plain a.key seen (3 * left + m) x (value_course e seen left further)) (behind_number (value_of e a s left) (numbers_of es a s) o)
+      (value_agrees e s seen left m after further (λ p. (both (plain_expr e) (list_all plain_expr es) (is p)).0) met (λ d seen left met. numbers_agree es s seen left m (λ ns left. o (number_in d ∷ ns) left)
+      (λ ns. next (number_in d ∷ ns)) (λ p. (both (plain_expr e) (list_all plain_expr es) (is p)).1) met (λ ns. on (number_in d ∷ ns))))
 
-side_agrees : (b : Bool) (first : PlainRun) (second : Option PlainRun) (then : Coursing) (other : Option Coursing)
-    → Agrees first then → Agrees (plain_otherwise second) (otherwise_course other) → Agrees (plain_side b first second) (chosen_course b then other)
-side_agrees true first second then other a b = a
-side_agrees false first second then other a b = b
+  -- a part's course agrees with its evaluation, where the names in force are the same behind it
+  abbrev Agrees : Running → Coursing → Type 0
+  Agrees run course = (s : Scope) (seen : List Item) (left m : ℕ) (o : Scope → ℕ → Outcome) (next : Going)
+      → meets a.key seen ≡ true → GoesOn m (o s) next → Follows plain a.key seen (3 * left + m) (behind (run a s left) o) (course seen left next)
 
-if_agrees : (h : Head) (first : PlainRun) (second : Option PlainRun) (then : Coursing) (other : Option Coursing)
-    → Agrees first then → Agrees (plain_otherwise second) (otherwise_course other) → Agrees (plain_statement_run (if_ h first second)) (course_statement (if_ h then other))
-if_agrees h first second then other a b k seen zero m o next valid met on = follows_stop k seen (3 * 0 + m) Spent
-if_agrees (Test e) first second then other a b k seen (suc left) m o next valid met on =
-    let side : Datum → Going = λ d seen left. chosen_course (truth_in d) then other seen left next in
-    let after : Datum → ℕ → Outcome = λ d left. behind (plain_side (truth_in d) first second k left) o in
-    follows_more k seen (3 * left + m) (3 * suc left + m) (behind (plain_chosen (plain_value e k left) first second k) o) (value_course e seen left side) (omega arith)
-    (subst (λ x. Follows k seen (3 * left + m) x (value_course e seen left side)) (behind_chosen (plain_value e k left) first second k o)
-    (value_agrees k e seen left m after side valid met
-    (λ d seen left met. side_agrees (truth_in d) first second then other a b k seen left m o next valid met on)))
-if_agrees (Host e x) first second then other a b k seen (suc left) m o next valid met on = follows_stop k seen (3 * suc left + m) Spent
-if_agrees (Hop e x) first second then other a b k seen (suc left) m o next valid met on = follows_stop k seen (3 * suc left + m) Spent
-if_agrees (Lookup t e x) first second then other a b k seen (suc left) m o next valid met on = follows_stop k seen (3 * suc left + m) Spent
+  drop_agrees : Agrees (by_deciding Dropped) drop_course
+  drop_agrees s seen zero m o next met on = follows_stop plain a.key seen (3 * 0 + m) Spent Spent (λ p. refl)
+  drop_agrees s seen (suc left) m o next met on = follows_stop plain a.key seen (3 * suc left + m) (Decided Dropped) (Decided Dropped) (λ p. refl)
 
-none_agrees : Agrees (plain_otherwise None) (otherwise_course None)
-none_agrees k seen left m o next valid met on = on seen left met
+  never_agrees : (run : Running) → (plain ≡ true → false ≡ true) → Agrees run stopped_course
+  never_agrees run is s seen left m o next met on = never seen (3 * left + m) (behind (run a s left) o) is
 
-behind_then : (e : Halt) (rest : ℕ → Halt) (o : ℕ → Outcome) → behind e (λ left. behind (rest left) o) ≡ behind (passed_on e rest) o
-behind_then Exhausts rest o = refl
-behind_then (Settles d) rest o = refl
-behind_then (Passes left) rest o = refl
+  out_agrees : (es : List Term) → (plain ≡ true → list_all plain_expr es ≡ true) → Agrees (by_out es) (out_course es)
+  out_agrees es is s seen zero m o next met on = follows_stop plain a.key seen (3 * 0 + m) Spent Spent (λ p. refl)
+  out_agrees es is s seen (suc left) m o next met on =
+      let further : List ℕ → Going = λ ns seen left. Stops (Decided (sent_out (ports_among ns))) in
+      follows_more plain a.key seen (3 * left + m) (3 * suc left + m) (behind (out_ending (numbers_of es a s left)) o) (numbers_course es seen left further) (omega arith)
+      (subst (λ x. Follows plain a.key seen (3 * left + m) x (numbers_course es seen left further)) (behind_out (numbers_of es a s left) o)
+      (numbers_agree es s seen left m (λ ns left. Decided (sent_out (ports_among ns))) further is met
+      (λ ns seen left met. follows_stop plain a.key seen (3 * left + m) (Decided (sent_out (ports_among ns))) (Decided (sent_out (ports_among ns))) (λ p. refl))))
 
-abbrev pub statement_plainly : Statement → PlainRun
-statement_plainly = fold-Statement PlainRun PlainRun plain_statement_run plain_block_run
+  block_agrees : (run : Running) (course : Coursing) → Agrees run course → Agrees (by_block run) course
+  block_agrees run course agree s seen left m o next met on =
+      subst (λ x. Follows plain a.key seen (3 * left + m) x (course seen left next)) (behind_leaving s (run a s left) o)
+      (agree s seen left m (λ inner left. o (drop (length inner - length s) inner) left) next met (subst (λ n. GoesOn m (o (drop n s)) next) (sym (none_left (length s))) on))
 
-abbrev pub statement_coursing : Statement → Coursing
-statement_coursing = fold-Statement Coursing Coursing course_statement course_block
+  side_agrees : (b : Bool) (first : Running) (second : Option Running) (one : Coursing) (other : Option Coursing) → Agrees first one → Agrees (otherwise second) (otherwise_course other)
+      → Agrees (λ a s left. chosen (if b then Holds s left else Fails left) first second a s) (chosen_course b one other)
+  side_agrees true first second one other f g = block_agrees first one f
+  side_agrees false first second one other f g = g
 
-abbrev StatementAgrees : Statement → Type 0
-StatementAgrees s = Agrees (statement_plainly s) (statement_coursing s)
+  behind_chosen : (g : Given) (first : Running) (second : Option Running) (s : Scope) (o : Scope → ℕ → Outcome)
+      → behind_given g (λ d left. behind (chosen (if truth_in d then Holds s left else Fails left) first second a s) o) ≡ behind (chosen (by_truth s g) first second a s) o
+  behind_chosen None first second s o = refl
+  behind_chosen (Some (d, left)) first second s o = refl
 
-abbrev BlockAgrees : Block → Type 0
-BlockAgrees b = Agrees (plain_run b) (block_course b)
+  if_agrees : (q : Ask) (first : Running) (second : Option Running) (one : Coursing) (other : Option Coursing) → (plain ≡ true → plain_head q ≡ true)
+      → Agrees first one → Agrees (otherwise second) (otherwise_course other) → Agrees (by_if q first second) (if_course q one other)
+  if_agrees q first second one other is f g s seen zero m o next met on = follows_stop plain a.key seen (3 * 0 + m) Spent Spent (λ p. refl)
+  if_agrees (AskHolds e) first second one other is f g s seen (suc left) m o next met on =
+      let side : Datum → Going = λ d seen left. chosen_course (truth_in d) one other seen left next in
+      let after : Datum → ℕ → Outcome = λ d left. behind (chosen (if truth_in d then Holds s left else Fails left) first second a s) o in
+      follows_more plain a.key seen (3 * left + m) (3 * suc left + m) (behind (chosen (by_truth s (value_of e a s left)) first second a s) o) (value_course e seen left side) (omega arith)
+      (subst (λ x. Follows plain a.key seen (3 * left + m) x (value_course e seen left side)) (behind_chosen (value_of e a s left) first second s o)
+      (value_agrees e s seen left m after side is met (λ d seen left met. side_agrees (truth_in d) first second one other f g s seen left m o next met on)))
+  if_agrees (Binds t e x) first second one other is f g s seen (suc left) m o next met on = never seen (3 * suc left + m) _ is
 
-order_agrees : (ss : List ((s : Statement) × StatementAgrees s)) → Agrees (plain_order (map statement_plainly (map (λ e. e.0) ss))) (courses (map statement_coursing (map (λ e. e.0) ss)))
-order_agrees [] k seen left m o next valid met on = on seen left met
-order_agrees (s ∷ ss) k seen left m o next valid met on =
-    let rest : List Statement = map (λ e. e.0) ss in
-    let then : Going = λ seen left. courses (map statement_coursing rest) seen left next in
-    let after : ℕ → Outcome = λ left. behind (plain_order (map statement_plainly rest) k left) o in
-    subst (λ x. Follows k seen (3 * left + m) x (statement_coursing s.0 seen left then)) (behind_then (statement_plainly s.0 k left) (plain_order (map statement_plainly rest) k) o)
-    (s.1 k seen left m after then valid met (λ seen left met. order_agrees ss k seen left m o next valid met on))
+  mutual
+    act_agrees : (st : Act) → (plain ≡ true → is_plain_act st ≡ true) → Agrees (act_ending st) (act_course st)
+    act_agrees Drop is = drop_agrees
+    act_agrees Flood is = never_agrees (act_ending Flood) is
+    act_agrees (Out es) is = out_agrees es is
+    act_agrees (Route e) is = never_agrees (act_ending (Route e)) is
+    act_agrees (Let x e) is = never_agrees (act_ending (Let x e)) is
+    act_agrees (Assign x e) is = never_agrees (act_ending (Assign x e)) is
+    act_agrees (If q b) is =
+        if_agrees q (block_ending b) None (acts_course b) None (λ p. (both (plain_head q) (is_plain b) (is p)).0)
+        (block_agrees (acts_ending b) (acts_course b) (acts_agree b (λ p. (both (plain_head q) (is_plain b) (is p)).1))) (λ s seen left m o next met on. on seen left met)
+    act_agrees (IfElse q b c) is =
+        if_agrees q (block_ending b) (Some (block_ending c)) (acts_course b) (Some (acts_course c)) (λ p. (three q b c (is p)).0) (block_agrees (acts_ending b) (acts_course b) (acts_agree b (λ p. (three q b c (is p)).1)))
+        (block_agrees (acts_ending c) (acts_course c) (acts_agree c (λ p. (three q b c (is p)).2)))
+    act_agrees (While e b) is = never_agrees (act_ending (While e b)) is
 
-abbrev Agreed : Type 0
-Agreed = (s : Statement) × StatementAgrees s
+    acts_agree : (b : Acts) → (plain ≡ true → is_plain b ≡ true) → Agrees (acts_ending b) (acts_course b)
+    acts_agree Done is = λ s seen left m o next met on. on seen left met
+    acts_agree (Then st rest) is = λ s seen left m o next met on.
+        subst (λ x. Follows plain a.key seen (3 * left + m) x (act_course st seen left (λ seen left. acts_course rest seen left next))) (behind_then (act_ending st a s left) (acts_ending rest a) o)
+        (act_agrees st (λ p. (both (is_plain_act st) (is_plain rest) (is p)).0) s seen left m (λ s left. behind (acts_ending rest a s left) o) (λ seen left. acts_course rest seen left next) met
+        (λ seen left met. acts_agree rest (λ p. (both (is_plain_act st) (is_plain rest) (is p)).1) s seen left m o next met on))
 
-abbrev AgreedBlock : Type 0
-AgreedBlock = (b : Block) × BlockAgrees b
-
-abbrev run_layer : Statement-F Statement Block → PlainRun
-run_layer x = plain_statement_run (map-Statement Statement Block PlainRun PlainRun statement_plainly plain_run x)
-
-abbrev course_layer : Statement-F Statement Block → Coursing
-course_layer x = course_statement (map-Statement Statement Block Coursing Coursing statement_coursing block_course x)
-
-layer_agrees : (y : Statement-F Agreed AgreedBlock)
-    → Agrees (run_layer (map-Statement Agreed AgreedBlock Statement Block (λ e. e.0) (λ e. e.0) y)) (course_layer (map-Statement Agreed AgreedBlock Statement Block (λ e. e.0) (λ e. e.0) y))
-layer_agrees drop = drop_agrees
-layer_agrees (out es) = out_agrees es
-layer_agrees (if_ h b None) = if_agrees h (plain_run b.0) None (block_course b.0) None b.1 none_agrees
-layer_agrees (if_ h b (Some c)) = if_agrees h (plain_run b.0) (Some (plain_run c.0)) (block_course b.0) (Some (block_course c.0)) b.1 c.1
-layer_agrees flood = flood_agrees
-layer_agrees (route e) = route_agrees e
-layer_agrees (let_ x e) = let_agrees x e
-layer_agrees (assign x e) = assign_agrees x e
-layer_agrees (while_ e b) = while_agrees e (plain_run b.0) (block_course b.0)
-
-agrees_by : (r s : PlainRun) (c d : Coursing) → r ≡ s → c ≡ d → Agrees s d → Agrees r c
-agrees_by r s c d p q h = subst (λ x. Agrees x c) (sym p) (subst (λ x. Agrees s x) (sym q) h)
-
-statement_layer : (x : Statement-F Statement Block) → Agrees (run_layer x) (course_layer x) → StatementAgrees (roll-Statement x)
-statement_layer x h =
-    agrees_by (statement_plainly (roll-Statement x)) (run_layer x) (statement_coursing (roll-Statement x)) (course_layer x)
-    (fold-roll-Statement PlainRun PlainRun plain_statement_run plain_block_run x) (fold-roll-Statement Coursing Coursing course_statement course_block x) h
-
-abbrev run_all : Block-F Statement Block → PlainRun
-run_all x = plain_order (map statement_plainly x.list.items)
-
-abbrev course_all : Block-F Statement Block → Coursing
-course_all x = courses (map statement_coursing x.list.items)
-
-block_layer : (x : Block-F Statement Block) → Agrees (run_all x) (course_all x) → BlockAgrees (roll-Block x)
-block_layer x h =
-    agrees_by (plain_run (roll-Block x)) (run_all x) (block_course (roll-Block x)) (course_all x)
-    (fold-roll-Block PlainRun PlainRun plain_statement_run plain_block_run x) (fold-roll-Block Coursing Coursing course_statement course_block x) h
-
-pub block_agrees : (b : Block) → BlockAgrees b
-block_agrees = ind-Block StatementAgrees BlockAgrees
-    (λ x y is. statement_layer x (subst (λ z. Agrees (run_layer z) (course_layer z)) is (layer_agrees y)))
-    (λ x y is. block_layer x (subst (λ z. Agrees (run_all z) (course_all z)) is (order_agrees y.list.items)))
+  pub block_agree : (b : Acts) → (plain ≡ true → is_plain b ≡ true) → Agrees (block_ending b) (acts_course b)
+  block_agree b is = block_agrees (acts_ending b) (acts_course b) (acts_agree b is)

@@ -1,5 +1,5 @@
 -- What the items so far tell of a key that meets them, and what a valid key is.
-use Rattle.std.proofs.Common.{◌≡◌, ◌⊎◌, ℕ, zero, suc, Bool, true, false, cond, List, [], ◌∷◌, ◌++◌, refl, sym, ap, ◌∙◌, ⊎_elim, inl, inr, arith}
+use Rattle.std.proofs.Common.{◌≡◌, ◌⊎◌, ℕ, Bool, true, false, cond, List, [], ◌∷◌, ◌++◌, refl, sym, ap, ◌∙◌, ⊎_elim, inl, inr, arith}
 use Rattle.std.specs.Prelude.{◌==◌, ◌&&◌, ◌||◌, not, nat_lt, Option, Some, None, is_none, is_some}
 use Rattle.std.proofs.lemmas.Bool.{cases_Bool, eqb-true}
 use Rattle.std.proofs.lemmas.Bool.Decides.{nat_tests}
@@ -10,42 +10,14 @@ use Rattle.maple_base.specs.declared.items.Item.{Item}
 use Rattle.maple_base.specs.declared.items.Item.TheVariants.{Read, Test as Tested}
 use Rattle.maple_base.specs.Keys.{field_of, in_domain, has_ports, valid_key, link_valid, net_valid, transport_valid}
 use Rattle.maple_base.specs.Questions.{field_number, same_field, same_bool, meets_item, meets, known, excluded, among, asks_once}
+use Rattle.maple_base.proofs.Fields.{field_same}
 use Rattle.policy_lang.proofs.Courses.{both, same_bool_is}
 
-abbrev field_at : ℕ → Field
-field_at zero = InPort
-field_at (suc zero) = DlSrc
-field_at (suc (suc zero)) = DlDst
-field_at (suc (suc (suc zero))) = DlVlan
-field_at (suc (suc (suc (suc zero)))) = DlType
-field_at (suc (suc (suc (suc (suc zero))))) = NwTos
-field_at (suc (suc (suc (suc (suc (suc zero)))))) = NwProto
-field_at (suc (suc (suc (suc (suc (suc (suc zero))))))) = NwSrc
-field_at (suc (suc (suc (suc (suc (suc (suc (suc zero)))))))) = NwDst
-field_at (suc (suc (suc (suc (suc (suc (suc (suc (suc zero))))))))) = TpSrc
-field_at (suc (suc (suc (suc (suc (suc (suc (suc (suc (suc n)))))))))) = TpDst
-
-field_back : (f : Field) → field_at (field_number f) ≡ f
-field_back InPort = refl
-field_back DlSrc = refl
-field_back DlDst = refl
-field_back DlVlan = refl
-field_back DlType = refl
-field_back NwTos = refl
-field_back NwProto = refl
-field_back NwSrc = refl
-field_back NwDst = refl
-field_back TpSrc = refl
-field_back TpDst = refl
-
 pub same_field_is : (f g : Field) → same_field f g ≡ true → f ≡ g
-same_field_is f g h = sym (field_back f) ∙ ap field_at (eqb-true (field_number f) (field_number g) h) ∙ field_back g
+same_field_is f g h = field_same f g (eqb-true (field_number f) (field_number g) h)
 
 some_is : {A : Type 0} (x y : A) → Some x ≡ Some y → x ≡ y
 some_is x y h = cc
-
-some_none : {A : Type 0} (x : A) → Some x ≡ None → ⊥
-some_none x h = absurd (cc)
 
 -- the value that the items fixed is the key's
 pub known_is : (is : List Item) (k : Key) (f : Field) (v : ℕ) → meets k is ≡ true → known f is ≡ Some v → field_of k f ≡ v
@@ -183,6 +155,9 @@ no_net k = k.nw_tos == 0 && k.nw_proto == 0 && k.nw_src == 0 && k.nw_dst == 0
 abbrev with_ports : Key → Bool
 with_ports k = k.dl_type == 0x0800 && has_ports k.nw_proto
 
+key_parts : (k : Key) → valid_key k ≡ true → (link_valid k ≡ true) × (net_valid k ≡ true) × (transport_valid k ≡ true)
+key_parts k h = both3 (link_valid k) (net_valid k) (transport_valid k) h
+
 link_parts : (k : Key) → link_valid k ≡ true → (in_domain InPort k.in_port ≡ true) × (in_domain DlSrc k.dl_src ≡ true) × (in_domain DlDst k.dl_dst ≡ true) × (in_domain DlVlan k.dl_vlan ≡ true) × (in_domain DlType k.dl_type ≡ true)
 link_parts k h =
     let five = in_domain InPort k.in_port && in_domain DlSrc k.dl_src && in_domain DlDst k.dl_dst && in_domain DlVlan k.dl_vlan && in_domain DlType k.dl_type in
@@ -198,26 +173,17 @@ port_parts k h = both3 (in_domain TpSrc k.tp_src) (in_domain TpDst k.tp_dst) (wi
 
 -- a field of a valid key is in its domain
 pub domain_of : (k : Key) (f : Field) → valid_key k ≡ true → in_domain f (field_of k f) ≡ true
-domain_of k f h =
-    let v = both3 (link_valid k) (net_valid k) (transport_valid k) h in
-    pick f (link_parts k v.0) (net_parts k v.1) (port_parts k v.2)
-  where
-    pick : (g : Field)
-        → (in_domain InPort k.in_port ≡ true) × (in_domain DlSrc k.dl_src ≡ true) × (in_domain DlDst k.dl_dst ≡ true) × (in_domain DlVlan k.dl_vlan ≡ true) × (in_domain DlType k.dl_type ≡ true)
-        → (in_domain NwTos k.nw_tos ≡ true) × (in_domain NwProto k.nw_proto ≡ true) × (in_domain NwSrc k.nw_src ≡ true) × (in_domain NwDst k.nw_dst ≡ true) × ((k.dl_type == 0x0800 || no_net k) ≡ true)
-        → (in_domain TpSrc k.tp_src ≡ true) × (in_domain TpDst k.tp_dst ≡ true) × ((with_ports k || (k.tp_src == 0 && k.tp_dst == 0)) ≡ true)
-        → in_domain g (field_of k g) ≡ true
-    pick InPort a b c = a.0
-    pick DlSrc a b c = a.1
-    pick DlDst a b c = a.2
-    pick DlVlan a b c = a.3
-    pick DlType a b c = a.4
-    pick NwTos a b c = b.0
-    pick NwProto a b c = b.1
-    pick NwSrc a b c = b.2
-    pick NwDst a b c = b.3
-    pick TpSrc a b c = c.0
-    pick TpDst a b c = c.1
+domain_of k InPort h = (link_parts k (key_parts k h).0).0
+domain_of k DlSrc h = (link_parts k (key_parts k h).0).1
+domain_of k DlDst h = (link_parts k (key_parts k h).0).2
+domain_of k DlVlan h = (link_parts k (key_parts k h).0).3
+domain_of k DlType h = (link_parts k (key_parts k h).0).4
+domain_of k NwTos h = (net_parts k (key_parts k h).1).0
+domain_of k NwProto h = (net_parts k (key_parts k h).1).1
+domain_of k NwSrc h = (net_parts k (key_parts k h).1).2
+domain_of k NwDst h = (net_parts k (key_parts k h).1).3
+domain_of k TpSrc h = (port_parts k (key_parts k h).2).0
+domain_of k TpDst h = (port_parts k (key_parts k h).2).1
 
 four_zero : (k : Key) → net_valid k ≡ true → (k.dl_type == 0x0800) ≡ false → (k.nw_tos ≡ 0) × (k.nw_proto ≡ 0) × (k.nw_src ≡ 0) × (k.nw_dst ≡ 0)
 four_zero k h e =
@@ -234,19 +200,10 @@ two_zero k h e =
 
 -- a field of a header that the packet lacks is 0 in a valid key
 pub lacks : (k : Key) (f : Field) → valid_key k ≡ true → has_header f k ≡ false → field_of k f ≡ 0
-lacks k f h e =
-    let v = both3 (link_valid k) (net_valid k) (transport_valid k) h in
-    pick f v.1 v.2 e
-  where
-    pick : (g : Field) → net_valid k ≡ true → transport_valid k ≡ true → has_header g k ≡ false → field_of k g ≡ 0
-    pick InPort b c z = absurd (cc)
-    pick DlSrc b c z = absurd (cc)
-    pick DlDst b c z = absurd (cc)
-    pick DlVlan b c z = absurd (cc)
-    pick DlType b c z = absurd (cc)
-    pick NwTos b c z = (four_zero k b z).0
-    pick NwProto b c z = (four_zero k b z).1
-    pick NwSrc b c z = (four_zero k b z).2
-    pick NwDst b c z = (four_zero k b z).3
-    pick TpSrc b c z = (two_zero k c z).0
-    pick TpDst b c z = (two_zero k c z).1
+lacks k NwTos h e = (four_zero k (key_parts k h).1 e).0
+lacks k NwProto h e = (four_zero k (key_parts k h).1 e).1
+lacks k NwSrc h e = (four_zero k (key_parts k h).1 e).2
+lacks k NwDst h e = (four_zero k (key_parts k h).1 e).3
+lacks k TpSrc h e = (two_zero k (key_parts k h).2 e).0
+lacks k TpDst h e = (two_zero k (key_parts k h).2 e).1
+lacks k f h e = absurd (cc)

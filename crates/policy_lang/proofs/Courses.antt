@@ -7,6 +7,7 @@ use Rattle.maple_base.specs.declared.key.Key.{Key}
 use Rattle.maple_base.specs.declared.items.Item.TheVariants.{Read, Test as Tested}
 use Rattle.maple_base.specs.Keys.{field_of}
 use Rattle.maple_base.specs.Questions.{field_number, same_field, same_bool, meets, clash}
+use Rattle.policy_lang.specs.Laws.{GoAlike}
 use Rattle.policy_lang.specs.Courses.{Course, Stops, Asks, Tests, items_of, outcome_at}
 
 pub both : (a b : Bool) → (a && b) ≡ true → (a ≡ true) × (b ≡ true)
@@ -33,28 +34,19 @@ own_meets (Asks f next) k =
 own_meets (Tests f v next) k =
     ap (λ x. x && meets k (items_of (next (field_of k f == v)) k)) (same_bool_own (field_of k f == v)) ∙ own_meets (next (field_of k f == v)) k
 
--- a key that meets what was asked of another is asked the same
-pub same_items : (c : Course) (k l : Key) → meets k (items_of c l) ≡ true → items_of c k ≡ items_of c l
-same_items (Stops o) k l h = refl
-same_items (Asks f next) k l h =
+-- a key that meets what was asked of another is asked the same, and ends the same
+pub goes_alike : (c : Course) (k l : Key) → meets k (items_of c l) ≡ true → GoAlike c k l
+goes_alike (Stops o) k l h = (refl, refl)
+goes_alike (Asks f next) k l h =
     let q = both (field_of k f == field_of l f) (meets k (items_of (next (field_of l f)) l)) h in
     let e = eqb-true (field_of k f) (field_of l f) q.0 in
-    ap (λ v. Read f v ∷ items_of (next v) k) e ∙ ap (λ is. Read f (field_of l f) ∷ is) (same_items (next (field_of l f)) k l q.1)
-same_items (Tests f v next) k l h =
+    let r = goes_alike (next (field_of l f)) k l q.1 in
+    (ap (λ v. Read f v ∷ items_of (next v) k) e ∙ ap (λ is. Read f (field_of l f) ∷ is) r.0, ap (λ v. outcome_at (next v) k) e ∙ r.1)
+goes_alike (Tests f v next) k l h =
     let q = both (same_bool (field_of k f == v) (field_of l f == v)) (meets k (items_of (next (field_of l f == v)) l)) h in
     let e = same_bool_is (field_of k f == v) (field_of l f == v) q.0 in
-    ap (λ b. Tested f v b ∷ items_of (next b) k) e ∙ ap (λ is. Tested f v (field_of l f == v) ∷ is) (same_items (next (field_of l f == v)) k l q.1)
-
-pub same_outcome : (c : Course) (k l : Key) → meets k (items_of c l) ≡ true → outcome_at c k ≡ outcome_at c l
-same_outcome (Stops o) k l h = refl
-same_outcome (Asks f next) k l h =
-    let q = both (field_of k f == field_of l f) (meets k (items_of (next (field_of l f)) l)) h in
-    let e = eqb-true (field_of k f) (field_of l f) q.0 in
-    ap (λ v. outcome_at (next v) k) e ∙ same_outcome (next (field_of l f)) k l q.1
-same_outcome (Tests f v next) k l h =
-    let q = both (same_bool (field_of k f == v) (field_of l f == v)) (meets k (items_of (next (field_of l f == v)) l)) h in
-    let e = same_bool_is (field_of k f == v) (field_of l f == v) q.0 in
-    ap (λ b. outcome_at (next b) k) e ∙ same_outcome (next (field_of l f == v)) k l q.1
+    let r = goes_alike (next (field_of l f == v)) k l q.1 in
+    (ap (λ b. Tested f v b ∷ items_of (next b) k) e ∙ ap (λ is. Tested f v (field_of l f == v) ∷ is) r.0, ap (λ b. outcome_at (next b) k) e ∙ r.1)
 
 -- of two first items that ask the same and do not part, the answers are equal, and the rest decides
 clash_read : (s e x : Bool) → s ≡ true → cond (s && e) x (not (s && not e)) ≡ true → (e ≡ true) × (x ≡ true)

@@ -3,8 +3,8 @@ use Rattle.std.proofs.Common.{◌≡◌, ◌⊎◌, ℕ, ◌<◌, ◌≤◌, Boo
 use Rattle.std.specs.Prelude.{◌==◌, ◌&&◌, ◌||◌, nat_lt, Option, Some, None}
 use Rattle.std.proofs.lemmas.Bool.{ltb-true, ltb-false, lt-ltb, le-ltb, eq-eqb, eqb-true}
 use Rattle.maple_base.specs.PolicyFaults.{number_of}
-use Rattle.policy_lang.specs.Faults.{Fault, Site, node_of, position, pass_of, is_before_by, sooner_by, first_by, first_of}
-use Rattle.policy_lang.specs.Walks.{merged_by, merged}
+use Rattle.policy_lang.specs.Faults.{Fault, Site, node_of, is_before_by, sooner_by, first_by}
+use Rattle.policy_lang.specs.Walks.{merged_by}
 
 -- the order by a number, and of equal numbers by what is left
 abbrev pub ahead : ℕ → ℕ → Bool → Bool
@@ -74,15 +74,13 @@ last_none a b c p q = let x = ltb-false a b p in let y = ltb-false b c q in le-l
 
 pub before_trans : (place : Site → ℕ) (f g h : Fault) → is_before_by place f g ≡ true → is_before_by place g h ≡ true → is_before_by place f h ≡ true
 before_trans place f g h =
-    ahead_trans (pass_of f) (pass_of g) (pass_of h) _ _ _
-    (ahead_trans (place f.site) (place g.site) (place h.site) _ _ _
-    (ahead_trans (number_of f.kind) (number_of g.kind) (number_of h.kind) _ _ _ (last_trans (node_of f.site) (node_of g.site) (node_of h.site))))
+    ahead_trans (place f.site) (place g.site) (place h.site) _ _ _
+    (ahead_trans (number_of f.kind) (number_of g.kind) (number_of h.kind) _ _ _ (last_trans (node_of f.site) (node_of g.site) (node_of h.site)))
 
 pub before_none : (place : Site → ℕ) (f g h : Fault) → is_before_by place f g ≡ false → is_before_by place g h ≡ false → is_before_by place f h ≡ false
 before_none place f g h =
-    ahead_none (pass_of f) (pass_of g) (pass_of h) _ _ _
-    (ahead_none (place f.site) (place g.site) (place h.site) _ _ _
-    (ahead_none (number_of f.kind) (number_of g.kind) (number_of h.kind) _ _ _ (last_none (node_of f.site) (node_of g.site) (node_of h.site))))
+    ahead_none (place f.site) (place g.site) (place h.site) _ _ _
+    (ahead_none (number_of f.kind) (number_of g.kind) (number_of h.kind) _ _ _ (last_none (node_of f.site) (node_of g.site) (node_of h.site)))
 
 three : (place : Site → ℕ) (x y z : Bool) (f g h : Fault) → is_before_by place g f ≡ x → is_before_by place h g ≡ y → is_before_by place h f ≡ z
     → sooner_by place (sooner_by place f (Some g)) (Some h) ≡ sooner_by place f (Some (sooner_by place g (Some h)))
@@ -112,10 +110,6 @@ merged_assoc place (Some f) (Some g) (Some h) = ap Some (three place (is_before_
 pub first_both : (place : Site → ℕ) (xs ys : List Fault) → first_by place (xs ++ ys) ≡ merged_by place (first_by place xs) (first_by place ys)
 first_both place [] ys = refl
 first_both place (f ∷ xs) ys = ap (merged_by place (Some f)) (first_both place xs ys) ∙ sym (merged_assoc place (Some f) (first_by place xs) (first_by place ys))
-
--- the same by the order of places in the text of a tree without parentheses
-pub first_append : (xs ys : List Fault) → first_of (xs ++ ys) ≡ merged (first_of xs) (first_of ys)
-first_append xs ys = first_both position xs ys
 
 -- the first of faults found so far and of those to come
 pub merged_append : (place : Site → ℕ) (a : Option Fault) (xs ys : List Fault) → merged_by place a (first_by place (xs ++ ys)) ≡ merged_by place (merged_by place a (first_by place xs)) (first_by place ys)

@@ -11,13 +11,7 @@ use Rattle.maple_base.specs.declared.decision.Outcome.TheVariants.{Decided, Spen
 use Rattle.maple_base.specs.Assigned.{ip_type, icmp_protocol, tcp_protocol, udp_protocol}
 use Rattle.maple_base.specs.Keys.{field_of, in_domain, has_ports}
 use Rattle.maple_base.specs.Questions.{known, excluded}
-use Rattle.policy_lang.specs.declared.Expr.{Expr}
-use Rattle.policy_lang.specs.declared.Expr.TheVariants.{Number, Is'}
-use Rattle.policy_lang.specs.declared.Head.{Head}
-use Rattle.policy_lang.specs.declared.Head.TheVariants.{Test}
-use Rattle.policy_lang.specs.declared.Statement.TheOpen.{Statement-F, Block-F, Drop as drop, Out as out, If as if_}
-use Rattle.policy_lang.specs.declared.Block.{Block, fold-Block}
-use Rattle.policy_lang.specs.declared.Policy.{Policy}
+use Rattle.policy_lang.specs.Tree.{Number, Term, Single, Is, Ask, Holds, Act, Acts, Drop, Flood, Out, Route, Let, Assign, If, IfElse, While, Done, Then}
 use Rattle.policy_lang.specs.Values.{Datum, Numeral, Truth, number_in, truth_in, ports_among, sent_out}
 
 -- the course of a run: it stops with an outcome, or it asks for a field or whether a field has a value, and goes on by the answer
@@ -95,14 +89,14 @@ ask_test f v seen next = if in_domain f v then ask_header f seen (ask_value f v 
 abbrev pub Going : Type 0
 Going = List Item → ℕ → Course
 
-abbrev pub value_course : Expr → List Item → ℕ → (Datum → Going) → Course
+abbrev pub value_course : Term → List Item → ℕ → (Datum → Going) → Course
 value_course e seen zero next = Stops Spent
-value_course (Number n) seen (suc left) next = next (Numeral n) seen left
-value_course (Is' f p e) seen (suc left) next =
+value_course (Single (Number n)) seen (suc left) next = next (Numeral n) seen left
+value_course (Is f e) seen (suc left) next =
     value_course e seen left (λ d seen left. ask_test f (number_in d) seen (λ answer seen. next (Truth answer) seen left))
 value_course e seen (suc left) next = Stops Spent
 
-abbrev pub numbers_course : List Expr → List Item → ℕ → (List ℕ → Going) → Course
+abbrev pub numbers_course : List Term → List Item → ℕ → (List ℕ → Going) → Course
 numbers_course [] seen left next = next [] seen left
 numbers_course (e ∷ es) seen left next =
     value_course e seen left (λ d seen left. numbers_course es seen left (λ ns. next (number_in d ∷ ns)))
@@ -119,28 +113,42 @@ abbrev pub chosen_course : Bool → Coursing → Option Coursing → Coursing
 chosen_course true first second seen left next = first seen left next
 chosen_course false first second seen left next = otherwise_course second seen left next
 
-abbrev pub head_course : Head → List Item → ℕ → (Datum → Going) → Course
-head_course (Test e) seen left next = value_course e seen left next
-head_course h seen left next = Stops Spent
+abbrev pub head_course : Ask → List Item → ℕ → (Datum → Going) → Course
+head_course (Holds e) seen left next = value_course e seen left next
+head_course q seen left next = Stops Spent
 
-abbrev pub course_statement : Statement-F Coursing Coursing → Coursing
-course_statement s seen zero next = Stops Spent
-course_statement drop seen (suc left) next = Stops (Decided Dropped)
-course_statement (out es) seen (suc left) next = numbers_course es seen left (λ ns seen left. Stops (Decided (sent_out (ports_among ns))))
-course_statement (if_ h first second) seen (suc left) next =
-    head_course h seen left (λ d seen left. chosen_course (truth_in d) first second seen left next)
-course_statement s seen (suc left) next = Stops Spent
+-- each statement, with the courses of its blocks in their place
+abbrev pub stopped_course : Coursing
+stopped_course seen left next = Stops Spent
 
-abbrev pub courses : List Coursing → Coursing
-courses [] seen left next = next seen left
-courses (s ∷ ss) seen left next = s seen left (λ seen left. courses ss seen left next)
+abbrev pub drop_course : Coursing
+drop_course seen zero next = Stops Spent
+drop_course seen (suc left) next = Stops (Decided Dropped)
 
-abbrev pub course_block : Block-F Coursing Coursing → Coursing
-course_block b = courses b.list.items
+abbrev pub out_course : List Term → Coursing
+out_course es seen zero next = Stops Spent
+out_course es seen (suc left) next = numbers_course es seen left (λ ns seen left. Stops (Decided (sent_out (ports_among ns))))
 
-abbrev pub block_course : Block → Coursing
-block_course = fold-Block Coursing Coursing course_statement course_block
+abbrev pub if_course : Ask → Coursing → Option Coursing → Coursing
+if_course q first second seen zero next = Stops Spent
+if_course q first second seen (suc left) next = head_course q seen left (λ d seen left. chosen_course (truth_in d) first second seen left next)
 
--- the course of a policy's runs, each of at most so many steps
-abbrev pub course_of : Policy → ℕ → Course
-course_of policy budget = block_course policy.body [] budget (λ seen left. Stops (Decided Dropped))
+abbrev mutual
+  pub act_course : Act → Coursing
+  act_course Drop = drop_course
+  act_course Flood = stopped_course
+  act_course (Out es) = out_course es
+  act_course (Route e) = stopped_course
+  act_course (Let x e) = stopped_course
+  act_course (Assign x e) = stopped_course
+  act_course (If q b) = if_course q (acts_course b) None
+  act_course (IfElse q b c) = if_course q (acts_course b) (Some (acts_course c))
+  act_course (While e b) = stopped_course
+
+  pub acts_course : Acts → Coursing
+  acts_course Done = λ seen left next. next seen left
+  acts_course (Then s rest) = λ seen left next. act_course s seen left (λ seen left. acts_course rest seen left next)
+
+-- the course of the runs of a policy's statements, each of at most so many steps
+abbrev pub course_of : Acts → ℕ → Course
+course_of body budget = acts_course body [] budget (λ seen left. Stops (Decided Dropped))

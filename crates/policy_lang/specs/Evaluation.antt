@@ -1,5 +1,5 @@
 -- Plain evaluation of a policy. Running a statement and evaluating an expression or a head that binds a name count one step each, ahead of their parts; each next hop that a `route` reads counts one more.
-use Rattle.std.specs.Prelude.{ℕ, zero, suc, ◌+◌, ◌-◌, ◌^◌, min, Bool, true, false, not, ◌==◌, nat_lt, nat_le, if◌then◌else◌, List, [], ◌∷◌, length, drop, Option, Some, None}
+use Rattle.std.specs.Prelude.{ℕ, zero, suc, ◌+◌, ◌-◌, ◌^◌, min, Bool, true, false, not, ◌&&◌, ◌||◌, ◌==◌, nat_lt, nat_le, if◌then◌else◌, List, [], ◌∷◌, length, drop, Option, Some, None}
 use Rattle.maple_base.specs.declared.key.Key.{Key}
 use Rattle.maple_base.specs.declared.cells.Place.{Place}
 use Rattle.maple_base.specs.declared.cells.Cell.{Cell}
@@ -11,14 +11,11 @@ use Rattle.maple_base.specs.declared.decision.Decision.TheVariants.{Drop as Drop
 use Rattle.maple_base.specs.declared.decision.Outcome.{Outcome}
 use Rattle.maple_base.specs.declared.decision.Outcome.TheVariants.{Decided, Spent}
 use Rattle.maple_base.specs.Keys.{field_of}
-use Rattle.policy_lang.specs.declared.Expr.{Expr}
-use Rattle.policy_lang.specs.declared.Expr.TheVariants.{Number, Var, SwitchOf, PortOf, PacketSwitch, Packet, Up', At', Is', Not', And', Or', Add', Sub', Equal', NotEqual', Less', LessEqual'}
-use Rattle.policy_lang.specs.declared.Head.{Head}
-use Rattle.policy_lang.specs.declared.Head.TheVariants.{Host, Hop, Lookup, Test}
-use Rattle.policy_lang.specs.declared.Statement.TheOpen.{Statement-F, Block-F, Drop as drop_, Flood as flood, Out as out, Route as route, Let as let_, Assign as assign, If as if_, While as while_}
-use Rattle.policy_lang.specs.declared.Block.{Block, fold-Block}
-use Rattle.policy_lang.specs.declared.Policy.{Policy}
+use Rattle.maple_base.specs.declared.operator.Operator.{Operator}
+use Rattle.maple_base.specs.declared.operator.Operator.TheVariants as operator
+use Rattle.policy_lang.specs.Tree.{Atom, Number, Var, SwitchOf, PortOf, PacketSwitch, Packet, Callee, Up, At, Term, Single, Call, Is, Not, Pair, Source, Host, Hop, Table, Ask, Binds, Holds as AskHolds, Act, Acts, Drop, Flood, Out, Route, Let, Assign, If, IfElse, While, Done, Then}
 use Rattle.maple_base.specs.Ports.{is_port}
+use Rattle.maple_base.specs.Questions.{same_bool}
 use Rattle.policy_lang.specs.Values.{Datum, Numeral, Truth, Located, Scope, number_in, truth_in, place_in, place_of_host, port_of_hop, number_in_table, flag_in, named, assigned, ports_among, sent_out}
 
 -- a packet that came to a switch: what the environment has in each cell, the switch's datapath id, and the packet's key
@@ -41,18 +38,14 @@ abbrev pub from_two : (Datum → Datum → Datum) → Given → (ℕ → Given) 
 from_two f None second = None
 from_two f (Some (d, left)) second = from_one (f d) (second left)
 
--- the first truth is the answer where it is this one, and else the second
-abbrev pub settled_by : Bool → Datum → ℕ → (ℕ → Given) → Given
-settled_by true d left second = Some (d, left)
-settled_by false d left second = second left
+-- the left part is the answer where it has the truth that settles the operator, and else the right part
+abbrev pub settled_by : Bool → Bool → ℕ → (ℕ → Given) → Given
+settled_by true b left second = Some (Truth b, left)
+settled_by false b left second = second left
 
-abbrev pub both_hold : Given → (ℕ → Given) → Given
-both_hold None second = None
-both_hold (Some (d, left)) second = settled_by (not (truth_in d)) (Truth false) left second
-
-abbrev pub one_holds : Given → (ℕ → Given) → Given
-one_holds None second = None
-one_holds (Some (d, left)) second = settled_by (truth_in d) (Truth true) left second
+abbrev pub unless_settled : Bool → Given → (ℕ → Given) → Given
+unless_settled b None second = None
+unless_settled b (Some (d, left)) second = settled_by (same_bool (truth_in d) b) b left second
 
 -- whether a field with this number has the value
 abbrev pub has_value : ℕ → Datum → Datum
@@ -86,27 +79,48 @@ place_at d e = Located (record { switch = number_in d; port = number_in e })
 abbrev pub port_is_up : (Cell → Value) → Datum → Datum → Datum
 port_is_up env d e = Truth (flag_in (env (cell.Up (number_in d) (number_in e))))
 
+-- what an operator makes of what two expressions give, where both are evaluated
+abbrev pub applied : Operator → Datum → Datum → Datum
+applied operator.Or d e = Truth (truth_in d || truth_in e)
+applied operator.And d e = Truth (truth_in d && truth_in e)
+applied operator.Equal d e = are_equal d e
+applied operator.NotEqual d e = are_unequal d e
+applied operator.Less d e = is_less d e
+applied operator.LessEqual d e = is_at_most d e
+applied operator.Add d e = sum_of d e
+applied operator.Sub d e = difference_of d e
+
+-- the truth of a left part that settles an operator: false settles `and`, true settles `or`
+abbrev pub settling : Operator → Option Bool
+settling operator.Or = Some true
+settling operator.And = Some false
+settling o = None
+
+abbrev pub two_given : Option Bool → Operator → Given → (ℕ → Given) → Given
+two_given (Some b) o first second = unless_settled b first second
+two_given None o first second = from_two (applied o) first second
+
+-- what an expression without parts gives
+abbrev pub atom_given : Atom → Arrival → Scope → Datum
+atom_given (Number n) a s = Numeral n
+atom_given (Var x) a s = named x s
+atom_given (SwitchOf x) a s = Numeral (place_in (named x s)).switch
+atom_given (PortOf x) a s = Numeral (place_in (named x s)).port
+atom_given PacketSwitch a s = Numeral a.switch
+atom_given (Packet f) a s = Numeral (field_of a.key f)
+
+abbrev pub called : Callee → (Cell → Value) → Datum → Datum → Datum
+called Up env = port_is_up env
+called At env = place_at
+
 -- what an expression gives where these names are in force
-abbrev pub value_of : Expr → Arrival → Scope → ℕ → Given
+abbrev pub value_of : Term → Arrival → Scope → ℕ → Given
 value_of e a s zero = None
-value_of (Number n) a s (suc left) = Some (Numeral n, left)
-value_of (Var x) a s (suc left) = Some (named x s, left)
-value_of (SwitchOf x) a s (suc left) = Some (Numeral (place_in (named x s)).switch, left)
-value_of (PortOf x) a s (suc left) = Some (Numeral (place_in (named x s)).port, left)
-value_of PacketSwitch a s (suc left) = Some (Numeral a.switch, left)
-value_of (Packet f) a s (suc left) = Some (Numeral (field_of a.key f), left)
-value_of (Up' p l q r) a s (suc left) = from_two (port_is_up a.env) (value_of l a s left) (value_of r a s)
-value_of (At' p l q r) a s (suc left) = from_two place_at (value_of l a s left) (value_of r a s)
-value_of (Is' f p e) a s (suc left) = from_one (has_value (field_of a.key f)) (value_of e a s left)
-value_of (Not' p e) a s (suc left) = from_one opposite (value_of e a s left)
-value_of (And' p l q r) a s (suc left) = both_hold (value_of l a s left) (value_of r a s)
-value_of (Or' p l q r) a s (suc left) = one_holds (value_of l a s left) (value_of r a s)
-value_of (Add' p l q r) a s (suc left) = from_two sum_of (value_of l a s left) (value_of r a s)
-value_of (Sub' p l q r) a s (suc left) = from_two difference_of (value_of l a s left) (value_of r a s)
-value_of (Equal' p l q r) a s (suc left) = from_two are_equal (value_of l a s left) (value_of r a s)
-value_of (NotEqual' p l q r) a s (suc left) = from_two are_unequal (value_of l a s left) (value_of r a s)
-value_of (Less' p l q r) a s (suc left) = from_two is_less (value_of l a s left) (value_of r a s)
-value_of (LessEqual' p l q r) a s (suc left) = from_two is_at_most (value_of l a s left) (value_of r a s)
+value_of (Single x) a s (suc left) = Some (atom_given x a s, left)
+value_of (Call c l r) a s (suc left) = from_two (called c a.env) (value_of l a s left) (value_of r a s)
+value_of (Is f e) a s (suc left) = from_one (has_value (field_of a.key f)) (value_of e a s left)
+value_of (Not e) a s (suc left) = from_one opposite (value_of e a s left)
+value_of (Pair o l r) a s (suc left) = two_given (settling o) o (value_of l a s left) (value_of r a s)
 
 -- the same of several expressions
 abbrev pub AllGiven : Type 0
@@ -121,7 +135,7 @@ with_number None rest = None
 with_number (Some (d, left)) rest = ahead_of (number_in d) (rest left)
 
 -- the numbers of expressions, from left to right
-abbrev pub numbers_of : List Expr → Arrival → Scope → ℕ → AllGiven
+abbrev pub numbers_of : List Term → Arrival → Scope → ℕ → AllGiven
 numbers_of [] a s left = Some ([], left)
 numbers_of (e ∷ es) a s left = with_number (value_of e a s left) (numbers_of es a s)
 
@@ -221,20 +235,25 @@ abbrev pub by_cell : List ℕ → Scope → (ℕ → Option Datum) → Given →
 by_cell x s told None = Unasked
 by_cell x s told (Some (d, left)) = bound x s (told (number_in d)) left
 
-abbrev pub binding_head : Head → Arrival → Scope → ℕ → Held
-binding_head (Host e x) a s left = by_cell x s (λ n. place_of_host (a.env (cell.Host n))) (value_of e a s left)
-binding_head (Hop e x) a s left = by_cell x s (λ n. port_of_hop (a.env (cell.Hop a.switch n))) (value_of e a s left)
-binding_head (Lookup t e x) a s left = by_cell x s (λ n. number_in_table (a.env (cell.Num t n))) (value_of e a s left)
-binding_head (Test e) a s left = by_truth s (value_of e a s left)
+-- the cell that a head reads by a number, and what it tells
+abbrev pub source_cell : Source → ℕ → ℕ → Cell
+source_cell Host switch n = cell.Host n
+source_cell Hop switch n = cell.Hop switch n
+source_cell (Table t) switch n = cell.Num t n
+
+abbrev pub source_told : Source → Value → Option Datum
+source_told Host = place_of_host
+source_told Hop = port_of_hop
+source_told (Table t) = number_in_table
 
 -- a head that binds a name counts a step of its own, ahead of its expression
 abbrev pub counted : (ℕ → Held) → ℕ → Held
 counted ask zero = Unasked
 counted ask (suc left) = ask left
 
-abbrev pub head_of : Head → Arrival → Scope → ℕ → Held
-head_of (Test e) a s left = by_truth s (value_of e a s left)
-head_of h a s left = counted (binding_head h a s) left
+abbrev pub head_of : Ask → Arrival → Scope → ℕ → Held
+head_of (Binds t e x) a s left = counted (λ left. by_cell x s (λ n. source_told t (a.env (source_cell t a.switch n))) (value_of e a s left)) left
+head_of (AskHolds e) a s left = by_truth s (value_of e a s left)
 
 abbrev pub chosen : Held → Running → Option Running → Arrival → Scope → Ending
 chosen Unasked first second a s = Spends
@@ -248,32 +267,61 @@ round s (Fails left) body next = Goes s left
 round s (Holds inner left) body next = and_then (body left) next
 
 -- a block is run as long as an expression holds, for so many rounds at most; each round takes a step
-abbrev pub rounds : ℕ → Expr → Running → Running
+abbrev pub rounds : ℕ → Term → Running → Running
 rounds zero e body a s left = Spends
 rounds (suc more) e body a s left = round s (by_truth s (value_of e a s left)) (body a s) (rounds more e body a)
 
--- one statement, with what its blocks do in their place
-abbrev pub by_statement : Statement-F Running Running → Running
-by_statement st a s zero = Spends
-by_statement drop_ a s (suc left) = Decides Dropped
-by_statement flood a s (suc left) = Decides Flooded
-by_statement (out es) a s (suc left) = out_ending (numbers_of es a s left)
-by_statement (route e) a s (suc left) = route_ending a (value_of e a s left)
-by_statement (let_ x e) a s (suc left) = declared x s (value_of e a s left)
-by_statement (assign x e) a s (suc left) = changed x s (value_of e a s left)
-by_statement (if_ h first second) a s (suc left) = chosen (head_of h a s left) first second a s
-by_statement (while_ e body) a s (suc left) = rounds (suc left) e body a s left
+-- each statement, with what its blocks do in their place
+abbrev pub by_deciding : Decision → Running
+by_deciding d a s zero = Spends
+by_deciding d a s (suc left) = Decides d
 
--- statements one after the other, up to the first that decides
-abbrev pub in_order : List Running → Running
-in_order [] a s left = Goes s left
-in_order (st ∷ sts) a s left = and_then (st a s left) (in_order sts a)
+abbrev pub by_out : List Term → Running
+by_out es a s zero = Spends
+by_out es a s (suc left) = out_ending (numbers_of es a s left)
 
-abbrev pub by_block : Block-F Running Running → Running
-by_block b a s left = leaving s (in_order b.list.items a s left)
+abbrev pub by_route : Term → Running
+by_route e a s zero = Spends
+by_route e a s (suc left) = route_ending a (value_of e a s left)
 
-abbrev pub block_ending : Block → Running
-block_ending = fold-Block Running Running by_statement by_block
+abbrev pub by_let : List ℕ → Term → Running
+by_let x e a s zero = Spends
+by_let x e a s (suc left) = declared x s (value_of e a s left)
+
+abbrev pub by_assign : List ℕ → Term → Running
+by_assign x e a s zero = Spends
+by_assign x e a s (suc left) = changed x s (value_of e a s left)
+
+abbrev pub by_if : Ask → Running → Option Running → Running
+by_if q first second a s zero = Spends
+by_if q first second a s (suc left) = chosen (head_of q a s left) first second a s
+
+abbrev pub by_while : Term → Running → Running
+by_while e body a s zero = Spends
+by_while e body a s (suc left) = rounds (suc left) e body a s left
+
+-- a block, by its statements one after the other, up to the first that decides
+abbrev pub by_block : Running → Running
+by_block run a s left = leaving s (run a s left)
+
+abbrev mutual
+  pub act_ending : Act → Running
+  act_ending Drop = by_deciding Dropped
+  act_ending Flood = by_deciding Flooded
+  act_ending (Out es) = by_out es
+  act_ending (Route e) = by_route e
+  act_ending (Let x e) = by_let x e
+  act_ending (Assign x e) = by_assign x e
+  act_ending (If q b) = by_if q (by_block (acts_ending b)) None
+  act_ending (IfElse q b c) = by_if q (by_block (acts_ending b)) (Some (by_block (acts_ending c)))
+  act_ending (While e b) = by_while e (by_block (acts_ending b))
+
+  pub acts_ending : Acts → Running
+  acts_ending Done = λ a s left. Goes s left
+  acts_ending (Then st rest) = λ a s left. and_then (act_ending st a s left) (acts_ending rest a)
+
+abbrev pub block_ending : Acts → Running
+block_ending b = by_block (acts_ending b)
 
 -- the end of the policy without a decision is a drop
 abbrev pub outcome_of : Ending → Outcome
@@ -281,6 +329,6 @@ outcome_of Spends = Spent
 outcome_of (Decides d) = Decided d
 outcome_of (Goes s left) = Decided Dropped
 
--- what a policy decides at a switch, in an environment, of a packet with this key, in at most so many steps
-abbrev pub eval_of : Policy → ℕ → (Cell → Value) → ℕ → Key → Outcome
-eval_of policy budget env switch k = outcome_of (block_ending policy.body (record { env = env; switch = switch; key = k }) [] budget)
+-- what the statements of a policy decide at a switch, in an environment, of a packet with this key, in at most so many steps
+abbrev pub eval_of : Acts → ℕ → (Cell → Value) → ℕ → Key → Outcome
+eval_of body budget env switch k = outcome_of (block_ending body (record { env = env; switch = switch; key = k }) [] budget)

@@ -11,9 +11,10 @@ use Rattle.maple_base.specs.declared.decision.Outcome.TheVariants.{Decided}
 use Rattle.maple_base.specs.Keys.{valid_key}
 use Rattle.maple_base.specs.Questions.{meets, clash, within_domain, asks_once}
 use Rattle.maple_base.specs.PolicyLimits.{most_nodes}
-use Rattle.policy_lang.specs.declared.Block.{Block}
-use Rattle.policy_lang.specs.declared.Policy.{Policy}
-use Rattle.policy_lang.specs.Faults.{checked, IsWellFormed}
+use Rattle.policy_lang.specs.Tree.{Acts}
+use Rattle.policy_lang.specs.Nodes.{nodes_of}
+use Rattle.policy_lang.specs.Sizes.{acts_size}
+use Rattle.policy_lang.specs.Faults.{IsWellFormed}
 use Rattle.policy_lang.specs.Evaluation.{eval_of}
 use Rattle.policy_lang.specs.Plain.{is_plain}
 use Rattle.policy_lang.specs.Reads.{reads_of}
@@ -38,19 +39,19 @@ OnePath = (c : Course) (k l : Key) → clash (items_of c k) (items_of c l) ≡ t
 -- the course of a plain policy ends as plain evaluation does, in each environment and at each switch
 abbrev pub EndsAsEvaluated : Type 0
 EndsAsEvaluated =
-    (policy : Policy) (budget : ℕ) (env : Cell → Value) (switch : ℕ) (k : Key) → is_plain policy ≡ true → valid_key k ≡ true → outcome_at (course_of policy budget) k ≡ eval_of policy budget env switch k
+    (body : Acts) (budget : ℕ) (env : Cell → Value) (switch : ℕ) (k : Key) → is_plain body ≡ true → valid_key k ≡ true → outcome_at (course_of body budget) k ≡ eval_of body budget env switch k
 
 -- each value that is asked of, or read, is in its field's domain
 abbrev pub AsksWithin : Type 0
-AsksWithin = (policy : Policy) (budget : ℕ) (k : Key) → valid_key k ≡ true → list_all within_domain (items_of (course_of policy budget) k) ≡ true
+AsksWithin = (body : Acts) (budget : ℕ) (k : Key) → valid_key k ≡ true → list_all within_domain (items_of (course_of body budget) k) ≡ true
 
 -- no question is of a field that an earlier answer fixed
 abbrev pub AsksOnce : Type 0
-AsksOnce = (policy : Policy) (budget : ℕ) (k : Key) → valid_key k ≡ true → asks_once [] (items_of (course_of policy budget) k) ≡ true
+AsksOnce = (body : Acts) (budget : ℕ) (k : Key) → valid_key k ≡ true → asks_once [] (items_of (course_of body budget) k) ≡ true
 
 -- a step asks at most three questions
 abbrev pub AsksFew : Type 0
-AsksFew = (policy : Policy) (budget : ℕ) (k : Key) → valid_key k ≡ true → length (items_of (course_of policy budget) k) ≤ 3 * budget
+AsksFew = (body : Acts) (budget : ℕ) (k : Key) → valid_key k ≡ true → length (items_of (course_of body budget) k) ≤ 3 * budget
 
 -- a path that is decided begins at this switch
 abbrev pub begins_at : ℕ → Outcome → Bool
@@ -60,18 +61,22 @@ begins_at switch o = true
 
 -- a path that a policy decides begins at its own switch
 abbrev pub BeginsHere : Type 0
-BeginsHere = (policy : Policy) (budget : ℕ) (env : Cell → Value) (switch : ℕ) (k : Key) → valid_key k ≡ true → begins_at switch (eval_of policy budget env switch k) ≡ true
+BeginsHere = (body : Acts) (budget : ℕ) (env : Cell → Value) (switch : ℕ) (k : Key) → valid_key k ≡ true → begins_at switch (eval_of body budget env switch k) ≡ true
 
 -- with a larger budget a decided outcome stays the same
 abbrev pub KeepsDecisions : Type 0
 KeepsDecisions =
-    (policy : Policy) (budget more : ℕ) (env : Cell → Value) (switch : ℕ) (k : Key) (d : Decision) → eval_of policy budget env switch k ≡ Decided d → eval_of policy (budget + more) env switch k ≡ Decided d
+    (body : Acts) (budget more : ℕ) (env : Cell → Value) (switch : ℕ) (k : Key) (d : Decision) → eval_of body budget env switch k ≡ Decided d → eval_of body (budget + more) env switch k ≡ Decided d
 
 -- two environments that have the same in the cells that a run reads give the same outcome
 abbrev pub ReadsNothingElse : Type 0
 ReadsNothingElse =
-    (policy : Policy) (budget : ℕ) (env other : Cell → Value) (switch : ℕ) (k : Key) → All (λ c. env c ≡ other c) (reads_of policy budget env switch k) → eval_of policy budget env switch k ≡ eval_of policy budget other switch k
+    (body : Acts) (budget : ℕ) (env other : Cell → Value) (switch : ℕ) (k : Key) → All (λ c. env c ≡ other c) (reads_of body budget env switch k) → eval_of body budget env switch k ≡ eval_of body budget other switch k
 
 -- a well formed body has at most 4,096 nodes
 abbrev pub FewNodes : Type 0
-FewNodes = (tables : List (List ℕ)) (body : Block) → IsWellFormed tables body → (checked body).size ≤ most_nodes
+FewNodes = (tables : List (List ℕ)) (body : Acts) → IsWellFormed tables body → acts_size body ≤ most_nodes
+
+-- the nodes of a body are as many as its statements, heads and expressions count, by which faults are numbered
+abbrev pub CountsNodes : Type 0
+CountsNodes = (body : Acts) → length (nodes_of body) ≡ acts_size body

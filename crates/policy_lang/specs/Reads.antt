@@ -1,21 +1,16 @@
 -- The cells that a run of a policy reads, beside its evaluation.
-use Rattle.std.specs.Prelude.{ℕ, zero, suc, Bool, true, false, not, ◌==◌, if◌then◌else◌, List, [], ◌∷◌, ◌++◌, Option, Some, None}
+use Rattle.std.specs.Prelude.{ℕ, zero, suc, Bool, true, false, ◌==◌, if◌then◌else◌, List, [], ◌∷◌, ◌++◌, Option, Some, None}
 use Rattle.maple_base.specs.declared.key.Key.{Key}
 use Rattle.maple_base.specs.declared.cells.Place.{Place}
 use Rattle.maple_base.specs.declared.cells.Cell.{Cell}
 use Rattle.maple_base.specs.declared.cells.Cell.TheVariants as cell
 use Rattle.maple_base.specs.declared.cells.Value.{Value}
 use Rattle.maple_base.specs.declared.cells.Value.TheVariants as value
-use Rattle.policy_lang.specs.declared.Expr.{Expr}
-use Rattle.policy_lang.specs.declared.Expr.TheVariants.{Up', At', Is', Not', And', Or', Add', Sub', Equal', NotEqual', Less', LessEqual'}
-use Rattle.policy_lang.specs.declared.Head.{Head}
-use Rattle.policy_lang.specs.declared.Head.TheVariants.{Host, Hop, Lookup, Test}
-use Rattle.policy_lang.specs.declared.Statement.TheOpen.{Statement-F, Block-F, Drop as drop_, Flood as flood, Out as out, Route as route, Let as let_, Assign as assign, If as if_, While as while_}
-use Rattle.policy_lang.specs.declared.Block.{Block, fold-Block}
-use Rattle.policy_lang.specs.declared.Policy.{Policy}
+use Rattle.maple_base.specs.Questions.{same_bool}
+use Rattle.policy_lang.specs.Tree.{Callee, Up, At, Term, Single, Call, Is, Not, Pair, Ask, Binds, Holds as AskHolds, Act, Acts, Drop, Flood, Out, Route, Let, Assign, If, IfElse, While, Done, Then}
 use Rattle.maple_base.specs.Ports.{is_port}
 use Rattle.policy_lang.specs.Values.{Datum, Scope, number_in, truth_in, place_in}
-use Rattle.policy_lang.specs.Evaluation.{Arrival, Given, Running, Ending, Spends, Decides, Goes, Held, Unasked, Fails, Holds, value_of, head_of, by_truth, by_statement, and_then, leaving}
+use Rattle.policy_lang.specs.Evaluation.{Arrival, Given, Running, Ending, Spends, Decides, Goes, Held, Unasked, Fails, Holds, value_of, settling, source_cell, head_of, by_truth, by_block, act_ending, acts_ending}
 
 -- the cells that are read behind an expression that gave something
 abbrev pub behind_value : Given → (Datum → ℕ → List Cell) → List Cell
@@ -26,39 +21,31 @@ behind_value (Some (d, left)) next = next d left
 abbrev pub Reading : Type 0
 Reading = Arrival → Scope → ℕ → List Cell
 
--- of two expressions, and then by their values
-abbrev pub pair_reads : List Cell → Given → (ℕ → List Cell) → (ℕ → Given) → (Datum → Datum → List Cell) → List Cell
-pair_reads first given reads second at_both = first ++ behind_value given (λ d left. reads left ++ behind_value (second left) (λ e left. at_both d e))
+-- the cells that a call reads behind its parts
+abbrev pub call_cells : Callee → Datum → Datum → List Cell
+call_cells Up d e = cell.Up (number_in d) (number_in e) ∷ []
+call_cells At d e = []
 
-abbrev pub nothing_more : Datum → Datum → List Cell
-nothing_more d e = []
+-- behind the left part of an operator: what the right part reads, unless the left part is the answer
+abbrev pub reads_unless : Bool → ℕ → (ℕ → List Cell) → List Cell
+reads_unless true left reads = []
+reads_unless false left reads = reads left
 
-abbrev pub up_cell : Datum → Datum → List Cell
-up_cell d e = cell.Up (number_in d) (number_in e) ∷ []
-
--- the second expression is evaluated only where the first has this truth
-abbrev pub reads_where : Bool → ℕ → (ℕ → List Cell) → List Cell
-reads_where true left reads = reads left
-reads_where false left reads = []
+abbrev pub right_reads : Option Bool → Datum → ℕ → (ℕ → List Cell) → List Cell
+right_reads (Some b) d left reads = reads_unless (same_bool (truth_in d) b) left reads
+right_reads None d left reads = reads left
 
 -- the cells that an expression reads
-abbrev pub value_reads : Expr → Reading
+abbrev pub value_reads : Term → Reading
 value_reads e a s zero = []
-value_reads (Up' p l q r) a s (suc left) = pair_reads (value_reads l a s left) (value_of l a s left) (value_reads r a s) (value_of r a s) up_cell
-value_reads (At' p l q r) a s (suc left) = pair_reads (value_reads l a s left) (value_of l a s left) (value_reads r a s) (value_of r a s) nothing_more
-value_reads (Is' f p e) a s (suc left) = value_reads e a s left
-value_reads (Not' p e) a s (suc left) = value_reads e a s left
-value_reads (And' p l q r) a s (suc left) = value_reads l a s left ++ behind_value (value_of l a s left) (λ d left. reads_where (truth_in d) left (value_reads r a s))
-value_reads (Or' p l q r) a s (suc left) = value_reads l a s left ++ behind_value (value_of l a s left) (λ d left. reads_where (not (truth_in d)) left (value_reads r a s))
-value_reads (Add' p l q r) a s (suc left) = pair_reads (value_reads l a s left) (value_of l a s left) (value_reads r a s) (value_of r a s) nothing_more
-value_reads (Sub' p l q r) a s (suc left) = pair_reads (value_reads l a s left) (value_of l a s left) (value_reads r a s) (value_of r a s) nothing_more
-value_reads (Equal' p l q r) a s (suc left) = pair_reads (value_reads l a s left) (value_of l a s left) (value_reads r a s) (value_of r a s) nothing_more
-value_reads (NotEqual' p l q r) a s (suc left) = pair_reads (value_reads l a s left) (value_of l a s left) (value_reads r a s) (value_of r a s) nothing_more
-value_reads (Less' p l q r) a s (suc left) = pair_reads (value_reads l a s left) (value_of l a s left) (value_reads r a s) (value_of r a s) nothing_more
-value_reads (LessEqual' p l q r) a s (suc left) = pair_reads (value_reads l a s left) (value_of l a s left) (value_reads r a s) (value_of r a s) nothing_more
-value_reads e a s (suc left) = []
+value_reads (Single x) a s (suc left) = []
+value_reads (Call c l r) a s (suc left) =
+    value_reads l a s left ++ behind_value (value_of l a s left) (λ d left. value_reads r a s left ++ behind_value (value_of r a s left) (λ e left. call_cells c d e))
+value_reads (Is f e) a s (suc left) = value_reads e a s left
+value_reads (Not e) a s (suc left) = value_reads e a s left
+value_reads (Pair o l r) a s (suc left) = value_reads l a s left ++ behind_value (value_of l a s left) (λ d left. right_reads (settling o) d left (value_reads r a s))
 
-abbrev pub numbers_reads : List Expr → Reading
+abbrev pub numbers_reads : List Term → Reading
 numbers_reads [] a s left = []
 numbers_reads (e ∷ es) a s left = value_reads e a s left ++ behind_value (value_of e a s left) (λ d left. numbers_reads es a s left)
 
@@ -76,32 +63,27 @@ abbrev pub route_reads : Arrival → Place → ℕ → List Cell
 route_reads a to left = if is_port to.port then (if a.switch == to.switch then [] else way_reads 63 a.env to left a.switch) else []
 
 -- the cells that a head reads; one that binds a name reads its own behind those of its expression
-abbrev pub cell_behind : (ℕ → Cell) → Expr → Reading
+abbrev pub cell_behind : (ℕ → Cell) → Term → Reading
 cell_behind c e a s left = value_reads e a s left ++ behind_value (value_of e a s left) (λ d left. c (number_in d) ∷ [])
 
 abbrev pub counted_reads : (ℕ → List Cell) → ℕ → List Cell
 counted_reads reads zero = []
 counted_reads reads (suc left) = reads left
 
-abbrev pub head_reads : Head → Reading
-head_reads (Host e x) a s left = counted_reads (cell_behind (λ n. cell.Host n) e a s) left
-head_reads (Hop e x) a s left = counted_reads (cell_behind (λ n. cell.Hop a.switch n) e a s) left
-head_reads (Lookup t e x) a s left = counted_reads (cell_behind (λ n. cell.Num t n) e a s) left
-head_reads (Test e) a s left = value_reads e a s left
+abbrev pub head_reads : Ask → Reading
+head_reads (Binds t e x) a s left = counted_reads (cell_behind (source_cell t a.switch) e a s) left
+head_reads (AskHolds e) a s left = value_reads e a s left
 
--- a part of a policy: how it ends, and what it reads
-pub record Part : Type 0 where
-  pub ends : Running
-  pub reads : Reading
+-- ---- statements
 
-abbrev pub else_reads : Option Part → Reading
+abbrev pub else_reads : Option Reading → Reading
 else_reads None a s left = []
-else_reads (Some part) a s left = part.reads a s left
+else_reads (Some reads) a s left = reads a s left
 
-abbrev pub chosen_reads : Held → Part → Option Part → Arrival → Scope → List Cell
+abbrev pub chosen_reads : Held → Reading → Option Reading → Arrival → Scope → List Cell
 chosen_reads Unasked first second a s = []
 chosen_reads (Fails left) first second a s = else_reads second a s left
-chosen_reads (Holds inner left) first second a s = first.reads a inner left
+chosen_reads (Holds inner left) first second a s = first a inner left
 
 -- what is read behind a part that decided nothing
 abbrev pub then_reads : Ending → (Scope → ℕ → List Cell) → List Cell
@@ -114,57 +96,50 @@ round_reads Unasked body ends next = []
 round_reads (Fails left) body ends next = []
 round_reads (Holds inner left) body ends next = body left ++ then_reads (ends left) next
 
-abbrev pub rounds_reads : ℕ → Expr → Part → Reading
-rounds_reads zero e body a s left = []
-rounds_reads (suc more) e body a s left =
-    value_reads e a s left ++ round_reads (by_truth s (value_of e a s left)) (body.reads a s) (body.ends a s) (rounds_reads more e body a)
+abbrev pub rounds_reads : ℕ → Term → Running → Reading → Reading
+rounds_reads zero e run body a s left = []
+rounds_reads (suc more) e run body a s left = value_reads e a s left ++ round_reads (by_truth s (value_of e a s left)) (body a s) (run a s) (rounds_reads more e run body a)
 
-abbrev pub ends_of : Option Part → Option Running
-ends_of None = None
-ends_of (Some part) = Some part.ends
+-- each statement, by what its blocks read; it reads behind its own step
+abbrev pub no_reads : Reading
+no_reads a s left = []
 
--- what a statement reads behind its own step
-abbrev pub statement_reads : (Arrival → Scope → ℕ → List Cell) → Reading
-statement_reads reads a s zero = []
-statement_reads reads a s (suc left) = reads a s left
+abbrev pub reads_out : List Term → Reading
+reads_out es a s zero = []
+reads_out es a s (suc left) = numbers_reads es a s left
 
-abbrev pub nothing_read : Reading
-nothing_read a s left = []
+abbrev pub reads_route : Term → Reading
+reads_route e a s zero = []
+reads_route e a s (suc left) = value_reads e a s left ++ behind_value (value_of e a s left) (λ d left. route_reads a (place_in d) left)
 
--- one statement, with what its blocks do and read in their place
-abbrev pub part_statement : Statement-F Part Part → Part
-part_statement drop_ = record { ends = by_statement drop_; reads = nothing_read }
-part_statement flood = record { ends = by_statement flood; reads = nothing_read }
-part_statement (out es) = record { ends = by_statement (out es); reads = statement_reads (numbers_reads es) }
-part_statement (route e) = record {
-  ends = by_statement (route e);
-  reads = statement_reads (λ a s left. value_reads e a s left ++ behind_value (value_of e a s left) (λ d left. route_reads a (place_in d) left));
-}
-part_statement (let_ x e) = record { ends = by_statement (let_ x e); reads = statement_reads (value_reads e) }
-part_statement (assign x e) = record { ends = by_statement (assign x e); reads = statement_reads (value_reads e) }
-part_statement (if_ h first second) = record {
-  ends = by_statement (if_ h first.ends (ends_of second));
-  reads = statement_reads (λ a s left. head_reads h a s left ++ chosen_reads (head_of h a s left) first second a s);
-}
-part_statement (while_ e body) = record {
-  ends = by_statement (while_ e body.ends);
-  reads = statement_reads (λ a s left. rounds_reads (suc left) e body a s left);
-}
+abbrev pub reads_value : Term → Reading
+reads_value e a s zero = []
+reads_value e a s (suc left) = value_reads e a s left
 
-abbrev pub reads_in_order : List Part → Reading
-reads_in_order [] a s left = []
-reads_in_order (part ∷ parts) a s left = part.reads a s left ++ then_reads (part.ends a s left) (reads_in_order parts a)
+abbrev pub reads_if : Ask → Reading → Option Reading → Reading
+reads_if q first second a s zero = []
+reads_if q first second a s (suc left) = head_reads q a s left ++ chosen_reads (head_of q a s left) first second a s
 
-abbrev pub ends_in_order : List Part → Running
-ends_in_order [] a s left = Goes s left
-ends_in_order (part ∷ parts) a s left = and_then (part.ends a s left) (ends_in_order parts a)
+abbrev pub reads_while : Term → Running → Reading → Reading
+reads_while e run body a s zero = []
+reads_while e run body a s (suc left) = rounds_reads (suc left) e run body a s left
 
-abbrev pub part_block : Block-F Part Part → Part
-part_block b = record { ends = λ a s left. leaving s (ends_in_order b.list.items a s left); reads = reads_in_order b.list.items }
+abbrev mutual
+  pub act_reads : Act → Reading
+  act_reads Drop = no_reads
+  act_reads Flood = no_reads
+  act_reads (Out es) = reads_out es
+  act_reads (Route e) = reads_route e
+  act_reads (Let x e) = reads_value e
+  act_reads (Assign x e) = reads_value e
+  act_reads (If q b) = reads_if q (acts_reads b) None
+  act_reads (IfElse q b c) = reads_if q (acts_reads b) (Some (acts_reads c))
+  act_reads (While e b) = reads_while e (by_block (acts_ending b)) (acts_reads b)
 
-abbrev pub block_part : Block → Part
-block_part = fold-Block Part Part part_statement part_block
+  pub acts_reads : Acts → Reading
+  acts_reads Done = no_reads
+  acts_reads (Then st rest) = λ a s left. act_reads st a s left ++ then_reads (act_ending st a s left) (acts_reads rest a)
 
--- the cells that a run of a policy reads at a switch, in an environment, of a packet with this key, in at most so many steps
-abbrev pub reads_of : Policy → ℕ → (Cell → Value) → ℕ → Key → List Cell
-reads_of policy budget env switch k = (block_part policy.body).reads (record { env = env; switch = switch; key = k }) [] budget
+-- the cells that a run of a policy's statements reads at a switch, in an environment, of a packet with this key, in at most so many steps
+abbrev pub reads_of : Acts → ℕ → (Cell → Value) → ℕ → Key → List Cell
+reads_of body budget env switch k = acts_reads body (record { env = env; switch = switch; key = k }) [] budget

@@ -3,11 +3,13 @@ ghost use Rattle.std.specs.Prelude.{◌≡◌, ◌≤◌, [], length, IfOk, OnOk
 ghost use Rattle.maple_base.specs.PolicyLimits.{most_tables};
 ghost use Rattle.policy_lang.specs.declared.build.BuildError.TheVariants.{NoMemory as no_memory};
 ghost use Rattle.policy_lang.specs.Built.{IsErrorOf};
-ghost use Rattle.policy_lang.specs.Faults.{IsWellFormed, checked};
+ghost use Rattle.policy_lang.specs.Nodes.{nodes_of, AreFree};
+ghost use Rattle.policy_lang.specs.Faults.{IsWellFormed};
+ghost use Rattle.policy_lang.specs.Sound.{IsSound};
+ghost use Rattle.policy_lang.specs.TreeOf.{tree_of};
 
-use crate::limits::walk_body;
 use crate::name_fault::first_name_fault;
-use crate::site_order::TreeOrder;
+use crate::nodes::{Node, Stop, nodes};
 use crate::{Block, Policy};
 use maple_base::{Name, Names, NoMemory};
 use std::alloc::Global;
@@ -50,38 +52,47 @@ impl Policy {
         ensures tables { IfOk result (λ policy. policy.tables ≡ tables.items) }
         ensures learning { IfOk result (λ policy. policy.learning ≡ learning) }
         ensures body { IfOk result (λ policy. policy.body ≡ body) }
-        ensures formed { OnOk result (IsWellFormed tables.items body) }
-        ensures fault { IfErr result (λ error. IsErrorOf error tables.items body) }
+        ensures formed { OnOk result (IsWellFormed tables.items (tree_of body)) }
+        ensures sound { OnOk result (IsSound tables.items (tree_of body)) }
+        ensures fault { IfErr result (λ error. IsErrorOf error tables.items (tree_of body)) }
     {
         check_parts(alloc, &tables, &body)?;
         Ok(Policy::new(Names::new(tables), learning, body))
     }
 }
 
-// Finds the first fault of these parts. A node that passes a limit decides over all else, and where
-// there is none the numbers of nodes are small.
+// Finds the first fault of these parts. A node that passes a limit decides over all else.
 #[tactic(auto, using(crate::proofs::Told::limit_told))]
 fn check_parts(alloc: Global, tables: &[Name], body: &Block) -> Result<(), BuildError>
-    ensures formed { OnOk result (IsWellFormed tables.now body.now) }
-    ensures fault { IfErr result (λ error. IsErrorOf error tables.now body.now) }
+    ensures formed { OnOk result (IsWellFormed tables.now (tree_of body.now)) }
+    ensures sound { OnOk result (IsSound tables.now (tree_of body.now)) }
+    ensures fault { IfErr result (λ error. IsErrorOf error tables.now (tree_of body.now)) }
 {
-    match walk_body(body) {
-        Ok(_) => check_names(alloc, tables, body),
-        Err(limit) => Err(BuildError::Fault {
+    match nodes(alloc, body) {
+        Ok(nodes) => check_names(alloc, tables, body, &nodes),
+        Err(Stop::Limit(limit)) => Err(BuildError::Fault {
             node: limit.node,
             kind: limit.kind.number(),
         }),
+        Err(Stop::NoMemory) => Err(BuildError::NoMemory),
     }
 }
 
-// The same of parts that pass no limit.
-#[tactic(auto, using(crate::proofs::Told::fault_told, crate::proofs::Told::well_formed))]
-fn check_names(alloc: Global, tables: &[Name], body: &Block) -> Result<(), BuildError>
-    requires limits { (checked body.now).limits 1 1 ≡ [] }
-    ensures formed { OnOk result (IsWellFormed tables.now body.now) }
-    ensures fault { IfErr result (λ error. IsErrorOf error tables.now body.now) }
+// The same of parts that pass no limit, and whose nodes are these.
+#[tactic(auto, using(crate::proofs::Told::fault_told, crate::proofs::Told::well_formed, crate::proofs::Told::few_nodes))]
+fn check_names(
+    alloc: Global,
+    tables: &[Name],
+    body: &Block,
+    nodes: &[Node],
+) -> Result<(), BuildError>
+    requires nodes { nodes.now ≡ nodes_of (tree_of body.now) }
+    requires free { AreFree nodes.now }
+    ensures formed { OnOk result (IsWellFormed tables.now (tree_of body.now)) }
+    ensures sound { OnOk result (IsSound tables.now (tree_of body.now)) }
+    ensures fault { IfErr result (λ error. IsErrorOf error tables.now (tree_of body.now)) }
 {
-    match first_name_fault(alloc, tables, body, &TreeOrder)? {
+    match first_name_fault(alloc, tables, body, nodes)? {
         None => Ok(()),
         Some(fault) => Err(BuildError::Fault {
             node: fault.site.node(),

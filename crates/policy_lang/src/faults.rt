@@ -1,9 +1,9 @@
 // What may be wrong with a policy, and which of two faults comes first.
-ghost use Rattle.std.specs.Prelude.{◌≡◌, if◌then◌else◌};
-ghost use Rattle.policy_lang.specs.Faults.{is_limit, node_of, is_before_by, pass_of};
+ghost use Rattle.std.specs.Prelude.{◌≡◌};
+ghost use Rattle.policy_lang.specs.Faults.{numbered, place_in, node_of, is_before_by};
 ghost use Rattle.policy_lang.specs.Walks.{site_of, fault_of, told, merged_by};
 
-use crate::site_order::SiteOrder;
+use crate::nodes::Node;
 use maple_base::PolicyFault;
 
 /// Where a fault lies. Nodes are numbered from 1 in the order of the text.
@@ -11,14 +11,12 @@ use maple_base::PolicyFault;
 pub enum Site {
     /// At the name of a table.
     AtTable,
-    /// At the first word of a node: the node, and the node that begins with that word alone.
-    AtNode(u32, u32),
+    /// At the first word of a node.
+    AtNode(u32),
     /// At the first word of an expression, with the parentheses round it.
-    AtWhole(u32, u32),
-    /// At the name that a `let` declares: the statement.
-    AtDeclared(u32),
-    /// At the name that a head binds: the head, and its last node.
-    AtBound(u32, u32),
+    AtWhole(u32),
+    /// At the name that a `let` declares or a head binds.
+    AtName(u32),
 }
 
 /// What is wrong, and where.
@@ -28,20 +26,20 @@ pub struct Fault {
     pub site: Site,
 }
 
-// Limits are tested ahead of names and types.
-fn is_limit(kind: PolicyFault) -> bool
-    ensures { result ≡ is_limit kind }
+// The node of a number, from 1 on.
+fn numbered(nodes: &[Node], number: u32) -> Node
+    ensures { result ≡ numbered nodes.now number }
 {
-    match kind {
-        PolicyFault::Nesting | PolicyFault::Nodes => true,
-        _ => false,
+    let index = number.saturating_sub(1) as usize;
+    match nodes.get(index) {
+        Some(node) => *node,
+        None => Node {
+            first: 0,
+            whole: 0,
+            named: 0,
+            depth: 0,
+        },
     }
-}
-
-fn pass(kind: PolicyFault) -> u8
-    ensures { result ≡ (if is_limit kind then 0 else 1) }
-{
-    if is_limit(kind) { 0 } else { 1 }
 }
 
 impl Site {
@@ -51,27 +49,30 @@ impl Site {
     {
         match self {
             Site::AtTable => 0,
-            Site::AtNode(node, _)
-            | Site::AtWhole(node, _)
-            | Site::AtDeclared(node)
-            | Site::AtBound(node, _) => node,
+            Site::AtNode(node) | Site::AtWhole(node) | Site::AtName(node) => node,
+        }
+    }
+
+    /// Its token, where these are the nodes; tables come ahead of all nodes.
+    pub fn place(self, nodes: &[Node]) -> u32
+        ensures { result ≡ place_in nodes.now (site_of self) }
+    {
+        match self {
+            Site::AtTable => 0,
+            Site::AtNode(node) => numbered(nodes, node).first,
+            Site::AtWhole(node) => numbered(nodes, node).whole,
+            Site::AtName(node) => numbered(nodes, node).named,
         }
     }
 }
 
 impl Fault {
-    fn is_before<P: SiteOrder>(self, other: Fault, order: &P) -> bool
-        ensures { result ≡ is_before_by (P.place_of order.now) (fault_of self) (fault_of other) }
+    fn is_before(self, other: Fault, nodes: &[Node]) -> bool
+        ensures { result ≡ is_before_by (place_in nodes.now) (fault_of self) (fault_of other) }
     {
-        let key = (
-            pass(self.kind),
-            order.index(self.site),
-            self.kind.number(),
-            self.site.node(),
-        );
+        let key = (self.site.place(nodes), self.kind.number(), self.site.node());
         let other_key = (
-            pass(other.kind),
-            order.index(other.site),
+            other.site.place(nodes),
             other.kind.number(),
             other.site.node(),
         );
@@ -80,16 +81,12 @@ impl Fault {
 }
 
 // The first of two faults; of two that neither is before the other, the first given.
-pub(crate) fn earlier<P: SiteOrder>(
-    fault: Option<Fault>,
-    other: Option<Fault>,
-    order: &P,
-) -> Option<Fault>
-    ensures { told result ≡ merged_by (P.place_of order.now) (told fault) (told other) }
+pub(crate) fn earlier(fault: Option<Fault>, other: Option<Fault>, nodes: &[Node]) -> Option<Fault>
+    ensures { told result ≡ merged_by (place_in nodes.now) (told fault) (told other) }
 {
     match (fault, other) {
         (Some(fault), Some(other)) => {
-            if other.is_before(fault, order) {
+            if other.is_before(fault, nodes) {
                 Some(other)
             } else {
                 Some(fault)

@@ -1,5 +1,5 @@
 // What holds of each run of a policy.
-ghost use Rattle.policy_lang.specs.Laws.{OwnItems, SameTrace, OnePath, EndsAsEvaluated, AsksWithin, AsksOnce, AsksFew, BeginsHere, KeepsDecisions, ReadsNothingElse, FewNodes};
+ghost use Rattle.policy_lang.specs.Laws.{OwnItems, SameTrace, OnePath, EndsAsEvaluated, AsksWithin, AsksOnce, AsksFew, BeginsHere, KeepsDecisions, ReadsNothingElse, FewNodes, CountsNodes};
 
 /// What holds of each course: a key meets what was asked of it, keys that meet the same are asked
 /// the same, and two traces are equal or do not clash.
@@ -27,7 +27,9 @@ pub fn evaluation_laws()
     ensures cells { ReadsNothingElse }
 {}
 
-/// What holds of each policy that is well formed: it has at most 4,096 nodes.
+/// What holds of the nodes of a body: they are as many as its parts, and at most 4,096 where it is well
+/// formed.
 pub fn form_laws()
-    ensures { FewNodes }
+    ensures few { FewNodes }
+    ensures counts { CountsNodes }
 {}

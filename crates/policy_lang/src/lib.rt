@@ -3,25 +3,28 @@
 
 ghost use Rattle.std.specs.Prelude.{◌≡◌, ◌≤◌, List, length};
 ghost use Rattle.maple_base.specs.PolicyLimits.{most_tables};
-ghost use Rattle.policy_lang.specs.Blocks.{statements_of, IsOutList};
+ghost use Rattle.policy_lang.specs.Blocks.{IsOutList};
+ghost use Rattle.policy_lang.specs.TreeOf.{acts_of, tree_of};
 ghost use Rattle.policy_lang.specs.Faults.{IsWellFormed};
+ghost use Rattle.policy_lang.specs.Sound.{IsSound};
 
 pub mod build;
 pub mod faults;
+pub mod form;
 pub mod laws;
-mod limits;
 pub mod name_fault;
 mod names;
+pub mod nodes;
 pub mod plain;
-pub mod site_order;
 mod types;
 
 pub use build::BuildError;
 pub use faults::{Fault, Site};
+pub use form::{Atom, Callee, Form};
 pub use maple_base::PolicyFault;
 use maple_base::{Field, Name, Names};
 pub use name_fault::first_name_fault;
-pub use site_order::{SiteOrder, TreeOrder};
+pub use nodes::{Limit, Node, Stop};
 use std::marker::Model;
 
 /// An expression. It gives a number, a truth or a place.
@@ -151,14 +154,14 @@ impl Exprs {
 impl Block {
     /// These statements.
     pub fn new(list: Vec<Statement>) -> Block
-        ensures { statements_of result ≡ list.items }
+        ensures { tree_of result ≡ acts_of list.items }
     {
         Block { list }
     }
 
     /// The statements, in order.
     pub fn items(&self) -> &[Statement]
-        ensures { result.now ≡ statements_of self.now }
+        ensures { acts_of result.now ≡ tree_of self.now }
     {
         &self.list
     }
@@ -172,14 +175,16 @@ pub struct Policy {
     learning: bool,
     body: Block,
     ghost few: { length tables ≤ most_tables },
-    ghost formed: { IsWellFormed tables body },
+    ghost formed: { IsWellFormed tables (tree_of body) },
+    ghost sound: { IsSound tables (tree_of body) },
 }
 
 impl Policy {
-    // A policy of at most 16 tables and of parts that are well formed.
+    // A policy of at most 16 tables and of parts that are well formed and sound.
     pub(crate) fn new(tables: Names, learning: bool, body: Block) -> Policy
         requires few { length tables ≤ most_tables }
-        requires formed { IsWellFormed tables body }
+        requires formed { IsWellFormed tables (tree_of body) }
+        requires sound { IsSound tables (tree_of body) }
         ensures tables { result.tables ≡ tables }
         ensures learning { result.learning ≡ learning }
         ensures body { result.body ≡ body }
@@ -206,10 +211,12 @@ impl Policy {
         self.learning
     }
 
-    /// The statements that are run on a packet. They are well formed.
+    /// The statements that are run on a packet. They are well formed; their numbers are below 2^64,
+    /// their names are names, and each `out` has 1 to 16 expressions.
     pub fn body(&self) -> &Block
         ensures body { result.now ≡ self.now.body }
-        ensures formed { IsWellFormed self.now.tables self.now.body }
+        ensures formed { IsWellFormed self.now.tables (tree_of self.now.body) }
+        ensures sound { IsSound self.now.tables (tree_of self.now.body) }
     {
         &self.body
     }

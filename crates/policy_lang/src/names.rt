@@ -1,6 +1,8 @@
 // The names in force at a place of a policy, and what they stand for.
-ghost use Rattle.std.specs.Prelude.{◌≡◌, length, take, IfOk, OnOk};
+ghost use Rattle.std.specs.Prelude.{◌≡◌, true, length, take, IfOk, OnOk};
+ghost use Rattle.std.specs.List.{list_all};
 ghost use Rattle.std.specs.Str.{bytes_eq};
+ghost use Rattle.maple_base.specs.Names.{is_name};
 ghost use Rattle.policy_lang.specs.Faults.{suits, same_type, meaning_of, with_name, table_names};
 ghost use Rattle.policy_lang.specs.Scopes.{type_of_value, type_known, meaning_of_value, meaning_known, names_of};
 
@@ -63,7 +65,8 @@ pub fn is_same(name: &Name, other: &Name) -> bool
 impl Scope {
     /// The tables of a policy.
     pub fn of_tables(alloc: Global, tables: &[Name]) -> Result<Scope, NoMemory>
-        ensures { IfOk result (λ scope. names_of scope ≡ table_names tables.now) }
+        ensures tables { IfOk result (λ scope. names_of scope ≡ table_names tables.now) }
+        ensures named { OnOk result (list_all is_name tables.now ≡ true) }
     {
         let mut scope = Scope {
             names: IndexMap::new(alloc),
@@ -76,15 +79,21 @@ impl Scope {
 
     /// What a name stands for, if it is in force.
     pub fn meaning(&self, name: &Name) -> Option<Meaning>
-        ensures { meaning_known result ≡ meaning_of name.now (names_of self.now) }
+        ensures meaning { meaning_known result ≡ meaning_of name.now (names_of self.now) }
+        ensures name { is_name name.now ≡ true }
     {
+        // Its type keeps that the text is a name.
+        name.text();
         self.names.get(name).copied()
     }
 
     /// Declares a name, unless it is in force.
     pub fn declare(&mut self, name: &Name, meaning: Meaning) -> Result<(), NoMemory>
-        ensures { OnOk result (names_of self.new ≡ with_name name.now (meaning_of_value meaning) (names_of self.old)) }
+        ensures names { OnOk result (names_of self.new ≡ with_name name.now (meaning_of_value meaning) (names_of self.old)) }
+        ensures name { is_name name.now ≡ true }
     {
+        // Its type keeps that the text is a name.
+        name.text();
         if !self.names.contains_key(name) {
             self.names.insert(*name, meaning)?;
         }

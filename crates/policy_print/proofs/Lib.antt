@@ -1,1 +1,14 @@
+pub mod Depths
+pub mod Dropped
+pub mod Grammatical
 pub mod Indents
+pub mod Lawful
+pub mod Lengths
+pub mod Levels
+pub mod Lines
+pub mod Numbers
+pub mod Opened
+pub mod Pieces
+pub mod SameNodes
+pub mod SpelledActs
+pub mod SpelledParts

@@ -1,5 +1,8 @@
--- A reader must believe: Printed (the printed form).
--- Operators and Statements serve private contracts and proofs alone.
+-- A reader must believe: Printed (the printed form), Written (what is written in it), Parentheses (one pair of them dropped), Laws.
+-- Operators and Blocks serve private contracts and proofs alone.
+pub mod Blocks
+pub mod Laws
 pub mod Operators
+pub mod Parentheses
 pub mod Printed
-pub mod Statements
+pub mod Written

@@ -1,10 +1,13 @@
 // The text of expressions.
 ghost use Rattle.std.specs.Prelude.{◌≡◌, ◌++◌, nat_lt, decimal, OnOk, codes};
-ghost use Rattle.policy_print.specs.Printed.{◌&◌, level_of, sign_of, field_text, call_text, expr_text, more_text, exprs_text};
+ghost use Rattle.policy_lang.specs.TreeOf.{term_of, terms_of};
+ghost use Rattle.policy_lang.specs.Forms.{atom_of, callee_of};
+ghost use Rattle.policy_lang.specs.Nodes.{level_of};
+ghost use Rattle.policy_print.specs.Printed.{◌&◌, sign_of, field_text, call_text, callee_text, atom_text, expr_text, more_text, exprs_text};
 ghost use Rattle.policy_print.specs.Operators.{part_text, operation_text};
 
 use maple_base::{Field, Operator};
-use policy_lang::Expr;
+use policy_lang::{Atom, Callee, Expr, Form};
 use std::alloc::AllocError;
 
 fn sign_of(operator: Operator) -> &'static [u8]
@@ -24,20 +27,13 @@ fn sign_of(operator: Operator) -> &'static [u8]
 
 // How closely the last operator of an expression binds.
 fn level_of(expr: &Expr) -> u8
-    ensures { result ≡ level_of expr.now }
+    ensures { result ≡ level_of (term_of expr.now) }
 {
-    match expr {
-        Expr::Or(_, _) => Operator::Or.level(),
-        Expr::And(_, _) => Operator::And.level(),
-        Expr::Equal(_, _) => Operator::Equal.level(),
-        Expr::NotEqual(_, _) => Operator::NotEqual.level(),
-        Expr::Less(_, _) => Operator::Less.level(),
-        Expr::LessEqual(_, _) => Operator::LessEqual.level(),
-        Expr::Add(_, _) => Operator::Add.level(),
-        Expr::Sub(_, _) => Operator::Sub.level(),
-        Expr::Not(_) => 2,
-        Expr::Is(_, _) => 3,
-        _ => 5,
+    match expr.form() {
+        Form::Pair(operator, _, _) => operator.level(),
+        Form::Not(_) => 2,
+        Form::Is(_, _) => 3,
+        Form::Single(_) | Form::Call(_, _, _) => 5,
     }
 }
 
@@ -52,33 +48,43 @@ fn needs_parentheses(least: u8, level: u8) -> bool
 /// Appends an expression.
 #[cycle(exprs)]
 pub fn push_expr(text: &mut Vec<u8>, expr: &Expr) -> Result<(), AllocError>
-    ensures { OnOk result (text.new.items ≡ text.old.items ++ expr_text expr.now) }
+    ensures { OnOk result (text.new.items ≡ text.old.items ++ expr_text (term_of expr.now)) }
 {
-    match expr {
-        Expr::Number(number) => push_number(text, *number),
-        Expr::Var(name) => text.extend_from_slice(name.text()),
-        Expr::SwitchOf(name) => push_part_of(text, name.text(), b".switch"),
-        Expr::PortOf(name) => push_part_of(text, name.text(), b".port"),
-        Expr::PacketSwitch => text.extend_from_slice(b"pkt.switch"),
-        Expr::Packet(field) => push_field(text, *field),
-        Expr::Up(switch, port) => push_call(text, b"up", switch, port),
-        Expr::At(switch, port) => push_call(text, b"at", switch, port),
-        Expr::Is(field, value) => {
-            push_test(text, *field)?;
+    match expr.form() {
+        Form::Single(atom) => push_atom(text, atom),
+        Form::Call(callee, left, right) => push_call(text, callee_text(callee), left, right),
+        Form::Is(field, value) => {
+            push_test(text, field)?;
             push_part(text, 4, value)
         }
-        Expr::Not(part) => {
+        Form::Not(part) => {
             text.extend_from_slice(b"not ")?;
             push_part(text, 2, part)
         }
-        Expr::And(left, right) => push_operation(text, Operator::And, left, right),
-        Expr::Or(left, right) => push_operation(text, Operator::Or, left, right),
-        Expr::Add(left, right) => push_operation(text, Operator::Add, left, right),
-        Expr::Sub(left, right) => push_operation(text, Operator::Sub, left, right),
-        Expr::Equal(left, right) => push_operation(text, Operator::Equal, left, right),
-        Expr::NotEqual(left, right) => push_operation(text, Operator::NotEqual, left, right),
-        Expr::Less(left, right) => push_operation(text, Operator::Less, left, right),
-        Expr::LessEqual(left, right) => push_operation(text, Operator::LessEqual, left, right),
+        Form::Pair(operator, left, right) => push_operation(text, operator, left, right),
+    }
+}
+
+fn callee_text(callee: Callee) -> &'static [u8]
+    ensures { result.now ≡ callee_text (callee_of callee) }
+{
+    match callee {
+        Callee::Up => b"up",
+        Callee::At => b"at",
+    }
+}
+
+// Appends an expression without parts.
+fn push_atom(text: &mut Vec<u8>, atom: Atom<'_>) -> Result<(), AllocError>
+    ensures { OnOk result (text.new.items ≡ text.old.items ++ atom_text (atom_of atom.entry)) }
+{
+    match atom {
+        Atom::Number(number) => push_number(text, number),
+        Atom::Var(name) => text.extend_from_slice(name.text()),
+        Atom::SwitchOf(name) => push_part_of(text, name.text(), b".switch"),
+        Atom::PortOf(name) => push_part_of(text, name.text(), b".port"),
+        Atom::PacketSwitch => text.extend_from_slice(b"pkt.switch"),
+        Atom::Packet(field) => push_field(text, field),
     }
 }
 
@@ -90,7 +96,7 @@ fn push_operation(
     left: &Expr,
     right: &Expr,
 ) -> Result<(), AllocError>
-    ensures { OnOk result (text.new.items ≡ text.old.items ++ operation_text operator left.now right.now) }
+    ensures { OnOk result (text.new.items ≡ text.old.items ++ operation_text operator (term_of left.now) (term_of right.now)) }
 {
     push_part(text, operator.left_level(), left)?;
     push_operator(text, operator)?;
@@ -100,7 +106,7 @@ fn push_operation(
 // Appends a call of two parts.
 #[cycle(exprs)]
 fn push_call(text: &mut Vec<u8>, name: &[u8], left: &Expr, right: &Expr) -> Result<(), AllocError>
-    ensures { OnOk result (text.new.items ≡ text.old.items ++ call_text name.now (expr_text left.now) (expr_text right.now)) }
+    ensures { OnOk result (text.new.items ≡ text.old.items ++ call_text name.now (expr_text (term_of left.now)) (expr_text (term_of right.now))) }
 {
     text.extend_from_slice(name)?;
     text.extend_from_slice(b"(")?;
@@ -113,7 +119,7 @@ fn push_call(text: &mut Vec<u8>, name: &[u8], left: &Expr, right: &Expr) -> Resu
 // Appends an expression where one of at least a level needs no parentheses.
 #[cycle(exprs)]
 fn push_part(text: &mut Vec<u8>, least: u8, part: &Expr) -> Result<(), AllocError>
-    ensures { OnOk result (text.new.items ≡ text.old.items ++ part_text least part.now) }
+    ensures { OnOk result (text.new.items ≡ text.old.items ++ part_text least (term_of part.now)) }
 {
     if !needs_parentheses(least, level_of(part)) {
         return push_expr(text, part);
@@ -163,7 +169,7 @@ fn push_operator(text: &mut Vec<u8>, operator: Operator) -> Result<(), AllocErro
 
 /// Appends expressions with commas between.
 pub fn push_exprs(text: &mut Vec<u8>, exprs: &[Expr]) -> Result<(), AllocError>
-    ensures { OnOk result (text.new.items ≡ text.old.items ++ exprs_text exprs.now) }
+    ensures { OnOk result (text.new.items ≡ text.old.items ++ exprs_text (terms_of exprs.now)) }
 {
     match exprs {
         [] => Ok(()),
@@ -175,7 +181,7 @@ pub fn push_exprs(text: &mut Vec<u8>, exprs: &[Expr]) -> Result<(), AllocError>
 }
 
 fn push_further_exprs(text: &mut Vec<u8>, exprs: &[Expr]) -> Result<(), AllocError>
-    ensures { OnOk result (text.new.items ≡ text.old.items ++ more_text exprs.now) }
+    ensures { OnOk result (text.new.items ≡ text.old.items ++ more_text (terms_of exprs.now)) }
 {
     for expr in exprs {
         text.extend_from_slice(b", ")?;

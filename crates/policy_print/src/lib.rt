@@ -2,6 +2,7 @@
 #![tactic(auto)]
 
 mod expressions;
+pub mod laws;
 mod policies;
 mod statements;
 

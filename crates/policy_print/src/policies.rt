@@ -1,7 +1,8 @@
 // The text of policies.
 ghost use Rattle.std.specs.Prelude.{◌≡◌, ◌++◌, OnOk, OnErr};
 ghost use Rattle.std.specs.List.{flat_map};
-ghost use Rattle.policy_print.specs.Printed.{table_text, opening, policy_text, block_text};
+ghost use Rattle.policy_lang.specs.TreeOf.{tree_of};
+ghost use Rattle.policy_print.specs.Printed.{table_text, opening, policy_text, acts_text};
 
 use crate::statements::push_statements;
 use maple_base::{Name, NoMemory};
@@ -65,7 +66,7 @@ fn opening(learning: bool) -> &'static [u8]
 
 // Appends the statements of a policy. It has few nodes, so its blocks are few.
 fn push_body(text: &mut Vec<u8>, policy: &Policy) -> Result<(), AllocError>
-    ensures { OnOk result (text.new.items ≡ text.old.items ++ block_text policy.now.body 1) }
+    ensures { OnOk result (text.new.items ≡ text.old.items ++ acts_text (tree_of policy.now.body) 1) }
 {
     form_laws();
     push_statements(text, 1, policy.body().items())

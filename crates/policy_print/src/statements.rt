@@ -1,11 +1,11 @@
 // The text of statements.
-ghost use Rattle.std.specs.Prelude.{◌≡◌, ◌+◌, ◌≤◌, ◌++◌, suc, map, OnOk, codes};
+ghost use Rattle.std.specs.Prelude.{◌≡◌, ◌+◌, ◌≤◌, ◌++◌, suc, OnOk, codes};
 ghost use Rattle.std.specs.Option.{option_map};
 ghost use Rattle.maple_base.specs.PolicyLimits.{most_nodes};
-ghost use Rattle.policy_lang.specs.Faults.{checked, size_otherwise, sizes_in};
-ghost use Rattle.policy_lang.specs.Limits.{statement_checked};
-ghost use Rattle.policy_print.specs.Printed.{◌&◌, expr_text, exprs_text, head_text, indent, line, else_text, if_text, while_text, block_text};
-ghost use Rattle.policy_print.specs.Statements.{statement_lines, lines_of};
+ghost use Rattle.policy_lang.specs.TreeOf.{term_of, terms_of, ask_of, act_of, acts_of, tree_of};
+ghost use Rattle.policy_lang.specs.Sizes.{act_size, acts_size, else_size};
+ghost use Rattle.policy_print.specs.Printed.{◌&◌, expr_text, exprs_text, head_text, indent, line, else_text, if_text, while_text, act_text, acts_text};
+ghost use Rattle.policy_print.specs.Blocks.{else_lines};
 
 use crate::expressions::{push_expr, push_exprs};
 use maple_base::Name;
@@ -14,14 +14,14 @@ use std::alloc::AllocError;
 
 /// Appends statements that stand in so many blocks.
 #[cycle(statements)]
-#[tactic(auto, using(policy_lang::proofs::Walked::one_within))]
+#[tactic(auto, using(policy_lang::proofs::Rolls::act_within, crate::proofs::Lines::rest_lines))]
 pub fn push_statements(
     text: &mut Vec<u8>,
     blocks: u32,
     statements: &[Statement],
 ) -> Result<(), AllocError>
-    requires { blocks + sizes_in (map statement_checked statements.now) ≤ most_nodes + 1 }
-    ensures { OnOk result (text.new.items ≡ text.old.items ++ lines_of statements.now blocks) }
+    requires { blocks + acts_size (acts_of statements.now) ≤ most_nodes + 1 }
+    ensures { OnOk result (text.new.items ≡ text.old.items ++ acts_text (acts_of statements.now) blocks) }
 {
     for statement in statements {
         push_statement(text, blocks, statement)?;
@@ -30,9 +30,10 @@ pub fn push_statements(
 }
 
 #[cycle(statements)]
+#[tactic(auto, using(policy_lang::proofs::Rolls::if_tree, policy_lang::proofs::Rolls::while_tree, policy_lang::proofs::Found::if_size, crate::proofs::Lines::if_lines))]
 fn push_statement(text: &mut Vec<u8>, blocks: u32, statement: &Statement) -> Result<(), AllocError>
-    requires { blocks + (statement_checked statement.now).size ≤ most_nodes + 1 }
-    ensures { OnOk result (text.new.items ≡ text.old.items ++ statement_lines statement.now blocks) }
+    requires { blocks + act_size (act_of statement.now) ≤ most_nodes + 1 }
+    ensures { OnOk result (text.new.items ≡ text.old.items ++ act_text (act_of statement.now) blocks) }
 {
     match statement {
         Statement::Drop => push_line(text, blocks, b"drop;"),
@@ -54,8 +55,8 @@ fn push_if(
     first: &Block,
     second: &Option<Block>,
 ) -> Result<(), AllocError>
-    requires { suc blocks + ((checked first.now).size + size_otherwise (option_map checked second.now)) ≤ most_nodes + 1 }
-    ensures { OnOk result (text.new.items ≡ text.old.items ++ if_text head.now (block_text first.now) (option_map block_text second.now) blocks) }
+    requires { suc blocks + (acts_size (tree_of first.now) + else_size (option_map tree_of second.now)) ≤ most_nodes + 1 }
+    ensures { OnOk result (text.new.items ≡ text.old.items ++ if_text (ask_of head.now) (acts_text (tree_of first.now)) (else_lines second.now) blocks) }
 {
     push_if_line(text, blocks, head)?;
     push_statements(text, blocks + 1, first.items())?;
@@ -65,8 +66,8 @@ fn push_if(
 // Appends the block of an `else`, if there is one, and the closing brace.
 #[cycle(statements)]
 fn push_else(text: &mut Vec<u8>, blocks: u32, second: &Option<Block>) -> Result<(), AllocError>
-    requires { suc blocks + size_otherwise (option_map checked second.now) ≤ most_nodes + 1 }
-    ensures { OnOk result (text.new.items ≡ text.old.items ++ else_text (option_map block_text second.now) blocks) }
+    requires { suc blocks + else_size (option_map tree_of second.now) ≤ most_nodes + 1 }
+    ensures { OnOk result (text.new.items ≡ text.old.items ++ else_text (else_lines second.now) blocks) }
 {
     if let Some(second) = second {
         push_else_line(text, blocks)?;
@@ -77,8 +78,8 @@ fn push_else(text: &mut Vec<u8>, blocks: u32, second: &Option<Block>) -> Result<
 
 #[cycle(statements)]
 fn push_while(text: &mut Vec<u8>, blocks: u32, test: &Expr, body: &Block) -> Result<(), AllocError>
-    requires { suc blocks + (checked body.now).size ≤ most_nodes + 1 }
-    ensures { OnOk result (text.new.items ≡ text.old.items ++ while_text test.now (block_text body.now) blocks) }
+    requires { suc blocks + acts_size (tree_of body.now) ≤ most_nodes + 1 }
+    ensures { OnOk result (text.new.items ≡ text.old.items ++ while_text (term_of test.now) (acts_text (tree_of body.now)) blocks) }
 {
     push_while_line(text, blocks, test)?;
     push_statements(text, blocks + 1, body.items())?;
@@ -86,7 +87,7 @@ fn push_while(text: &mut Vec<u8>, blocks: u32, test: &Expr, body: &Block) -> Res
 }
 
 fn push_out(text: &mut Vec<u8>, blocks: u32, ports: &[Expr]) -> Result<(), AllocError>
-    ensures { OnOk result (text.new.items ≡ text.old.items ++ line blocks (codes "out " & exprs_text ports.now & codes ";")) }
+    ensures { OnOk result (text.new.items ≡ text.old.items ++ line blocks (codes "out " & exprs_text (terms_of ports.now) & codes ";")) }
 {
     push_indent(text, blocks)?;
     text.extend_from_slice(b"out ")?;
@@ -95,7 +96,7 @@ fn push_out(text: &mut Vec<u8>, blocks: u32, ports: &[Expr]) -> Result<(), Alloc
 }
 
 fn push_route(text: &mut Vec<u8>, blocks: u32, place: &Expr) -> Result<(), AllocError>
-    ensures { OnOk result (text.new.items ≡ text.old.items ++ line blocks (codes "route " & expr_text place.now & codes ";")) }
+    ensures { OnOk result (text.new.items ≡ text.old.items ++ line blocks (codes "route " & expr_text (term_of place.now) & codes ";")) }
 {
     push_indent(text, blocks)?;
     text.extend_from_slice(b"route ")?;
@@ -104,7 +105,7 @@ fn push_route(text: &mut Vec<u8>, blocks: u32, place: &Expr) -> Result<(), Alloc
 }
 
 fn push_let(text: &mut Vec<u8>, blocks: u32, name: &Name, value: &Expr) -> Result<(), AllocError>
-    ensures { OnOk result (text.new.items ≡ text.old.items ++ line blocks (codes "let " & name.now & codes " = " & expr_text value.now & codes ";")) }
+    ensures { OnOk result (text.new.items ≡ text.old.items ++ line blocks (codes "let " & name.now & codes " = " & expr_text (term_of value.now) & codes ";")) }
 {
     push_indent(text, blocks)?;
     text.extend_from_slice(b"let ")?;
@@ -112,7 +113,7 @@ fn push_let(text: &mut Vec<u8>, blocks: u32, name: &Name, value: &Expr) -> Resul
 }
 
 fn push_assign(text: &mut Vec<u8>, blocks: u32, name: &Name, value: &Expr) -> Result<(), AllocError>
-    ensures { OnOk result (text.new.items ≡ text.old.items ++ line blocks (name.now & codes " = " & expr_text value.now & codes ";")) }
+    ensures { OnOk result (text.new.items ≡ text.old.items ++ line blocks (name.now & codes " = " & expr_text (term_of value.now) & codes ";")) }
 {
     push_indent(text, blocks)?;
     push_value(text, name, value)
@@ -120,7 +121,7 @@ fn push_assign(text: &mut Vec<u8>, blocks: u32, name: &Name, value: &Expr) -> Re
 
 // Appends a name and its value, up to the end of the line.
 fn push_value(text: &mut Vec<u8>, name: &Name, value: &Expr) -> Result<(), AllocError>
-    ensures { OnOk result (text.new.items ≡ text.old.items ++ (name.now & codes " = " & expr_text value.now & codes ";" & codes "\n")) }
+    ensures { OnOk result (text.new.items ≡ text.old.items ++ (name.now & codes " = " & expr_text (term_of value.now) & codes ";" & codes "\n")) }
 {
     text.extend_from_slice(name.text())?;
     text.extend_from_slice(b" = ")?;
@@ -129,7 +130,7 @@ fn push_value(text: &mut Vec<u8>, name: &Name, value: &Expr) -> Result<(), Alloc
 }
 
 fn push_if_line(text: &mut Vec<u8>, blocks: u32, head: &Head) -> Result<(), AllocError>
-    ensures { OnOk result (text.new.items ≡ text.old.items ++ line blocks (codes "if " & head_text head.now & codes " {")) }
+    ensures { OnOk result (text.new.items ≡ text.old.items ++ line blocks (codes "if " & head_text (ask_of head.now) & codes " {")) }
 {
     push_indent(text, blocks)?;
     text.extend_from_slice(b"if ")?;
@@ -144,7 +145,7 @@ fn push_else_line(text: &mut Vec<u8>, blocks: u32) -> Result<(), AllocError>
 }
 
 fn push_while_line(text: &mut Vec<u8>, blocks: u32, test: &Expr) -> Result<(), AllocError>
-    ensures { OnOk result (text.new.items ≡ text.old.items ++ line blocks (codes "while " & expr_text test.now & codes " {")) }
+    ensures { OnOk result (text.new.items ≡ text.old.items ++ line blocks (codes "while " & expr_text (term_of test.now) & codes " {")) }
 {
     push_indent(text, blocks)?;
     text.extend_from_slice(b"while ")?;
@@ -153,7 +154,7 @@ fn push_while_line(text: &mut Vec<u8>, blocks: u32, test: &Expr) -> Result<(), A
 }
 
 fn push_head(text: &mut Vec<u8>, head: &Head) -> Result<(), AllocError>
-    ensures { OnOk result (text.new.items ≡ text.old.items ++ head_text head.now) }
+    ensures { OnOk result (text.new.items ≡ text.old.items ++ head_text (ask_of head.now)) }
 {
     match head {
         Head::Host(address, name) => push_bound(text, b"host(", address, b") as ", name),
@@ -174,7 +175,7 @@ fn push_bound(
     behind: &[u8],
     name: &Name,
 ) -> Result<(), AllocError>
-    ensures { OnOk result (text.new.items ≡ text.old.items ++ (ahead.now & expr_text expr.now & behind.now & name.now)) }
+    ensures { OnOk result (text.new.items ≡ text.old.items ++ (ahead.now & expr_text (term_of expr.now) & behind.now & name.now)) }
 {
     text.extend_from_slice(ahead)?;
     push_expr(text, expr)?;

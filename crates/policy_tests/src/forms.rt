@@ -3,9 +3,7 @@ use crate::support::{push_bytes, text_of};
 use maple_base::NoMemory;
 use policy_lang::Policy;
 use policy_lang::plain::is_plain;
-use policy_print::print_policy;
-use policy_text::{ReadError, is_basic, read_policy};
-use read_back::reread;
+use policy_text::{ReadError, is_basic, print_policy, read_policy};
 use std::alloc::Global;
 use std::test::Fail;
 
@@ -22,7 +20,7 @@ fn check_form(alloc: Global, text: &[u8], form: &str) -> Result<(), Fail> {
     if !is_printed(alloc, &policy, form.as_bytes())? {
         return Err(Fail::new(format!(in alloc; "printed otherwise: {form}")?));
     }
-    let again = reread(alloc, &policy)?;
+    let again = read_policy(alloc, form.as_bytes())?;
     if !is_printed(alloc, &again, form.as_bytes())? {
         return Err(Fail::new(format!(in alloc; "read back otherwise: {form}")?));
     }
@@ -367,6 +365,15 @@ const LIMITS: &[Fault] = &[
         "policy { @2047 drop;~if pkt.tp_dst is 22 { }@2047 drop;~ }",
         "1:20498 kind 9",
     ),
+    // The number is node 4,097, and a wrong token follows; with a sign there it is 33 deep.
+    (
+        "policy { @4065 drop; ~out @30 not ~1 1; }",
+        "1:24524 kind 9",
+    ),
+    (
+        "policy { @4065 drop; ~out @30 not ~1 + 1; }",
+        "1:24524 kind 8",
+    ),
     ("policy { @65525  ~ }", "none"),
     ("policy { @65526  ~ }", "1:65537 kind 10"),
     ("policy { out @64 (~1@64 )~; }", "none"),
@@ -448,7 +455,7 @@ fn long_text(alloc: Global, last: &str) -> Result<Vec<u8>, Fail> {
 fn read_back(alloc: Global, text: &[u8]) -> Result<String, Fail> {
     let policy = read_policy(alloc, text)?;
     let form = printed(alloc, &policy)?;
-    reread_form(alloc, &policy, &form)
+    reread_form(alloc, &form)
 }
 
 fn printed(alloc: Global, policy: &Policy) -> Result<Vec<u8>, NoMemory> {
@@ -457,8 +464,8 @@ fn printed(alloc: Global, policy: &Policy) -> Result<Vec<u8>, NoMemory> {
     Ok(form)
 }
 
-fn reread_form(alloc: Global, policy: &Policy, form: &[u8]) -> Result<String, Fail> {
-    match reread(alloc, policy) {
+fn reread_form(alloc: Global, form: &[u8]) -> Result<String, Fail> {
+    match read_policy(alloc, form) {
         Ok(again) => compared(alloc, &again, form),
         Err(ReadError::Refused { line, column, kind }) => {
             let fault = shown_fault(alloc, line, column, kind)?;

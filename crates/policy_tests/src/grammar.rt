@@ -2,7 +2,7 @@
 // the grammar, and what is read of texts.
 use crate::tokens::{push_token, push_word};
 use maple_base::NoMemory;
-use policy_grammar::{Event, Reader, read_events};
+use policy_grammar::{Event, Reader};
 use policy_tokens::{PlacedToken, Token, read_tokens};
 use std::alloc::Global;
 use std::test::Fail;
@@ -23,20 +23,14 @@ fn first_wrong(alloc: Global, tokens: &[PlacedToken]) -> Result<Option<usize>, N
     }
 }
 
-// Fails where the reader or the reading of a text's events tells another first wrong token.
+// Fails where the reader tells another first wrong token.
 fn check_wrong(alloc: Global, text: &str, wrong: Option<usize>) -> Result<(), Fail> {
     let tokens = read_tokens(alloc, text.as_bytes())?;
-    if first_wrong(alloc, tokens.items())? == wrong
-        && first_wrong_event(alloc, tokens.items())? == wrong
-    {
+    if first_wrong(alloc, tokens.items())? == wrong {
         Ok(())
     } else {
         Err(Fail::from(text))
     }
-}
-
-fn first_wrong_event(alloc: Global, tokens: &[PlacedToken]) -> Result<Option<usize>, NoMemory> {
-    Ok(read_events(alloc, tokens)?.wrong)
 }
 
 // A text, and the number of its first wrong token.
@@ -195,16 +189,7 @@ fn emitted(alloc: Global, tokens: &[PlacedToken]) -> Result<Vec<Event>, NoMemory
 // What is read of a text, part by part.
 fn events_of(alloc: Global, text: &str) -> Result<String, Fail> {
     let tokens = read_tokens(alloc, text.as_bytes())?;
-    let reading = read_events(alloc, tokens.items())?;
-    if adds_these(alloc, tokens.items(), &reading.events)? {
-        shown_events(alloc, &reading.events)
-    } else {
-        Err(Fail::from("the reader adds others"))
-    }
-}
-
-fn adds_these(alloc: Global, tokens: &[PlacedToken], events: &[Event]) -> Result<bool, NoMemory> {
-    Ok(emitted(alloc, tokens)?.as_slice() == events)
+    shown_events(alloc, &emitted(alloc, tokens.items())?)
 }
 
 fn shown_events(alloc: Global, events: &[Event]) -> Result<String, Fail> {

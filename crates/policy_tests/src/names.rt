@@ -3,22 +3,11 @@
 use maple_base::{Name, NoMemory, Place, Value};
 use policy_eval::heads::{bind, number_in_table, place_of_host, port_of_hop};
 use policy_eval::{Datum, Scope};
-use policy_lang::{Policy, Site, SiteOrder, TreeOrder, first_name_fault};
+use policy_lang::nodes::nodes;
+use policy_lang::{Node, Policy, first_name_fault};
 use policy_text::read_policy;
 use std::alloc::Global;
 use std::test::Fail;
-
-// All parts of a policy at one place.
-#[derive(Clone, Copy)]
-struct OnePlace;
-
-impl SiteOrder for OnePlace {
-    ghost place_of = { λ order site. 0 };
-
-    fn index(&self, _site: Site) -> u64 {
-        0
-    }
-}
 
 // The tables of these names, of which each is one byte.
 fn tables_of(alloc: Global, names: &str) -> Result<Vec<Name>, Fail> {
@@ -29,15 +18,16 @@ fn tables_of(alloc: Global, names: &str) -> Result<Vec<Name>, Fail> {
     Ok(tables)
 }
 
-// The node and the kind of the first fault of names, if a policy had these tables in place of its own.
-fn fault_with<P: SiteOrder>(
+// The node and the kind of the first fault of names, if a policy had these tables in place of its own,
+// where its nodes lie so.
+fn fault_with(
     alloc: Global,
     policy: &Policy,
     tables: &[Name],
-    order: &P,
+    nodes: &[Node],
 ) -> Result<(u32, u8), NoMemory> {
     let body = policy.body();
-    match first_name_fault(alloc, tables, body, order)? {
+    match first_name_fault(alloc, tables, body, nodes)? {
         Some(fault) => Ok((fault.site.node(), fault.kind.number())),
         None => Ok((0, 0)),
     }
@@ -47,8 +37,11 @@ fn fault_with<P: SiteOrder>(
 fn faults_with(alloc: Global, text: &str, names: &str) -> Result<((u32, u8), (u32, u8)), Fail> {
     let policy = read_policy(alloc, text.as_bytes())?;
     let tables = tables_of(alloc, names)?;
-    let ordered = fault_with(alloc, &policy, &tables, &TreeOrder)?;
-    let at_one = fault_with(alloc, &policy, &tables, &OnePlace)?;
+    let ordered = match nodes(alloc, policy.body()) {
+        Ok(nodes) => fault_with(alloc, &policy, &tables, &nodes)?,
+        Err(_) => return Err("nodes".into()),
+    };
+    let at_one = fault_with(alloc, &policy, &tables, &[])?;
     Ok((ordered, at_one))
 }
 

@@ -1,6 +1,10 @@
 // What the tables of several tests share.
 use maple_base::NoMemory;
 use maple_text::{cut, number_of};
+use policy_lang::Node;
+use policy_outline::read_outline;
+use policy_tokens::read_tokens;
+use policy_tree::{Parts, build};
 use std::alloc::Global;
 use std::test::Fail;
 
@@ -34,4 +38,12 @@ pub(crate) fn push_bytes(shown: &mut String, text: &[u8]) -> Result<(), NoMemory
         shown.push(char::from(*byte))?;
     }
     Ok(())
+}
+
+// The parts of a text that passes no limit, and its nodes.
+pub(crate) fn parts_of(alloc: Global, text: &[u8]) -> Result<(Parts, Vec<Node>), Fail> {
+    let tokens = read_tokens(alloc, text)?;
+    let outline = read_outline(alloc, tokens.items())?;
+    let parts = build(alloc, &outline.events)?;
+    Ok((parts, outline.nodes))
 }

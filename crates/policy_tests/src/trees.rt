@@ -1,11 +1,9 @@
 // Trees of texts, and policies of trees.
-use crate::support::{push_bytes, text_of};
-use maple_base::{NoMemory, Operator};
-use policy_grammar::{Event, read_events};
-use policy_lang::{BuildError, Policy};
+use crate::support::{parts_of, push_bytes, text_of};
+use maple_base::{Name, NoMemory};
+use policy_lang::{Block, BuildError, Expr, Exprs, Head, Policy, Statement};
 use policy_print::print_policy;
-use policy_tokens::{Keyword, PlacedToken, Sign, Token, read_tokens};
-use policy_tree::{Parts, build};
+use policy_tree::Parts;
 use std::alloc::Global;
 use std::test::Fail;
 
@@ -33,23 +31,10 @@ fn told(alloc: Global, node: u32, kind: u8) -> Result<String, Fail> {
     Ok(format!(in alloc; "node {node} kind {kind}")?)
 }
 
-// The same of what was read of a text; nothing where it doesn't fit together.
-fn tree_of(alloc: Global, events: &[Event]) -> Result<String, Fail> {
-    match build(alloc, events)? {
-        Some(parts) => policy_of(alloc, parts),
-        None => Ok(format!(in alloc; "nothing")?),
-    }
-}
-
-fn tree_of_tokens(alloc: Global, tokens: &[PlacedToken]) -> Result<String, Fail> {
-    let reading = read_events(alloc, tokens)?;
-    tree_of(alloc, &reading.events)
-}
-
+// The same of a text.
 fn tree_of_row(alloc: Global, row: &str) -> Result<String, Fail> {
-    let text = text_of(alloc, row)?;
-    let tokens = read_tokens(alloc, &text)?;
-    tree_of_tokens(alloc, tokens.items())
+    let (parts, _nodes) = parts_of(alloc, &text_of(alloc, row)?)?;
+    policy_of(alloc, parts)
 }
 
 // A text, and its tree's printed form or its first fault.
@@ -85,35 +70,20 @@ const TEXTS: &[Row] = &[
         "node 4 kind 6",
     ),
     ("table t; policy { out t; }", "node 2 kind 6"),
-    // limits
-    (
-        "policy { out 1@30  + 1~; }",
-        "policy {\n  out 1@30  + 1~;\n}\n",
-    ),
-    ("policy { out 1@31  + 1~; }", "node 33 kind 8"),
-    (
-        "policy { if @29 not ~1 == 1 { } }",
-        "policy {\n  if @29 not ~1 == 1 {\n  }\n}\n",
-    ),
-    ("policy { if @30 not ~1 == 1 { } }", "node 33 kind 8"),
-    ("policy { @4096 drop; ~}", "policy {\n@4096   drop;\n~}\n"),
-    ("policy { @4097 drop; ~}", "node 4097 kind 9"),
-    // 4,095 nodes, and then a sum behind `out`: its last sign is node 4,097. With 31 signs its
-    // first 1, which stands at the same place, is 33 deep and node 4,128.
-    (
-        "policy { @4095 drop; ~out 1@30  + 1~; }",
-        "node 4097 kind 9",
-    ),
-    (
-        "policy { @4095 drop; ~out 1@31  + 1~; }",
-        "node 4128 kind 8",
-    ),
-    // the earlier of two faults, and a limit ahead of an earlier name
+    // a type at the parenthesis that the printed form has, ahead of a name inside; and where it has none
+    ("policy { out (x == 1) + 2; }", "node 3 kind 6"),
+    ("policy { if not (x + 1) { } }", "node 4 kind 4"),
+    ("policy { if (x + 1) { drop; } }", "node 3 kind 4"),
+    // the earlier of two faults
     ("policy { out x; if 1 { drop; } }", "node 2 kind 4"),
-    ("policy { out x; out 1@31  + 1~; }", "node 35 kind 8"),
     // a name ahead of a type at one place
     ("policy { if x + 1 { drop; } }", "node 3 kind 4"),
     // well formed
+    ("policy { out 1; }", "policy {\n  out 1;\n}\n"),
+    (
+        "policy { out 1@15 , 1~; }",
+        "policy {\n  out 1@15 , 1~;\n}\n",
+    ),
     (
         "policy learning { if host(1) as x { route x; } }",
         "policy learning {\n  if host(1) as x {\n    route x;\n  }\n}\n",
@@ -128,7 +98,6 @@ const TEXTS: &[Row] = &[
     ),
 ];
 
-// Trees of texts, whatever limits they pass.
 #[test]
 fn trees_of_texts(rt: HostRuntime) -> Result<(), Fail> {
     let alloc = rt.alloc();
@@ -139,67 +108,161 @@ fn trees_of_texts(rt: HostRuntime) -> Result<(), Fail> {
     Ok(())
 }
 
-const ONE: Event = Event::Single(Token::Number(1));
-
-const TWO: Event = Event::Single(Token::Number(2));
-
-// What is read of no text.
-#[test]
-fn trees_of_parts_that_do_not_fit(rt: HostRuntime) -> Result<(), Fail> {
-    let rows: [&[Event]; 15] = [
-        &[Event::GroupEnd, Event::Route],
-        &[ONE, Event::Pair(Operator::Add), Event::Route],
-        &[ONE, TWO, Event::Call, Event::Route],
-        &[Event::Negation],
-        &[ONE, TWO, Event::Test, Event::Route],
-        &[ONE, Event::Host, Event::Bind],
-        &[ONE, Event::Let],
-        &[ONE, Event::Out(2)],
-        &[Event::Close],
-        &[Event::Open, Event::Close, Event::If],
-        &[ONE],
-        &[Event::Open, Event::Begin, Event::Drop],
-        &[
-            Event::Begin,
-            Event::Single(Token::Keyword(Keyword::Drop)),
-            Event::Route,
-        ],
-        &[
-            Event::Begin,
-            Event::Single(Token::Sign(Sign::Plus)),
-            Event::Route,
-        ],
-        &[Event::Begin, Event::Out(0)],
-    ];
-    for (index, events) in rows.iter().enumerate() {
-        let got = tree_of(rt.alloc(), events)?;
-        assert_eq!(rt; got.as_str(), "nothing", "row {index}");
-    }
-    Ok(())
+// A body made in memory: `drop;` so many times; then `out x;`, where `unknown` says so; then an `if`
+// of so many times `not` round `1 == 1`, and an `out` of a sum of so many signs.
+#[derive(Clone, Copy)]
+struct Made {
+    drops: usize,
+    unknown: bool,
+    nots: Option<usize>,
+    signs: Option<usize>,
 }
 
-// An `out` of so many expressions.
-fn out_of(alloc: Global, count: usize) -> Result<String, Fail> {
-    let mut events = Vec::new(alloc);
-    events.push(Event::Begin)?;
-    for _ in 0..count {
-        events.push(ONE)?;
+const EMPTY: Made = Made {
+    drops: 0,
+    unknown: false,
+    nots: None,
+    signs: None,
+};
+
+fn sum_of(alloc: Global, signs: usize) -> Result<Expr, NoMemory> {
+    let mut sum = Expr::Number(1);
+    for _ in 0..signs {
+        sum = Expr::Add(Box::new(alloc, sum)?, Box::new(alloc, Expr::Number(1))?);
     }
-    events.push(Event::Out(count))?;
-    tree_of(alloc, &events)
+    Ok(sum)
 }
 
+fn nots_of(alloc: Global, nots: usize) -> Result<Expr, NoMemory> {
+    let (left, right) = (Expr::Number(1), Expr::Number(1));
+    let mut expr = Expr::Equal(Box::new(alloc, left)?, Box::new(alloc, right)?);
+    for _ in 0..nots {
+        expr = Expr::Not(Box::new(alloc, expr)?);
+    }
+    Ok(expr)
+}
+
+fn out_of(alloc: Global, expr: Expr) -> Result<Statement, NoMemory> {
+    let mut exprs = Vec::new(alloc);
+    exprs.push(expr)?;
+    Ok(Statement::Out(Exprs::new(exprs)))
+}
+
+fn body_of(alloc: Global, made: Made) -> Result<Block, Fail> {
+    let mut list = Vec::new(alloc);
+    for _ in 0..made.drops {
+        list.push(Statement::Drop)?;
+    }
+    if made.unknown {
+        let x = Name::new(b"x").ok_or("a name")?;
+        list.push(out_of(alloc, Expr::Var(x))?)?;
+    }
+    if let Some(nots) = made.nots {
+        let test = Head::Test(nots_of(alloc, nots)?);
+        list.push(Statement::If(test, Block::new(Vec::new(alloc)), None))?;
+    }
+    if let Some(signs) = made.signs {
+        list.push(out_of(alloc, sum_of(alloc, signs)?)?)?;
+    }
+    Ok(Block::new(list))
+}
+
+fn tree_made(alloc: Global, made: Made) -> Result<String, Fail> {
+    policy_of(
+        alloc,
+        Parts {
+            tables: Vec::new(alloc),
+            learning: false,
+            body: body_of(alloc, made)?,
+        },
+    )
+}
+
+// A body, and its printed form or its first fault.
+type MadeRow = (Made, &'static str);
+
+fn bodies() -> &'static [MadeRow] {
+    BODIES
+}
+
+const BODIES: &[MadeRow] = &[
+    (
+        Made {
+            signs: Some(30),
+            ..EMPTY
+        },
+        "policy {\n  out 1@30  + 1~;\n}\n",
+    ),
+    (
+        Made {
+            signs: Some(31),
+            ..EMPTY
+        },
+        "node 33 kind 8",
+    ),
+    (
+        Made {
+            nots: Some(29),
+            ..EMPTY
+        },
+        "policy {\n  if @29 not ~1 == 1 {\n  }\n}\n",
+    ),
+    (
+        Made {
+            nots: Some(30),
+            ..EMPTY
+        },
+        "node 33 kind 8",
+    ),
+    (
+        Made {
+            drops: 4096,
+            ..EMPTY
+        },
+        "policy {\n@4096   drop;\n~}\n",
+    ),
+    (
+        Made {
+            drops: 4097,
+            ..EMPTY
+        },
+        "node 4097 kind 9",
+    ),
+    // 4,095 nodes, and then a sum behind `out`: its last sign is node 4,097. With 31 signs its
+    // first 1, which stands at the same place, is 33 deep and node 4,128.
+    (
+        Made {
+            drops: 4095,
+            signs: Some(30),
+            ..EMPTY
+        },
+        "node 4097 kind 9",
+    ),
+    (
+        Made {
+            drops: 4095,
+            signs: Some(31),
+            ..EMPTY
+        },
+        "node 4128 kind 8",
+    ),
+    // a limit ahead of an earlier name
+    (
+        Made {
+            unknown: true,
+            signs: Some(31),
+            ..EMPTY
+        },
+        "node 35 kind 8",
+    ),
+];
+
 #[test]
-fn trees_of_outs(rt: HostRuntime) -> Result<(), Fail> {
+fn limits_of_trees(rt: HostRuntime) -> Result<(), Fail> {
     let alloc = rt.alloc();
-    let rows = [
-        (1, "policy {\n  out 1;\n}\n"),
-        (16, "policy {\n  out 1@15 , 1~;\n}\n"),
-        (17, "nothing"),
-    ];
-    for (count, want) in rows {
-        let got = out_of(alloc, count)?;
-        assert_eq!(rt; got.as_bytes(), text_of(alloc, want)?.as_slice(), "{count}");
+    for (made, want) in bodies() {
+        let got = tree_made(alloc, *made)?;
+        assert_eq!(rt; got.as_bytes(), text_of(alloc, want)?.as_slice(), "{want}");
     }
     Ok(())
 }

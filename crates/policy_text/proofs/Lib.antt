@@ -1,7 +1,8 @@
-pub mod Counts
-pub mod Fewness
+pub mod Declared
+pub mod Depths
 pub mod Narrow
 pub mod OneText
 pub mod Outlined
+pub mod ReadBack
 pub mod Spending
 pub mod Telling

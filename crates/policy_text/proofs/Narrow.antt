@@ -1,33 +1,34 @@
--- Two trees of the same statements are both narrow, or neither is.
-use Rattle.std.proofs.Common.{◌≡◌, suc, Bool, List, [], ◌∷◌, length, refl, sym, ap, ◌∙◌}
-use Rattle.std.specs.Prelude.{◌==◌}
+-- What the code tells of narrow statements.
+use Rattle.std.proofs.Common.{◌≡◌, Bool, true, false, List, [], ◌∷◌, length, refl, sym, ap, ◌∙◌}
+use Rattle.std.specs.Prelude.{◌&&◌, ◌==◌, Option, Some, None, is_none}
 use Rattle.std.specs.List.{list_all}
-use Rattle.policy_grammar.specs.Grammar.{Phrase, Statements}
-use Rattle.policy_lang.specs.declared.Block.{Block}
+use Rattle.std.proofs.lemmas.List.{length-map}
 use Rattle.policy_lang.specs.declared.Expr.{Expr}
-use Rattle.policy_lang.specs.Blocks.{statements_of}
-use Rattle.policy_tree.specs.Trees.{AreExprs, AreTrees}
-use Rattle.tree_laws.proofs.AlikeFolds.{Folding, one_block}
-use Rattle.policy_text.specs.Basic.{narrow_statement, narrow_block, is_narrow}
+use Rattle.policy_lang.specs.declared.Block.{Block}
+use Rattle.policy_lang.specs.declared.Head.{Head}
+use Rattle.policy_lang.specs.declared.Statement.{Statement}
+use Rattle.policy_lang.specs.declared.Statement.TheVariants as stmt
+use Rattle.policy_lang.specs.Tree.{Act, Acts, Out}
+use Rattle.policy_lang.specs.TreeOf.{term_of, terms_of, act_of, acts_of, tree_of}
+use Rattle.policy_lang.proofs.Rolls.{if_tree}
+use Rattle.policy_text.specs.Basic.{is_narrow_act, is_narrow}
 
-as_many : (as_ : List Phrase) (es : List Expr) → AreExprs as_ es → length es ≡ length as_
-as_many [] es h = ap length h
-as_many (a ∷ as_) [] h = absurd h
-as_many (a ∷ as_) (e ∷ es) h = ap suc (as_many as_ es h.1)
+all_narrow : (ss : List Statement) → list_all (λ s. is_narrow_act (act_of s)) ss ≡ is_narrow (acts_of ss)
+all_narrow [] = refl
+all_narrow (s ∷ ss) = ap (λ b. is_narrow_act (act_of s) && b) (all_narrow ss)
 
-abbrev narrowness : Folding Bool
-narrowness = record {
-  statement = narrow_statement;
-  block = narrow_block;
-  in_list = list_all (λ b. b);
-  at_block = λ x. refl;
-  outs = λ as_ es fs h g. ap (λ n. n == 1) (as_many as_ es h ∙ sym (as_many as_ fs g));
-  routes = λ a e f h g. refl;
-  lets = λ n a e f h g. refl;
-  assigns = λ n a e f h g. refl;
-  ifs = λ q h g p r first second. refl;
-  whiles = λ a e f h g body. refl;
-}
+-- the statements of a body
+pub body_narrow : (r : Bool) (ss : List Statement) (body : Acts) → r ≡ list_all (λ s. is_narrow_act (act_of s)) ss → acts_of ss ≡ body → r ≡ is_narrow body
+body_narrow r ss body h q = h ∙ all_narrow ss ∙ ap is_narrow q
 
-pub narrow_alike : (ss : Statements) (b c : Block) → AreTrees ss (statements_of b) → AreTrees ss (statements_of c) → is_narrow b ≡ is_narrow c
-narrow_alike = one_block narrowness
+pub out_narrow : (es : List Expr) (s : Act) → Out (terms_of es) ≡ s → (length es == 1) ≡ is_narrow_act s
+out_narrow es s q = ap (λ n. n == 1) (sym (length-map es term_of)) ∙ ap is_narrow_act q
+
+-- an `if` without an `else`, and one with an `else`
+pub if_narrow : (s : Statement) (h : Head) (b : Block) (o : Option Block) → s ≡ stmt.If h b o → is_none o ≡ true → is_narrow (tree_of b) ≡ is_narrow_act (act_of s)
+if_narrow s h b None is none = ap is_narrow_act (if_tree s h b None is)
+if_narrow s h b (Some c) is none = absurd (cc)
+
+pub else_narrow : (s : Statement) (h : Head) (b : Block) (o : Option Block) → s ≡ stmt.If h b o → is_none o ≡ false → false ≡ is_narrow_act (act_of s)
+else_narrow s h b None is some = absurd (cc)
+else_narrow s h b (Some c) is some = ap is_narrow_act (if_tree s h b (Some c) is)

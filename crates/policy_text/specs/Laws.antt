@@ -1,47 +1,40 @@
 -- What follows of a policy's text.
-use Rattle.std.specs.Prelude.{◌≡◌, ℕ, ◌≤◌, true, List}
+use Rattle.std.specs.Prelude.{◌≡◌, ℕ, ◌≤◌, true, List, length, map}
 use Rattle.maple_base.specs.declared.key.Key.{Key}
 use Rattle.maple_base.specs.declared.cells.Cell.{Cell}
 use Rattle.maple_base.specs.declared.cells.Value.{Value}
 use Rattle.maple_base.specs.declared.decision.Outcome.TheVariants.{Spent}
-use Rattle.maple_base.specs.PolicyLimits.{most_nodes}
+use Rattle.maple_base.specs.PolicyLimits.{most_bytes, most_nodes}
 use Rattle.policy_lang.specs.declared.Policy.{Policy}
-use Rattle.policy_lang.specs.Evaluation.{block_ending, eval_of}
+use Rattle.policy_lang.specs.Evaluation.{eval_of}
+use Rattle.policy_lang.specs.Nodes.{nodes_of}
 use Rattle.policy_lang.specs.Plain.{is_plain}
-use Rattle.policy_lang.specs.Courses.{block_course}
-use Rattle.policy_lang.specs.Reads.{reads_of}
-use Rattle.policy_lang.specs.Faults.{checked}
-use Rattle.policy_text.specs.Basic.{is_basic}
+use Rattle.policy_lang.specs.PolicyTree.{policy_tree}
+use Rattle.policy_lang.specs.Sizes.{acts_size}
+use Rattle.policy_lang.specs.Tree.{Acts}
+use Rattle.policy_lang.specs.TreeOf.{tree_of}
+use Rattle.policy_grammar.specs.Grammar.{File}
+use Rattle.policy_outline.specs.FileNodes.{file_nodes}
+use Rattle.policy_print.specs.Printed.{policy_text}
 use Rattle.policy_text.specs.Texts.{IsTextOf}
+use Rattle.policy_tree.specs.Trees.{statements_acts}
 
--- two policies of one text name the same tables, and both learn hosts or neither does
-abbrev pub OneHead : Type 0
-OneHead = (text : List ℕ) (p q : Policy) → IsTextOf p text → IsTextOf q text → (p.tables ≡ q.tables) × (p.learning ≡ q.learning)
+-- a text is that of one policy: two policies that have it name the same tables, both learn hosts or neither does, and their bodies are one tree. So they end the same on each packet, read and ask the same, and are printed the same
+abbrev pub OnePolicy : Type 0
+OnePolicy = (text : List ℕ) (p q : Policy) → IsTextOf p text → IsTextOf q text → policy_tree p ≡ policy_tree q
 
--- they end the same at each key, in each environment, and with each number of steps
-abbrev pub OneEnding : Type 0
-OneEnding = (text : List ℕ) (p q : Policy) → IsTextOf p text → IsTextOf q text → block_ending p.body ≡ block_ending q.body
+-- where the printed form of a policy has at most 65,536 bytes, it is a text of that policy
+abbrev pub IsReadBack : Policy → Type 0
+IsReadBack p = length (policy_text p) ≤ most_bytes → IsTextOf p (policy_text p)
 
--- they read the same cells
-abbrev pub OneReading : Type 0
-OneReading = (text : List ℕ) (p q : Policy) → IsTextOf p text → IsTextOf q text → reads_of p ≡ reads_of q
-
--- they ask the same of a packet
-abbrev pub OneCourse : Type 0
-OneCourse = (text : List ℕ) (p q : Policy) → IsTextOf p text → IsTextOf q text → block_course p.body ≡ block_course q.body
-
--- both are plain, or neither is
-abbrev pub OnePlainness : Type 0
-OnePlainness = (text : List ℕ) (p q : Policy) → IsTextOf p text → IsTextOf q text → is_plain p ≡ is_plain q
-
--- both are basic, or neither is
-abbrev pub OneBasis : Type 0
-OneBasis = (text : List ℕ) (p q : Policy) → IsTextOf p text → IsTextOf q text → is_basic p ≡ is_basic q
+-- the nodes of a text are as many as those of its tree, and one by one as deep
+abbrev pub NodesAgree : Type 0
+NodesAgree = (f : File) → map (λ x. x.depth) (file_nodes f) ≡ map (λ x. x.depth) (nodes_of (statements_acts f.body))
 
 -- with as many steps as the body has nodes, no plain policy runs out of steps, at any key
 abbrev pub NodesSuffice : Type 0
-NodesSuffice = (policy : Policy) (env : Cell → Value) (switch : ℕ) (k : Key) (b : ℕ) → is_plain policy ≡ true → (checked policy.body).size ≤ b → eval_of policy b env switch k ≡ Spent → ⊥
+NodesSuffice = (body : Acts) (env : Cell → Value) (switch : ℕ) (k : Key) (b : ℕ) → is_plain body ≡ true → acts_size body ≤ b → ¬ (eval_of body b env switch k ≡ Spent)
 
--- with 4,096 steps no plain policy that has a text runs out of steps, at any key
+-- with 4,096 steps no plain policy runs out of steps, at any key
 abbrev pub NeverSpent : Type 0
-NeverSpent = (text : List ℕ) (policy : Policy) → IsTextOf policy text → is_plain policy ≡ true → (env : Cell → Value) (switch : ℕ) (k : Key) → eval_of policy most_nodes env switch k ≡ Spent → ⊥
+NeverSpent = (policy : Policy) (env : Cell → Value) (switch : ℕ) (k : Key) → is_plain (tree_of policy.body) ≡ true → ¬ (eval_of (tree_of policy.body) most_nodes env switch k ≡ Spent)

@@ -1,4 +1,5 @@
--- A reader must believe: Texts (which policy a text is of, and what is told of others), Basic, Laws.
+-- A reader must believe: Texts (which policy a text is of, and what is told of others), Basic, Names (which names a policy declares), Laws.
 pub mod Basic
 pub mod Laws
+pub mod Names
 pub mod Texts

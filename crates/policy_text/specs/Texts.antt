@@ -1,22 +1,21 @@
 -- Which policy a text is of, and what is told of a text that is of none. A text is tested in three passes: over its bytes, words and signs; over its grammar and its limits; over its names and types. The first pass that finds a fault decides, by the first position, and there by the least number.
-use Rattle.std.specs.Prelude.{◌≡◌, ◌⊎◌, ℕ, map, List, [], Some, None, unwrap_or}
+use Rattle.std.specs.Prelude.{◌≡◌, ◌⊎◌, ℕ, map, List, [], Some, unwrap_or}
 use Rattle.std.specs.List.{slice_get}
 use Rattle.std.specs.Option.{option_map}
-use Rattle.policy_lang.specs.declared.Block.{Block}
-use Rattle.policy_lang.specs.declared.Policy.{Policy}
-use Rattle.policy_lang.specs.Blocks.{statements_of}
 use Rattle.maple_base.specs.declared.policy_fault.PolicyFault.{PolicyFault}
 use Rattle.maple_base.specs.PolicyFaults.{number_of}
-use Rattle.policy_lang.specs.Faults.{Fault, name_faults, first_by}
+use Rattle.policy_lang.specs.declared.Policy.{Policy}
+use Rattle.policy_lang.specs.Faults.{Fault, name_faults, first_by, place_in}
+use Rattle.policy_lang.specs.PolicyTree.{policy_tree}
 use Rattle.policy_tokens.specs.declared.token.Token.{Token}
 use Rattle.policy_tokens.specs.declared.token.Position.{Position}
 use Rattle.policy_tokens.specs.declared.fault.TokensError.TheVariants.{Fault as token_fault}
 use Rattle.policy_tokens.specs.Faults.{faults, IsErrorOf}
 use Rattle.policy_tokens.specs.Tokens.{TokenList, tokens_of}
 use Rattle.policy_grammar.specs.Grammar.{File, AreStatements, file_tokens}
-use Rattle.policy_limits.specs.Limits.{first_limit, IsFault}
-use Rattle.policy_tree.specs.Trees.{AreTrees}
-use Rattle.policy_places.specs.Places.{place_of}
+use Rattle.policy_outline.specs.FileNodes.{file_nodes, site_token}
+use Rattle.policy_outline.specs.Limits.{IsFree, IsFault}
+use Rattle.policy_tree.specs.Trees.{statements_acts, file_tree}
 use Rattle.policy_text.specs.declared.reading.ReadError.{ReadError}
 use Rattle.policy_text.specs.declared.reading.ReadError.TheVariants.{Refused, NoMemory}
 
@@ -29,16 +28,18 @@ plain list = map (λ p. p.token) list.tokens
 pub record IsFileOf (f : File) (tokens : List Token) : Type 0 where
   pub body : AreStatements f.body
   pub same : tokens ≡ file_tokens f
-  pub free : first_limit f ≡ None
+  pub free : IsFree f
 
--- the policy is that of these tokens: it has what their file names, its body is the file's syntax tree, and its names and types are right
+-- what is wrong with the names and types of a file
+abbrev pub file_faults : File → List Fault
+file_faults f = name_faults f.tables (statements_acts f.body)
+
+-- the policy is that of these tokens: it is the syntax tree of their file, and its names and types are right
 pub record IsPolicyOf (policy : Policy) (tokens : List Token) : Type 0 where
   pub file : File
   pub is_file : IsFileOf file tokens
-  pub tables : policy.tables ≡ file.tables
-  pub learning : policy.learning ≡ file.learning
-  pub body : AreTrees file.body (statements_of policy.body)
-  pub named : name_faults policy.tables policy.body ≡ []
+  pub tree : policy_tree policy ≡ file_tree file
+  pub named : file_faults file ≡ []
 
 -- the text is one of this policy: each of its bytes, words and signs is right, and the policy is that of its tokens
 pub record IsTextOf (policy : Policy) (text : List ℕ) : Type 0 where
@@ -65,15 +66,13 @@ pub record IsOutlineFault (list : TokenList) (position : Position) (kind : ℕ) 
   pub lies : position ≡ token_position list token
   pub number : kind ≡ number_of fault
 
--- the third pass finds it: in a syntax tree of the text
+-- the third pass finds it: of the names and types of its file, the first by the tokens at which they lie, tables ahead of all
 pub record IsNameFault (list : TokenList) (position : Position) (kind : ℕ) : Type 0 where
   pub file : File
   pub is_file : IsFileOf file (plain list)
-  pub body : Block
-  pub tree : AreTrees file.body (statements_of body)
   pub fault : Fault
-  pub first : first_by (place_of file) (name_faults file.tables body) ≡ Some fault
-  pub lies : position ≡ token_position list (place_of file fault.site)
+  pub first : first_by (place_in (file_nodes file)) (file_faults file) ≡ Some fault
+  pub lies : position ≡ token_position list (site_token file fault.site)
   pub number : kind ≡ number_of fault.kind
 
 -- one pass finds it, and the passes ahead find nothing

@@ -1,22 +1,32 @@
 // What follows of a policy's text.
-ghost use Rattle.policy_text.specs.Laws.{OneHead, OneEnding, OneReading, OneCourse, OnePlainness, OneBasis, NodesSuffice, NeverSpent};
+ghost use Rattle.policy_text.specs.Laws.{OnePolicy, NodesAgree, NodesSuffice, NeverSpent};
+ghost use Rattle.policy_text.specs.Names.{NamesStandThere};
 
-/// A text is that of one policy alone: two policies that have it name the same tables, and both
-/// learn hosts or neither does; they end the same on each packet in each number of steps, read the
-/// same cells, and ask the same of each packet; both are plain, or neither is, and both are basic, or
-/// neither is.
+use policy_lang::laws::form_laws;
+use policy_tree::one_file;
+
+/// A text is that of one policy alone: two policies that have it are one tree.
 pub fn one_policy()
-    ensures head { OneHead }
-    ensures ending { OneEnding }
-    ensures reading { OneReading }
-    ensures course { OneCourse }
-    ensures plainness { OnePlainness }
-    ensures basis { OneBasis }
+    ensures { OnePolicy }
+{
+    one_file();
+}
+
+/// The nodes of a text are as many as those of its tree, and as deep.
+pub fn nodes_law()
+    ensures { NodesAgree }
 {}
 
-/// A plain policy takes at most as many steps as it has nodes, and one that was read from a text
-/// never spends 4,096.
+/// Each name that a policy declares, by `let` or by what an `if` asks, stands at the token that is told
+/// for it.
+pub fn names_law()
+    ensures { NamesStandThere }
+{}
+
+/// A plain policy takes at most as many steps as it has nodes, and never spends 4,096.
 pub fn steps_law()
     ensures suffice { NodesSuffice }
     ensures never { NeverSpent }
-{}
+{
+    form_laws();
+}

@@ -1,17 +1,17 @@
 // Reads the text of a policy.
 ghost use Rattle.std.specs.Prelude.{◌≡◌, ◌≤◌, length, IfOk, IfErr};
-ghost use Rattle.maple_base.specs.PolicyLimits.{most_tables};
+ghost use Rattle.maple_base.specs.PolicyLimits.{most_tables, most_bytes};
 ghost use Rattle.policy_lang.specs.Faults.{IsWellFormed};
-ghost use Rattle.policy_limits.specs.Limits.{IsOutline};
+ghost use Rattle.policy_lang.specs.TreeOf.{tree_of};
+ghost use Rattle.policy_outline.specs.Limits.{IsOutline};
 ghost use Rattle.policy_text.specs.declared.reading.ReadError.TheVariants.{Refused, NoMemory as no_memory};
 ghost use Rattle.policy_text.specs.Texts.{plain, token_position, IsTextOf, IsRefused, IsPolicyOf, IsWrong};
 
 use maple_base::NoMemory;
-use policy_lang::{BuildError, Policy, SiteOrder, first_name_fault};
-use policy_limits::{Outline, OutlineError, read_outline};
-use policy_places::TextOrder;
+use policy_lang::{BuildError, Policy, first_name_fault};
+use policy_outline::{Outline, OutlineError, outline_laws, read_outline, site_token};
 use policy_tokens::{Position, Tokens, TokensError, read_tokens};
-use policy_tree::{Parts, build};
+use policy_tree::{Parts, build, one_file};
 use std::alloc::Global;
 
 /// Why no policy was read.
@@ -49,6 +49,8 @@ pub fn read_policy(alloc: Global, text: &[u8]) -> Result<Policy, ReadError>
     ensures policy { IfOk result (λ policy. IsTextOf policy text.now) }
     ensures refused { IfErr result (IsRefused text.now) }
 {
+    one_file();
+    outline_laws();
     match read_tokens(alloc, text) {
         Ok(tokens) => policy_of(alloc, &tokens),
         Err(TokensError::Fault { position, kind }) => Err(refused(position, kind.number())),
@@ -67,10 +69,10 @@ fn refused(position: Position, kind: u8) -> ReadError
 }
 
 // The position of the token that has so many ahead of it, or of the end.
-fn token_position(tokens: &Tokens, index: u64) -> Position
+fn token_position(tokens: &Tokens, index: usize) -> Position
     ensures { result ≡ token_position tokens.now index }
 {
-    match tokens.items().get(index as usize) {
+    match tokens.items().get(index) {
         Some(token) => token.position,
         None => tokens.end(),
     }
@@ -78,13 +80,14 @@ fn token_position(tokens: &Tokens, index: u64) -> Position
 
 // The policy of tokens.
 fn policy_of(alloc: Global, tokens: &Tokens) -> Result<Policy, ReadError>
+    requires { length tokens.now.tokens ≤ most_bytes }
     ensures policy { IfOk result (λ policy. IsPolicyOf policy (plain tokens.now)) }
     ensures wrong { IfErr result (IsWrong tokens.now) }
 {
     match read_outline(alloc, tokens.items()) {
         Ok(outline) => outlined_policy(alloc, tokens, &outline),
         Err(OutlineError::Fault { token, kind }) => {
-            Err(refused(token_position(tokens, token as u64), kind.number()))
+            Err(refused(token_position(tokens, token), kind.number()))
         }
         Err(OutlineError::NoMemory) => Err(ReadError::NoMemory),
     }
@@ -92,28 +95,24 @@ fn policy_of(alloc: Global, tokens: &Tokens) -> Result<Policy, ReadError>
 
 // The policy of what was read of tokens.
 fn outlined_policy(alloc: Global, tokens: &Tokens, outline: &Outline) -> Result<Policy, ReadError>
-    requires { IsOutline (plain tokens.now) outline.now.events.items outline.now.counts.items }
+    requires { IsOutline (plain tokens.now) outline.now.events.items outline.now.nodes.items }
     ensures policy { IfOk result (λ policy. IsPolicyOf policy (plain tokens.now)) }
     ensures wrong { IfErr result (IsWrong tokens.now) }
 {
-    // What was read of a whole text always fits together.
-    let Some(parts) = build(alloc, &outline.events)? else {
-        return Err(ReadError::NoMemory);
-    };
-    let order = TextOrder::new(alloc, &outline.counts, tokens.items(), &parts.tables)?;
-    match first_name_fault(alloc, &parts.tables, &parts.body, &order)? {
+    let parts = build(alloc, &outline.events)?;
+    match first_name_fault(alloc, &parts.tables, &parts.body, &outline.nodes)? {
         Some(fault) => {
-            let position = token_position(tokens, order.index(fault.site));
-            Err(refused(position, fault.kind.number()))
+            let token = site_token(&parts.tables, &outline.nodes, fault.site);
+            Err(refused(token_position(tokens, token), fault.kind.number()))
         }
         None => built_policy(alloc, parts),
     }
 }
 
-// The policy of parts that are well formed; `build` finds nothing wrong with them again.
+// The policy of parts that are well formed: nothing is wrong with them.
 fn built_policy(alloc: Global, parts: Parts) -> Result<Policy, ReadError>
     requires few { length parts.tables.items ≤ most_tables }
-    requires formed { IsWellFormed parts.tables.items parts.body }
+    requires formed { IsWellFormed parts.tables.items (tree_of parts.body) }
     ensures tables { IfOk result (λ policy. policy.tables ≡ parts.tables.items) }
     ensures learning { IfOk result (λ policy. policy.learning ≡ parts.learning) }
     ensures body { IfOk result (λ policy. policy.body ≡ parts.body) }
@@ -126,6 +125,7 @@ fn built_policy(alloc: Global, parts: Parts) -> Result<Policy, ReadError>
     } = parts;
     match Policy::build(alloc, tables, learning, body) {
         Ok(policy) => Ok(policy),
-        Err(BuildError::Fault { .. } | BuildError::NoMemory) => Err(ReadError::NoMemory),
+        Err(BuildError::Fault { .. }) => unreachable!(),
+        Err(BuildError::NoMemory) => Err(ReadError::NoMemory),
     }
 }

@@ -1,10 +1,11 @@
 -- The words and signs of a text, however it is laid out.
-use Rattle.std.proofs.Common.{◌≡◌, ℕ, zero, suc, ◌+◌, cond, eqb, true, false, Bool, not, ◌&&◌, map, List, [], ◌∷◌, ◌++◌, length, take, drop, append-nil, Option, Some, None, Result, Ok, Err, refl, sym, ap, ◌∙◌, subst, arith, ⊎_elim}
+use Rattle.std.proofs.Common.{◌≡◌, ℕ, zero, suc, ◌+◌, cond, true, false, Bool, not, ◌&&◌, map, List, [], ◌∷◌, ◌++◌, length, take, drop, append-nil, Option, Some, None, Result, Ok, Err, refl, sym, ap, ◌∙◌, arith, ⊎_elim}
 use Rattle.std.specs.Option.{option_map}
 use Rattle.std.specs.Result.{result_ok, result_err, is_ok}
 use Rattle.std.specs.List.{filter_map, cons_option, prefix_len, list_all, All}
 use Rattle.std.proofs.Math.Seq.{take-append_seam}
-use Rattle.std.proofs.lemmas.Bool.{cases_Bool, and_parts, not-true, and_right, or_cases, eqb-true, eq-eqb}
+use Rattle.std.proofs.lemmas.Bool.{cases_Bool, and_parts, not-true, eq-eqb}
+use Rattle.std.proofs.lemmas.Bool.Decides.{nat_tests}
 use Rattle.std.proofs.lemmas.List.{drop-drop}
 use Rattle.std.proofs.lemmas.List.Elements.{All-nil, All-cons}
 use Rattle.std.proofs.lemmas.List.Folds.{prefix_len-append}
@@ -47,13 +48,10 @@ no_comment : (b : ℕ) → begins_lexeme b ≡ true → begins_comment b ≡ fal
 no_comment b h = not-true (begins_comment b) ((and_parts _ _ h).1)
 
 more_word : (b : ℕ) (x : List ℕ) → is_word_byte b ≡ true → more b x ≡ prefix_len is_word_byte x
-more_word b x t =
-    ap (λ v. cond v (prefix_len is_word_byte x) (cond (begins_comment b) (prefix_len (λ c. not (ends_line c)) x) (cond (may_pair b && begins_equal x) 1 0))) t
+more_word b x t = grind arith
 
 more_sign : (b : ℕ) (x : List ℕ) → is_word_byte b ≡ false → begins_comment b ≡ false → more b x ≡ cond (may_pair b && begins_equal x) 1 0
-more_sign b x f g =
-    ap (λ v. cond v (prefix_len is_word_byte x) (cond (begins_comment b) (prefix_len (λ c. not (ends_line c)) x) (cond (may_pair b && begins_equal x) 1 0))) f
-    ∙ ap (λ v. cond v (prefix_len (λ c. not (ends_line c)) x) (cond (may_pair b && begins_equal x) 1 0)) g
+more_sign b x f g = grind arith
 
 -- a prefix that is whole goes no further where the next byte fails
 prefix_ends : (p : ℕ → Bool) (bs text : List ℕ) → prefix_len p bs ≡ length bs → prefix_len p text ≡ 0 → prefix_len p (bs ++ text) ≡ length bs
@@ -63,16 +61,13 @@ prefix_ends p bs text e z =
     ∙ omega (arith, z)
 
 word_goes : (b : ℕ) (bs : List ℕ) (c : ℕ) → is_word_byte b ≡ true → goes_on (b ∷ bs) c ≡ false → is_word_byte c ≡ false
-word_goes b [] c t h = sym (ap (λ v. cond v (is_word_byte c) (may_pair b && eqb c 61)) t) ∙ h
-word_goes b (d ∷ ds) c t h = sym (ap (λ v. v && is_word_byte c) t) ∙ h
+word_goes b bs c t h = grind arith
 
 word_ends : (b : ℕ) (bs text : List ℕ) → is_word_byte b ≡ true → EndsAt (b ∷ bs) text → prefix_len is_word_byte text ≡ 0
-word_ends b bs [] t h = refl
-word_ends b bs (c ∷ cs) t h = ap (λ v. cond v (1 + prefix_len is_word_byte cs) 0) (word_goes b bs c t h)
+word_ends b bs text t h = grind (arith, word_goes b bs)
 
 sign_ends : (b : ℕ) (text : List ℕ) → is_word_byte b ≡ false → EndsAt (b ∷ []) text → (may_pair b && begins_equal text) ≡ false
-sign_ends b [] f h = and_right (may_pair b) false refl
-sign_ends b (c ∷ cs) f h = sym (ap (λ v. cond v (is_word_byte c) (may_pair b && eqb c 61)) f) ∙ h
+sign_ends b text f h = grind arith
 
 sign_more : (b : ℕ) (bs text : List ℕ) → is_word_byte b ≡ false → begins_comment b ≡ false → more b bs ≡ length bs → EndsAt (b ∷ bs) text → more b (bs ++ text) ≡ length bs
 sign_more b [] text f g m h = more_sign b text f g ∙ ap (λ v. cond v 1 0) (sign_ends b text f h)
@@ -94,20 +89,15 @@ lexemes_read (b ∷ bs) text w h =
     ∙ ap (λ s. (b ∷ s) ∷ words_at (length bs) 1 (bs ++ text)) (take-append_seam bs text)
     ∙ ap (λ ws. (b ∷ bs) ∷ ws) (past_words bs text 1)
 
--- what holds of each blank holds of every one
-at_blank : (P : ℕ → Type 0) → P 32 → P 9 → P 10 → P 13 → (b : ℕ) → is_blank b ≡ true → P b
-at_blank P space tab feed return b h =
-    ⊎_elim
-    (λ h. ⊎_elim
-    (λ h. ⊎_elim (λ e. subst P (sym (eqb-true b 32 e)) space) (λ e. subst P (sym (eqb-true b 9 e)) tab) (or_cases _ _ h))
-    (λ e. subst P (sym (eqb-true b 10 e)) feed)
-    (or_cases _ _ h))
-    (λ e. subst P (sym (eqb-true b 13 e)) return)
-    (or_cases _ _ h)
+blank_begins : (b : ℕ) (text : List ℕ) → is_blank b ≡ true → (begins_lexeme b ≡ false) × (more b text ≡ 0)
+blank_begins b text h = grind (arith, nat_tests)
 
 pub blanks_add : BlanksAddNothing
 blanks_add b text h =
-    at_blank (λ c. words_of (c ∷ text) ≡ words_of text) (anywhere 0 1 0 text) (anywhere 0 1 0 text) (anywhere 0 1 0 text) (anywhere 0 1 0 text) b h
+    let none = blank_begins b text h in
+    ap (λ v. map (λ l. l.bytes) (cons_option (option_map (lexeme 0) (cond v (Some (b ∷ take (more b text) text)) None)) (lexemes_from (more b text) 1 text))) none.0
+    ∙ ap (λ n. words_at n 1 text) none.1
+    ∙ anywhere 0 1 0 text
 
 whole_prefix : (p : ℕ → Bool) (bs : List ℕ) → list_all p bs ≡ true → prefix_len p bs ≡ length bs
 whole_prefix p [] h = refl
@@ -157,26 +147,18 @@ stands_from text past offset (b ∷ bs) e =
 pub stand_there : LexemesStandThere
 stand_there text = stands_from text 0 0 text refl
 
-put_token : (p : Position) (r : Result Token PolicyFault) (ts : List PlacedToken) (us : List Token) → map (λ t. t.token) ts ≡ us
+token_kept : (p : Position) (r : Result Token PolicyFault) (ts : List PlacedToken) (us : List Token) → map (λ t. t.token) ts ≡ us
     → map (λ t. t.token) (cons_option (option_map (placed_at p) (result_ok r)) ts) ≡ cons_option (result_ok r) us
-put_token p (Ok t) ts us h = ap (λ ws. t ∷ ws) h
-put_token p (Err k) ts us h = h
+token_kept p (Ok t) ts us h = ap (λ ws. t ∷ ws) h
+token_kept p (Err k) ts us h = h
 
-begun_token : (text : List ℕ) (offset : ℕ) (o : Option (List ℕ)) (ls : List Lexeme)
-    → map (λ t. t.token) (filter_map (placed text) ls) ≡ filter_map (λ w. result_ok (token_of w)) (map (λ l. l.bytes) ls)
-    → map (λ t. t.token) (filter_map (placed text) (cons_option (option_map (lexeme offset) o) ls)) ≡ filter_map (λ w. result_ok (token_of w)) (map (λ l. l.bytes) (cons_option (option_map (lexeme offset) o) ls))
-begun_token text offset None ls h = h
-begun_token text offset (Some w) ls h = put_token (position_at text offset) (token_of w) (filter_map (placed text) ls) (filter_map (λ w. result_ok (token_of w)) (map (λ l. l.bytes) ls)) h
-
-tokens_at : (text : List ℕ) (past offset : ℕ) (rest : List ℕ)
-    → map (λ t. t.token) (filter_map (placed text) (lexemes_from past offset rest)) ≡ filter_map (λ w. result_ok (token_of w)) (words_at past offset rest)
-tokens_at text past offset [] = refl
-tokens_at text past offset (b ∷ bs) =
-    let next = past_behind past b bs in
-    begun_token text offset (begun past (b ∷ bs)) (lexemes_from next (offset + 1) bs) (tokens_at text next (offset + 1) bs)
+tokens_kept : (text : List ℕ) (ls : List Lexeme) → map (λ t. t.token) (filter_map (placed text) ls) ≡ filter_map (λ w. result_ok (token_of w)) (map (λ l. l.bytes) ls)
+tokens_kept text [] = refl
+tokens_kept text (l ∷ ls) =
+    token_kept (position_at text l.offset) (token_of l.bytes) (filter_map (placed text) ls) (filter_map (λ w. result_ok (token_of w)) (map (λ l. l.bytes) ls)) (tokens_kept text ls)
 
 pub words_decide : WordsDecide
-words_decide text = tokens_at text 0 0 text
+words_decide text = tokens_kept text (lexemes_of text)
 
 no_strange : (offset : ℕ) (bs : List ℕ) → list_all is_text_byte bs ≡ true → strange_bytes offset bs ≡ []
 no_strange offset [] h = refl

@@ -1,7 +1,6 @@
 pub mod FirstFaults
 pub mod Firsts
 pub mod LaidOut
-pub mod Onwards
 pub mod Order
 pub mod Parts
 pub mod Readings

@@ -1,20 +1,18 @@
 -- Tokens are read from their spellings.
-use Rattle.std.proofs.Common.{◌≡◌, ℕ, cond, eqb, true, false, Bool, not, ◌&&◌, ◌||◌, List, [], ◌∷◌, ◌++◌, length, Some, None, Ok, refl, sym, ap, ◌∙◌, subst, arith, append-nil, ⊎_elim}
-use Rattle.std.specs.Prelude.{codes, nat_le, nat_lt}
+use Rattle.std.proofs.Common.{◌≡◌, ℕ, cond, eqb, true, false, not, ◌&&◌, List, [], ◌∷◌, ◌++◌, length, Some, None, Ok, refl, sym, ap, ◌∙◌, subst, arith, append-nil}
+use Rattle.std.specs.Prelude.{codes, nat_le}
 use Rattle.std.specs.Option.{option_map}
 use Rattle.std.specs.List.{All, list_all, find, slice_split}
 use Rattle.std.specs.Str.{bytes_eq}
-use Rattle.std.proofs.lemmas.Bool.{and_parts, and_left, and_right, and_from, false_from_ne_true, false≢true, or_left, or_right, or_cases, ltb-true, eqb-true, le-leb}
+use Rattle.std.proofs.lemmas.Bool.{and_parts, and_left, and_right, false_from_ne_true, false≢true}
+use Rattle.std.proofs.lemmas.Bool.Decides.{nat_tests}
 use Rattle.std.proofs.lemmas.List.Folds.{list_all-append}
 use Rattle.std.proofs.lemmas.List.Elements.{All-nil, All-cons}
 use Rattle.std.proofs.lemmas.List.Splits.{slice_split_at}
 use Rattle.std.proofs.lemmas.Slice.Eq.{bytes_eq-Decides}
 use Rattle.maple_base.specs.Names.{is_name, is_name_byte, is_first_byte, begins_name, is_keyword}
 use Rattle.maple_text.specs.Numbers.{numeral_of}
-use Rattle.maple_base.specs.declared.key.Field.TheVariants.{InPort, DlSrc, DlDst, DlVlan, DlType, NwTos, NwProto, NwSrc, NwDst, TpSrc, TpDst}
 use Rattle.policy_tokens.specs.declared.token.Keyword.{Keyword}
-use Rattle.policy_tokens.specs.declared.token.Keyword.TheVariants.{Table, Policy, Learning, Drop, Flood, Out, Route, Let, If, Else, While, Host, Hop, Up, At, As, Is, And, Or, Not, In, Packet}
-use Rattle.policy_tokens.specs.declared.token.Sign.TheVariants.{OpenBrace, CloseBrace, OpenParenthesis, CloseParenthesis, OpenBracket, CloseBracket, Semicolon, Comma, Assign, Equal, NotEqual, Less, LessEqual, Plus, Minus}
 use Rattle.policy_tokens.specs.declared.token.Token.{Token}
 use Rattle.policy_tokens.specs.declared.token.Token.TheVariants.{Keyword as keyword_token, Name as name_token, SwitchOf, PortOf}
 use Rattle.policy_tokens.specs.Bytes.{is_word_byte}
@@ -24,58 +22,13 @@ use Rattle.policy_tokens.specs.Laws.{KeywordsAreRead, SignsAreRead, FieldsAreRea
 use Rattle.policy_tokens.proofs.Parts.{plain_keyword, other_parts}
 
 pub keywords_read : KeywordsAreRead
-keywords_read Table = refl
-keywords_read Policy = refl
-keywords_read Learning = refl
-keywords_read Drop = refl
-keywords_read Flood = refl
-keywords_read Out = refl
-keywords_read Route = refl
-keywords_read Let = refl
-keywords_read If = refl
-keywords_read Else = refl
-keywords_read While = refl
-keywords_read Host = refl
-keywords_read Hop = refl
-keywords_read Up = refl
-keywords_read At = refl
-keywords_read As = refl
-keywords_read Is = refl
-keywords_read And = refl
-keywords_read Or = refl
-keywords_read Not = refl
-keywords_read In = refl
-keywords_read Packet = refl
+keywords_read k = grind arith
 
 pub signs_read : SignsAreRead
-signs_read OpenBrace = refl
-signs_read CloseBrace = refl
-signs_read OpenParenthesis = refl
-signs_read CloseParenthesis = refl
-signs_read OpenBracket = refl
-signs_read CloseBracket = refl
-signs_read Semicolon = refl
-signs_read Comma = refl
-signs_read Assign = refl
-signs_read Equal = refl
-signs_read NotEqual = refl
-signs_read Less = refl
-signs_read LessEqual = refl
-signs_read Plus = refl
-signs_read Minus = refl
+signs_read k = grind arith
 
 pub fields_read : FieldsAreRead
-fields_read InPort = refl
-fields_read DlSrc = refl
-fields_read DlDst = refl
-fields_read DlVlan = refl
-fields_read DlType = refl
-fields_read NwTos = refl
-fields_read NwProto = refl
-fields_read NwSrc = refl
-fields_read NwDst = refl
-fields_read TpSrc = refl
-fields_read TpDst = refl
+fields_read k = grind arith
 
 pub packet_switch_read : PacketSwitchIsRead
 packet_switch_read = refl
@@ -92,19 +45,7 @@ made_of n h =
     record { first = (and_parts (nat_le (length n) 31) (begins_name n) bytes.0).1; all = bytes.1 }
 
 first_of_word : (b : ℕ) → is_first_byte b ≡ true → is_word_byte b ≡ true
-first_of_word b h =
-    let lower = nat_le 97 b && nat_le b 122 in
-    let upper = nat_le 65 b && nat_le b 90 in
-    let digit = nat_le 48 b && nat_le b 57 in
-    let behind : (x : Bool) → x ≡ true → (x || eqb b 46 || eqb b 58) ≡ true = λ x e. or_left (x || eqb b 46) (eqb b 58) (or_left x (eqb b 46) e) in
-    ⊎_elim
-    (λ small.
-    let both = and_parts (nat_le 97 b) (nat_lt b 123) small in
-    let letter : lower ≡ true = and_from (nat_le 97 b) (nat_le b 122) both.0 (le-leb b 122 (omega (arith, ltb-true b 123 both.1))) in
-    behind (lower || upper || digit || eqb b 95)
-    (or_left (lower || upper || digit) (eqb b 95) (or_left (lower || upper) digit (or_left lower upper letter))))
-    (λ line. behind (lower || upper || digit || eqb b 95) (or_right (lower || upper || digit) (eqb b 95) line))
-    (or_cases (nat_le 97 b && nat_lt b 123) (eqb b 95) h)
+first_of_word b h = grind (arith, nat_tests)
 
 -- a name begins a word, whatever stands behind it
 name_begins : (n text : List ℕ) → begins_name n ≡ true → begins_word (n ++ text) ≡ true
@@ -120,39 +61,17 @@ names_read n h =
     let other = token_or (parts_token (slice_split (λ b. eqb b 46) n)) (numeral_token (numeral_of n)) in
     word_read n begins ∙ ap (λ v. token_or (cond v (Some (name_token n)) (option_map keyword_token (find (λ k. bytes_eq (keyword_text k) n) keywords))) other) h
 
-keyword_bytes : (k : Keyword) → list_all is_name_byte (keyword_text k) ≡ true
-keyword_bytes Table = refl
-keyword_bytes Policy = refl
-keyword_bytes Learning = refl
-keyword_bytes Drop = refl
-keyword_bytes Flood = refl
-keyword_bytes Out = refl
-keyword_bytes Route = refl
-keyword_bytes Let = refl
-keyword_bytes If = refl
-keyword_bytes Else = refl
-keyword_bytes While = refl
-keyword_bytes Host = refl
-keyword_bytes Hop = refl
-keyword_bytes Up = refl
-keyword_bytes At = refl
-keyword_bytes As = refl
-keyword_bytes Is = refl
-keyword_bytes And = refl
-keyword_bytes Or = refl
-keyword_bytes Not = refl
-keyword_bytes In = refl
-keyword_bytes Packet = refl
-
 -- a word with a byte that no name has is no keyword
-no_keyword : (w : List ℕ) → list_all is_name_byte w ≡ false → (ks : List Keyword) → find (λ k. bytes_eq (keyword_text k) w) ks ≡ None
-no_keyword w h [] = refl
-no_keyword w h (k ∷ ks) =
+no_keyword : (w : List ℕ) → list_all is_name_byte w ≡ false → (ks : List Keyword) → list_all (λ k. list_all is_name_byte (keyword_text k)) ks ≡ true
+    → find (λ k. bytes_eq (keyword_text k) w) ks ≡ None
+no_keyword w h [] all = refl
+no_keyword w h (k ∷ ks) all =
+    let both = and_parts (list_all is_name_byte (keyword_text k)) (list_all (λ k. list_all is_name_byte (keyword_text k)) ks) all in
     let other : bytes_eq (keyword_text k) w ≡ false =
     false_from_ne_true _ (λ e.
     let same : keyword_text k ≡ w = (bytes_eq-Decides (keyword_text k) w).0 e in
-    false≢true (sym h ∙ sym (ap (list_all is_name_byte) same) ∙ keyword_bytes k)) in
-    ap (λ v. cond v (Some k) (find (λ k. bytes_eq (keyword_text k) w) ks)) other ∙ no_keyword w h ks
+    false≢true (sym h ∙ sym (ap (list_all is_name_byte) same) ∙ both.0)) in
+    ap (λ v. cond v (Some k) (find (λ k. bytes_eq (keyword_text k) w) ks)) other ∙ no_keyword w h ks both.1
 
 dotted_bytes : (n s : List ℕ) → list_all is_name_byte (n ++ 46 ∷ s) ≡ false
 dotted_bytes n s = list_all-append is_name_byte n (46 ∷ s) ∙ and_right (list_all is_name_byte n) false refl
@@ -161,16 +80,14 @@ dotted_plain : (n s : List ℕ) → plain_token (n ++ 46 ∷ s) ≡ None
 dotted_plain n s =
     let w = n ++ 46 ∷ s in
     let no_name : is_name w ≡ false = and_left _ (not (is_keyword w)) (and_right (nat_le (length w) 31 && begins_name w) _ (dotted_bytes n s)) in
-    plain_keyword w no_name ∙ ap (option_map keyword_token) (no_keyword w (dotted_bytes n s) keywords)
+    plain_keyword w no_name ∙ ap (option_map keyword_token) (no_keyword w (dotted_bytes n s) keywords refl)
 
 no_dot : (n : List ℕ) → list_all is_name_byte n ≡ true → All (λ b. eqb b 46 ≡ false) n
 no_dot [] h = All-nil (λ b. eqb b 46 ≡ false)
 no_dot (b ∷ bs) h =
     let both = and_parts (is_name_byte b) (list_all is_name_byte bs) h in
-    let here : eqb b 46 ≡ false =
-    false_from_ne_true _ (λ e.
-    let same : b ≡ 46 = eqb-true b 46 e in
-    false≢true (sym (ap is_name_byte same) ∙ both.0)) in
+    let name = both.0 in
+    let here : eqb b 46 ≡ false = grind (arith, nat_tests) in
     All-cons (λ b. eqb b 46 ≡ false) b bs here (no_dot bs both.1)
 
 no_packet : (n : List ℕ) → is_name n ≡ true → bytes_eq n (codes "pkt") ≡ false

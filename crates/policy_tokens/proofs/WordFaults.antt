@@ -1,12 +1,11 @@
 -- Which faults words and signs have.
-use Rattle.std.proofs.Common.{◌≡◌, ℕ, ◌<◌, eqb, List, Option, Some, None, Result, Ok, Err, true, refl, subst, arith}
+use Rattle.std.proofs.Common.{◌≡◌, ℕ, ◌<◌, eqb, List, Option, Result, Ok, Err, true, refl, subst, arith}
 use Rattle.std.specs.Option.{option_map}
 use Rattle.std.specs.List.{find, slice_split}
 use Rattle.std.specs.Str.{bytes_eq}
 use Rattle.std.proofs.lemmas.Bool.{cond_both}
 use Rattle.maple_text.specs.Numbers.{numeral_of}
 use Rattle.maple_text.specs.declared.number.Numeral.{Numeral}
-use Rattle.maple_text.specs.declared.number.Numeral.TheVariants.{Number as number, TooGreat}
 use Rattle.policy_tokens.specs.declared.token.Token.{Token}
 use Rattle.policy_tokens.specs.declared.token.Token.TheVariants.{Sign as sign_token}
 use Rattle.maple_base.specs.declared.policy_fault.PolicyFault.{PolicyFault}
@@ -22,13 +21,10 @@ IsOfWords (Ok t) = Unit {0}
 IsOfWords (Err k) = (number_of k < 10) × (is_of_tokens k ≡ true)
 
 of_or : (o : Option Token) (r : Result Token PolicyFault) → IsOfWords r → IsOfWords (token_or o r)
-of_or (Some t) r h = tt
-of_or None r h = h
+of_or o r h = grind arith
 
 of_numeral : (n : Option Numeral) → IsOfWords (numeral_token n)
-of_numeral (Some (number n)) = tt
-of_numeral (Some TooGreat) = (omega arith, refl)
-of_numeral None = (omega arith, refl)
+of_numeral n = grind arith
 
 of_words : (bytes : List ℕ) → IsOfWords (token_of bytes)
 of_words bytes =
@@ -38,10 +34,6 @@ of_words bytes =
     (λ _. of_or (plain_token bytes) (token_or parts numeral) (of_or parts numeral (of_numeral (numeral_of bytes))))
     (λ _. of_or (option_map sign_token (find (λ s. bytes_eq (sign_text s) bytes) signs)) (Err no_token) (omega arith, refl))
 
-at_error : (r : Result Token PolicyFault) (k : PolicyFault) → IsOfWords r → r ≡ Err k → IsOfWords (Err k)
-at_error (Ok t) k h e = absurd (cc)
-at_error (Err j) k h e = let same : j ≡ k = cc in subst (λ (x : PolicyFault). IsOfWords (Err x)) same h
-
 -- a word or a sign that is no token has a kind of its own, and comes before a text that is too long
 pub kind_of_words : (bytes : List ℕ) (k : PolicyFault) → token_of bytes ≡ Err k → (number_of k < 10) × (is_of_tokens k ≡ true)
-kind_of_words bytes k e = at_error (token_of bytes) k (of_words bytes) e
+kind_of_words bytes k e = subst IsOfWords e (of_words bytes)

@@ -7,7 +7,8 @@ use Rattle.policy_grammar.specs.Grammar as written
 use Rattle.policy_grammar.specs.Grammar.{Phrase, Nothing, Plain}
 use Rattle.policy_lang.specs.declared.Expr.{Expr}
 use Rattle.policy_lang.specs.Blocks.{IsOutList}
-use Rattle.policy_tree.specs.Trees.{IsExpr, AreExprs}
+use Rattle.policy_lang.specs.TreeOf.{terms_of}
+use Rattle.policy_tree.specs.Trees.{phrase_term, IsExpr, AreExprs}
 use Rattle.policy_tree.specs.Machine.{State, out, outs, is_out, add}
 use Rattle.policy_tree.specs.Stands.{Each, Fits}
 
@@ -41,7 +42,7 @@ are_exprs : (as_ : List Phrase) (es : List Expr) → Each IsExpr as_ es → AreE
 are_exprs [] [] h = refl
 are_exprs [] (e ∷ es) h = absurd h
 are_exprs (a ∷ as_) [] h = absurd h
-are_exprs (a ∷ as_) (e ∷ es) h = (h.0, are_exprs as_ es h.1)
+are_exprs (a ∷ as_) (e ∷ es) h = ap (λ t. t ∷ terms_of es) h.0 ∙ ap (λ ts. phrase_term a ∷ ts) (are_exprs as_ es h.1)
 
 bounds : (n count : ℕ) → is_out n count ≡ true → (1 ≤ n) × (n ≤ 16) × (n ≤ count)
 bounds n count h = grind (arith, nat_tests)

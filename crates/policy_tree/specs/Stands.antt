@@ -2,9 +2,9 @@
 use Rattle.std.specs.Prelude.{◌≡◌, Bool, true, List, [], ◌∷◌, Option, Some, None}
 use Rattle.policy_grammar.specs.Grammar.{Statements}
 use Rattle.policy_lang.specs.declared.Block.{Block}
-use Rattle.policy_lang.specs.Blocks.{statements_of}
+use Rattle.policy_lang.specs.TreeOf.{tree_of}
 use Rattle.policy_tree.specs.declared.state.Builder.{Builder}
-use Rattle.policy_tree.specs.Trees.{IsExpr, IsHead, AreTrees}
+use Rattle.policy_tree.specs.Trees.{IsExpr, IsHead, AreTrees, statements_acts}
 use Rattle.policy_tree.specs.Machine.{State}
 
 -- one of one
@@ -17,7 +17,7 @@ abbrev pub Same : {A : Type 0} → A → A → Type 0
 Same a b = b ≡ a
 
 abbrev pub IsBlock : Statements → Block → Type 0
-IsBlock ss b = AreTrees ss (statements_of b)
+IsBlock ss b = tree_of b ≡ statements_acts ss
 
 -- the builder has this
 pub record Stands (w : State) (b : Builder) : Type 0 where

@@ -1,10 +1,9 @@
 // Makes a policy's parts of what was read.
-ghost use Rattle.std.specs.Prelude.{◌≡◌, true, IfOk};
-ghost use Rattle.policy_lang.specs.Blocks.{statements_of};
-ghost use Rattle.policy_grammar.specs.Grammar.{File};
-ghost use Rattle.policy_tree.specs.Building.{IsMade};
-ghost use Rattle.policy_tree.specs.Machine.{made, whole};
-ghost use Rattle.policy_tree.specs.Stands.{Makes, Stands};
+ghost use Rattle.std.specs.Prelude.{◌≡◌, IfOk};
+ghost use Rattle.policy_lang.specs.TreeOf.{acts_of, tree_of};
+ghost use Rattle.policy_tree.specs.Building.{AreOfFile, IsMade};
+ghost use Rattle.policy_tree.specs.Machine.{made};
+ghost use Rattle.policy_tree.specs.Stands.{Makes};
 
 use crate::state::{Asked, Builder, Callee};
 use maple_base::{Name, NoMemory};
@@ -21,22 +20,22 @@ pub struct Parts {
     pub body: Block,
 }
 
-/// The parts of a policy of what was read of its text. `None` where something does not fit what was
-/// read ahead of it, or a part is left over, which is never so of what is read of a whole text.
+/// The parts of the policy of which these events were read.
+///
+/// # Errors
+///
 /// The one error is want of memory.
-pub fn build(alloc: Global, events: &[Event]) -> Result<Option<Parts>, NoMemory>
-    ensures { IfOk result (λ made. IsMade events.now made) }
+pub fn build(alloc: Global, events: &[Event]) -> Result<Parts, NoMemory>
+    requires { AreOfFile events.now }
+    ensures parts { IfOk result (IsMade events.now) }
 {
     let mut builder = Builder::new(alloc);
     for event in events {
-        if !builder.take(alloc, *event)? {
-            return Ok(None);
-        }
+        // Each event of a file finds the parts that it takes.
+        let fits = builder.take(alloc, *event)?;
+        prove!(fits);
     }
-    if !builder.is_whole() {
-        return Ok(None);
-    }
-    Ok(Some(parts_of(builder)))
+    Ok(parts_of(builder))
 }
 
 impl Builder {
@@ -81,26 +80,6 @@ impl Builder {
         }
     }
 
-    // Whether no part is left over.
-    fn is_whole(&self) -> bool
-        ensures { (f : File) → Stands (whole f) self.now → result ≡ true }
-    {
-        self.is_used_up()
-            && self.heads.is_empty()
-            && self.blocks.is_empty()
-            && self.outer.is_empty()
-    }
-
-    // Whether no expression is left over, and nothing that belongs to one.
-    fn is_used_up(&self) -> bool
-        ensures { (f : File) → Stands (whole f) self.now → result ≡ true }
-    {
-        self.exprs.is_empty()
-            && self.callees.is_empty()
-            && self.asks.is_empty()
-            && self.names.is_empty()
-    }
-
     fn table(&mut self, name: Name) -> Result<bool, NoMemory>
         ensures { IfOk result (Makes (made (Event.Table name)) self.old self.new) }
     {
@@ -127,7 +106,7 @@ impl Builder {
 fn parts_of(builder: Builder) -> Parts
     ensures tables { result.tables ≡ builder.tables }
     ensures learning { result.learning ≡ builder.learning }
-    ensures body { statements_of result.body ≡ builder.list.items }
+    ensures body { tree_of result.body ≡ acts_of builder.list.items }
 {
     Parts {
         tables: builder.tables,

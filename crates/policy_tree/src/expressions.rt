@@ -1,7 +1,9 @@
 // Expressions, made of their parts.
-ghost use Rattle.std.specs.Prelude.{◌≡◌, false, Some, IfOk, MatchOption};
+ghost use Rattle.std.specs.Prelude.{◌≡◌, false, IfOk, MatchOption};
 ghost use Rattle.policy_grammar.specs.Grammar.{is_single};
-ghost use Rattle.policy_tree.specs.Trees.{IsSingle, parts_of, call_parts, tested, negated};
+ghost use Rattle.policy_lang.specs.Tree.{Single, Call, Is, Not, Pair};
+ghost use Rattle.policy_lang.specs.TreeOf.{term_of};
+ghost use Rattle.policy_tree.specs.Trees.{atom_in, callee_in};
 ghost use Rattle.policy_tree.specs.Machine.{written_callee, callee_onto, made};
 ghost use Rattle.policy_tree.specs.Stands.{Makes};
 
@@ -14,7 +16,7 @@ use std::alloc::Global;
 
 // The expression of one token.
 fn single_of(token: Token) -> Option<Expr>
-    ensures { MatchOption result (is_single token ≡ false) (IsSingle token) }
+    ensures { MatchOption result (is_single token ≡ false) (λ e. term_of e ≡ Single (atom_in token)) }
 {
     match token {
         Token::Name(name) => Some(Expr::Var(name)),
@@ -28,7 +30,7 @@ fn single_of(token: Token) -> Option<Expr>
 }
 
 fn call_of(alloc: Global, callee: Callee, left: Expr, right: Expr) -> Result<Expr, NoMemory>
-    ensures { IfOk result (λ e. call_parts (written_callee callee) e ≡ Some (left, right)) }
+    ensures { IfOk result (λ e. term_of e ≡ Call (callee_in (written_callee callee)) (term_of left) (term_of right)) }
 {
     let left = Box::new(alloc, left)?;
     let right = Box::new(alloc, right)?;
@@ -39,19 +41,19 @@ fn call_of(alloc: Global, callee: Callee, left: Expr, right: Expr) -> Result<Exp
 }
 
 fn test_of(alloc: Global, field: Field, part: Expr) -> Result<Expr, NoMemory>
-    ensures { IfOk result (λ e. tested e ≡ Some (field, part)) }
+    ensures { IfOk result (λ e. term_of e ≡ Is field (term_of part)) }
 {
     Ok(Expr::Is(field, Box::new(alloc, part)?))
 }
 
 fn negation_of(alloc: Global, part: Expr) -> Result<Expr, NoMemory>
-    ensures { IfOk result (λ e. negated e ≡ Some part) }
+    ensures { IfOk result (λ e. term_of e ≡ Not (term_of part)) }
 {
     Ok(Expr::Not(Box::new(alloc, part)?))
 }
 
 fn pair_of(alloc: Global, operator: Operator, left: Expr, right: Expr) -> Result<Expr, NoMemory>
-    ensures { IfOk result (λ e. parts_of operator e ≡ Some (left, right)) }
+    ensures { IfOk result (λ e. term_of e ≡ Pair operator (term_of left) (term_of right)) }
 {
     let left = Box::new(alloc, left)?;
     let right = Box::new(alloc, right)?;
@@ -88,6 +90,7 @@ impl Builder {
     }
 
     /// The end of a call.
+    #[tactic(auto, using(crate::proofs::Terms::call_is))]
     pub fn call(&mut self, alloc: Global) -> Result<bool, NoMemory>
         ensures { IfOk result (Makes (made Event.Call) self.old self.new) }
     {
@@ -102,6 +105,7 @@ impl Builder {
     }
 
     /// The end of what is negated.
+    #[tactic(auto, using(crate::proofs::Terms::not_is))]
     pub fn negation(&mut self, alloc: Global) -> Result<bool, NoMemory>
         ensures { IfOk result (Makes (made Event.Negation) self.old self.new) }
     {
@@ -113,6 +117,7 @@ impl Builder {
     }
 
     /// The end of what a field is compared with.
+    #[tactic(auto, using(crate::proofs::Terms::test_is))]
     pub fn test(&mut self, alloc: Global) -> Result<bool, NoMemory>
         ensures { IfOk result (Makes (made Event.Test) self.old self.new) }
     {
@@ -127,6 +132,7 @@ impl Builder {
     }
 
     /// The end of an operator's right part.
+    #[tactic(auto, using(crate::proofs::Terms::pair_is))]
     pub fn pair(&mut self, alloc: Global, operator: Operator) -> Result<bool, NoMemory>
         ensures { IfOk result (Makes (made (Event.Pair operator)) self.old self.new) }
     {

@@ -4,8 +4,10 @@
 pub mod building;
 mod expressions;
 mod heads;
+mod laws;
 mod pile;
 mod state;
 mod statements;
 
 pub use building::{Parts, build};
+pub use laws::one_file;

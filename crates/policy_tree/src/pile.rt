@@ -1,5 +1,5 @@
 // A pile of things that are owned.
-ghost use Rattle.std.specs.Prelude.{◌≡◌, ◌==◌, ◌≤◌, [], ◌∷◌, OnOk, IfOk, length, reverse, take, drop};
+ghost use Rattle.std.specs.Prelude.{◌≡◌, ◌≤◌, [], ◌∷◌, OnOk, IfOk, length, reverse, take, drop};
 ghost use Rattle.policy_grammar.specs.Stacks.{Popped};
 ghost use Rattle.policy_tree.specs.Piles.{TwoPopped};
 
@@ -62,13 +62,6 @@ impl<T: Drop> Pile<T> {
         ensures { result ≡ length self.now }
     {
         self.list.len()
-    }
-
-    /// Whether there are none.
-    pub fn is_empty(&self) -> bool
-        ensures { result ≡ (length self.now == 0) }
-    {
-        self.list.is_empty()
     }
 
     /// Takes so many things away from the top, and gives them in the order in which they were laid.

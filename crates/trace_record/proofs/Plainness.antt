@@ -1,33 +1,29 @@
--- The parts of a plain statement and of a plain block are plain.
-use Rattle.std.proofs.Common.{◌≡◌, Bool, true, List, [], ◌∷◌, map, refl, sym, ap, ◌∙◌}
-use Rattle.std.specs.Prelude.{◌&&◌, Option, Some, None}
+-- The parts of plain expressions and statements are plain.
+use Rattle.std.proofs.Common.{◌≡◌, ℕ, zero, suc, ◌<◌, ◌≤◌, true, List, [], ◌∷◌, length, get_or, ap, ◌∙◌, subst, arith}
 use Rattle.std.specs.List.{list_all}
-use Rattle.std.specs.Option.{option_map}
-use Rattle.policy_lang.specs.declared.Head.{Head}
-use Rattle.policy_lang.specs.declared.Statement.{Statement, If}
-use Rattle.policy_lang.specs.declared.Statement.TheVariants.{rolls-If}
-use Rattle.policy_lang.specs.declared.Statement.TheOpen.{If as if_}
-use Rattle.policy_lang.specs.declared.Statement.TheFolds.{fold-roll-Statement, fold_out-Block}
-use Rattle.policy_lang.specs.declared.Block.{Block}
-use Rattle.policy_lang.specs.Blocks.{statements_of}
-use Rattle.policy_lang.specs.Plain.{plain_head, plain_else, plain_statement, plain_block, is_plain_block}
+use Rattle.policy_lang.specs.declared.Expr.{Expr}
+use Rattle.policy_lang.specs.declared.Statement.{Statement}
+use Rattle.policy_lang.specs.Tree.{Acts}
+use Rattle.policy_lang.specs.TreeOf.{term_of, terms_of, act_of, acts_of}
+use Rattle.policy_lang.specs.Plain.{plain_expr, is_plain_act, is_plain}
+use Rattle.policy_lang.specs.Sizes.{act_size, acts_size}
 use Rattle.policy_lang.proofs.Courses.{both}
-use Rattle.policy_lang.specs.PlainParts.{is_plain_statement}
+use Rattle.policy_lang.proofs.Rolls.{act_within}
 
-each_of : (ss : List Statement) → list_all (λ b. b) (map is_plain_statement ss) ≡ list_all is_plain_statement ss
-each_of [] = refl
-each_of (s ∷ ss) = ap (λ b. is_plain_statement s && b) (each_of ss)
+pub plain_term : (es : List Expr) (i : ℕ) (e : Expr) → i < length es → e ≡ get_or es i e → list_all plain_expr (terms_of es) ≡ true → plain_expr (term_of e) ≡ true
+plain_term [] i e h q p = absurd (omega (arith, h))
+plain_term (d ∷ es) zero e h q p = ap (λ x. plain_expr (term_of x)) q ∙ (both (plain_expr (term_of d)) (list_all plain_expr (terms_of es)) p).0
+plain_term (d ∷ es) (suc i) e h q p = plain_term es i e (omega (arith, h)) q (both (plain_expr (term_of d)) (list_all plain_expr (terms_of es)) p).1
 
--- the statements of a plain block
-pub plain_statements : (b : Block) (ss : List Statement) → ss ≡ statements_of b → is_plain_block b ≡ true → list_all is_plain_statement ss ≡ true
-plain_statements b ss e h = ap (list_all is_plain_statement) e ∙ sym (each_of (statements_of b)) ∙ sym (fold_out-Block Bool Bool plain_statement plain_block b) ∙ h
+plain_acts : (ss : List Statement) (i : ℕ) (s : Statement) → i < length ss → s ≡ get_or ss i s → is_plain (acts_of ss) ≡ true → is_plain_act (act_of s) ≡ true
+plain_acts [] i s h q p = absurd (omega (arith, h))
+plain_acts (t ∷ ss) zero s h q p = ap (λ x. is_plain_act (act_of x)) q ∙ (both (is_plain_act (act_of t)) (is_plain (acts_of ss)) p).0
+plain_acts (t ∷ ss) (suc i) s h q p = plain_acts ss i s (omega (arith, h)) q (both (is_plain_act (act_of t)) (is_plain (acts_of ss)) p).1
 
-if_is : (h : Head) (b : Block) (o : Option Block) → is_plain_statement (If h b o) ≡ (plain_head h && is_plain_block b && plain_else (option_map is_plain_block o))
-if_is h b None = ap is_plain_statement (sym (rolls-If h b None)) ∙ fold-roll-Statement Bool Bool plain_statement plain_block (if_ h b None)
-if_is h b (Some c) = ap is_plain_statement (sym (rolls-If h b (Some c))) ∙ fold-roll-Statement Bool Bool plain_statement plain_block (if_ h b (Some c))
+-- the same of the statements of a tree
+pub plain_act : (b : Acts) (ss : List Statement) (i : ℕ) (s : Statement) → acts_of ss ≡ b → i < length ss → s ≡ get_or ss i s → is_plain b ≡ true → is_plain_act (act_of s) ≡ true
+plain_act b ss i s e h q p = plain_acts ss i s h q (ap is_plain e ∙ p)
 
--- the first block of a plain `if`
-pub plain_first : (s : Statement) (h : Head) (b : Block) (o : Option Block) → s ≡ If h b o → is_plain_statement s ≡ true → is_plain_block b ≡ true
-plain_first s h b o e plain =
-    let p = both (plain_head h && is_plain_block b) (plain_else (option_map is_plain_block o)) (sym (if_is h b o) ∙ sym (ap is_plain_statement e) ∙ plain) in
-    (both (plain_head h) (is_plain_block b) p.0).1
+-- a statement has no more nodes than all of them
+pub small_act : (b : Acts) (ss : List Statement) (i : ℕ) (s : Statement) → acts_of ss ≡ b → i < length ss → s ≡ get_or ss i s → act_size (act_of s) ≤ acts_size b
+small_act b ss i s e h q = subst (λ t. act_size (act_of s) ≤ acts_size t) e (act_within ss i s h q)

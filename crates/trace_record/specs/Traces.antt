@@ -10,6 +10,8 @@ use Rattle.maple_base.specs.Limits.{most_items}
 use Rattle.maple_base.specs.Keys.{valid_key}
 use Rattle.maple_base.specs.Questions.{meets, within_domain, asks_once}
 use Rattle.policy_lang.specs.declared.Policy.{Policy}
+use Rattle.policy_lang.specs.Tree.{Acts}
+use Rattle.policy_lang.specs.TreeOf.{tree_of}
 use Rattle.policy_lang.specs.Evaluation.{eval_of}
 use Rattle.policy_lang.specs.Courses.{course_of, items_of, outcome_at}
 use Rattle.policy_lang.specs.Laws.{begins_at}
@@ -30,15 +32,19 @@ abbrev pub Gives : (Cell → Value) → List (Cell × Value) → Type 0
 Gives env [] = Unit {0}
 Gives env (c ∷ cs) = (env c.0 ≡ c.1) × Gives env cs
 
+-- the outcome is plain evaluation's in each environment that gives the cells
+abbrev pub IsEvaluated : Acts → ℕ → ℕ → Key → List (Cell × Value) → Outcome → Type 0
+IsEvaluated body budget switch k cells o = (env : Cell → Value) → Gives env cells → o ≡ eval_of body budget env switch k
+
 -- the cells that a trace reads: none, as no statement asks the environment
-abbrev pub cells_of : Policy → ℕ → (Cell → Value) → ℕ → Key → List (Cell × Value)
-cells_of policy budget env switch k = []
+abbrev pub cells_of : Acts → ℕ → (Cell → Value) → ℕ → Key → List (Cell × Value)
+cells_of body budget env switch k = []
 
 -- a key has exactly this trace in an environment, and its outcome is that of plain evaluation
 pub record IsTraceOf (trace : Traced) (env : Cell → Value) (k : Key) : Type 0 where
-  pub items : items_of (course_of trace.policy trace.budget) k ≡ trace.items
-  pub cells : cells_of trace.policy trace.budget env trace.switch k ≡ trace.cells
-  pub outcome : eval_of trace.policy trace.budget env trace.switch k ≡ trace.outcome
+  pub items : items_of (course_of (tree_of trace.policy.body) trace.budget) k ≡ trace.items
+  pub cells : cells_of (tree_of trace.policy.body) trace.budget env trace.switch k ≡ trace.cells
+  pub outcome : eval_of (tree_of trace.policy.body) trace.budget env trace.switch k ≡ trace.outcome
 
 -- the law of traces
 pub record IsTrace (trace : Traced) : Type 0 where
@@ -67,7 +73,7 @@ abbrev pub AreGiven : (Cell → Value → Type 0) → List (Cell × Value) → T
 AreGiven gave [] = Unit {0}
 AreGiven gave (c ∷ cs) = gave c.0 c.1 × AreGiven gave cs
 
--- the items and the outcome are those of the key's course under the policy
-pub record IsWhole (policy : Policy) (budget : ℕ) (k : Key) (is : List Item) (o : Outcome) : Type 0 where
-  pub items : items_of (course_of policy budget) k ≡ is
-  pub outcome : outcome_at (course_of policy budget) k ≡ o
+-- the items and the outcome are those of the key's course under a policy of these statements
+pub record IsWhole (body : Acts) (budget : ℕ) (k : Key) (is : List Item) (o : Outcome) : Type 0 where
+  pub items : items_of (course_of body budget) k ≡ is
+  pub outcome : outcome_at (course_of body budget) k ≡ o

@@ -1,29 +1,25 @@
 // Recording of a trace: what a policy asks of a packet, and what it decides.
-ghost use Rattle.std.specs.Prelude.{◌≡◌, true, ◌≤◌, ◌==◌, ◌&&◌, ◌++◌, ◌∷◌, [], ◌<◌, ◌↔◌, Err, IfOk, IsTrue, map, length};
+ghost use Rattle.std.specs.Prelude.{◌≡◌, true, ◌≤◌, ◌==◌, ◌&&◌, ◌++◌, ◌∷◌, [], ◌<◌, ◌↔◌, Err, IfOk, IsTrue, length};
 ghost use Rattle.std.specs.List.{list_all};
-ghost use Rattle.std.specs.Option.{option_map};
 ghost use Rattle.maple_base.specs.Questions.{same_field, known, excluded, field_number};
-ghost use Rattle.policy_lang.specs.Courses.{Onward, ask_net, ask_proto, ask_ports, ask_header, ask_value, ask_test, no_ports, course_of, items_of, value_course, head_course, courses, block_course, otherwise_course};
-ghost use Rattle.policy_lang.specs.Blocks.{statements_of};
-ghost use Rattle.policy_lang.specs.Plain.{plain_expr, plain_head, plain_else, is_plain_block, is_plain};
-ghost use Rattle.policy_lang.specs.PlainParts.{is_plain_statement};
+ghost use Rattle.policy_lang.specs.TreeOf.{term_of, terms_of, ask_of, act_of, tree_of};
+ghost use Rattle.policy_lang.specs.Courses.{Onward, ask_net, ask_proto, ask_ports, ask_header, ask_value, ask_test, no_ports, course_of, items_of, value_course, head_course, act_course, acts_course};
+ghost use Rattle.policy_lang.specs.Plain.{plain_expr, plain_head, is_plain_act, is_plain};
 ghost use Rattle.policy_eval.specs.Answers.{IsBudget};
 ghost use Rattle.trace_record.specs.Given.{given_of, all_given};
-ghost use Rattle.trace_record.specs.Recording.{Leads, Asked, RecordedValue, RecordedNumbers, Recorded, out_course, statement_course, outcome_behind};
+ghost use Rattle.trace_record.specs.Recording.{Leads, Asked, RecordedValue, RecordedNumbers, Recorded, ports_course, if_tree, branch_course, outcome_behind};
 ghost use Rattle.maple_base.specs.Limits.{most_items};
 ghost use Rattle.maple_base.specs.Keys.{field_of, has_ports, valid_key};
-ghost use Rattle.maple_base.specs.declared.cells.Cell.{Cell};
-ghost use Rattle.maple_base.specs.declared.cells.Value.{Value};
-ghost use Rattle.policy_lang.specs.Evaluation.{eval_of};
-ghost use Rattle.trace_record.specs.Traces.{IsTrace, IsOfCall, IsWhole, Gives, AreGiven};
+ghost use Rattle.trace_record.specs.Traces.{IsTrace, IsOfCall, IsWhole, IsEvaluated, AreGiven};
 ghost use Rattle.trace_record.specs.declared.recording.RecordError.TheVariants.{Unread, NoMemory as Failed};
 ghost use Rattle.maple_base.specs.declared.items.Item.TheVariants.{Read, Test as Tested};
 
 use maple_base::{
     Cells, Decision, EnvView, Field, ICMP, IP_TYPE, Item, Items, Key, NoMemory, Outcome, TCP, UDP,
 };
+use policy_eval::sides::{Side, chosen_side};
 use policy_eval::{Datum, sent_out};
-use policy_lang::{Block, Expr, Head, Policy, Statement};
+use policy_lang::{Atom, Block, Expr, Form, Head, Policy, Statement};
 use std::alloc::Global;
 use std::marker::Model;
 use std::snapshot::Snapshot;
@@ -38,28 +34,10 @@ enum Ending {
     Goes(u32),
 }
 
-fn number_of(field: Field) -> u8
-    ensures { result ≡ field_number field }
-{
-    match field {
-        Field::InPort => 0,
-        Field::DlSrc => 1,
-        Field::DlDst => 2,
-        Field::DlVlan => 3,
-        Field::DlType => 4,
-        Field::NwTos => 5,
-        Field::NwProto => 6,
-        Field::NwSrc => 7,
-        Field::NwDst => 8,
-        Field::TpSrc => 9,
-        Field::TpDst => 10,
-    }
-}
-
 fn same_field(first: Field, second: Field) -> bool
     ensures { result ≡ same_field first second }
 {
-    number_of(first) == number_of(second)
+    first == second
 }
 
 // The value that the items fixed a field to.
@@ -228,18 +206,18 @@ fn record_value(
     left: u32,
     items: &mut Vec<Item>,
 ) -> Result<Option<(Datum, u32)>, NoMemory>
-    requires plain { plain_expr expr.now ≡ true }
-    ensures { IfOk result (λ given. RecordedValue key.now items.old.items (value_course expr.now) left items.new.items (given_of given)) }
+    requires plain { plain_expr (term_of expr.now) ≡ true }
+    ensures { IfOk result (λ given. RecordedValue key.now items.old.items (value_course (term_of expr.now)) left items.new.items (given_of given)) }
 {
     if left == 0 {
         return Ok(None);
     }
-    match expr {
-        Expr::Number(n) => Ok(Some((Datum::Number(*n), left - 1))),
-        Expr::Is(field, right) => match record_value(right, key, left - 1, items)? {
+    match expr.form() {
+        Form::Single(Atom::Number(number)) => Ok(Some((Datum::Number(number), left - 1))),
+        Form::Is(field, right) => match record_value(right, key, left - 1, items)? {
             None => Ok(None),
             Some((datum, left)) => {
-                let answer = ask_test(*field, datum.number(), key, items)?;
+                let answer = ask_test(field, datum.number(), key, items)?;
                 Ok(Some((Datum::Truth(answer), left)))
             }
         },
@@ -255,7 +233,7 @@ fn record_numbers(
     steps: u32,
     items: &mut Vec<Item>,
 ) -> Result<Option<(Vec<u64>, u32)>, NoMemory>
-    requires plain { list_all plain_expr exprs.now ≡ true }
+    requires plain { list_all plain_expr (terms_of exprs.now) ≡ true }
     ensures { IfOk result (λ given. RecordedNumbers key.now items.old.items exprs.now steps items.new.items (all_given given)) }
 {
     let mut numbers = Vec::new(alloc);
@@ -276,8 +254,8 @@ fn record_head(
     left: u32,
     items: &mut Vec<Item>,
 ) -> Result<Option<(Datum, u32)>, NoMemory>
-    requires plain { plain_head head.now ≡ true }
-    ensures { IfOk result (λ given. RecordedValue key.now items.old.items (head_course head.now) left items.new.items (given_of given)) }
+    requires plain { plain_head (ask_of head.now) ≡ true }
+    ensures { IfOk result (λ given. RecordedValue key.now items.old.items (head_course (ask_of head.now)) left items.new.items (given_of given)) }
 {
     match head {
         Head::Test(expr) => record_value(expr, key, left, items),
@@ -293,22 +271,13 @@ fn record_out(
     items: &mut Vec<Item>,
 ) -> Result<Ending, NoMemory>
     requires few { length exprs.now ≤ 16 }
-    requires plain { list_all plain_expr exprs.now ≡ true }
-    ensures { IfOk result (λ ending. Recorded key.now items.old.items (out_course exprs.now) left items.new.items ending) }
+    requires plain { list_all plain_expr (terms_of exprs.now) ≡ true }
+    ensures { IfOk result (λ ending. Recorded key.now items.old.items (ports_course (terms_of exprs.now)) left items.new.items ending) }
 {
     match record_numbers(alloc, exprs, key, left, items)? {
         None => Ok(Ending::Spends),
         Some((numbers, _)) => Ok(Ending::Decides(sent_out(alloc, &numbers)?)),
     }
-}
-
-// The statements of a plain block, each of them plain.
-fn plain_items(block: &Block) -> &[Statement]
-    requires plain { is_plain_block block.now ≡ true }
-    ensures list { result.now ≡ statements_of block.now }
-    ensures plain { list_all is_plain_statement result.now ≡ true }
-{
-    block.items()
 }
 
 #[cycle(recording)]
@@ -319,8 +288,8 @@ fn record_statement(
     left: u32,
     items: &mut Vec<Item>,
 ) -> Result<Ending, NoMemory>
-    requires plain { is_plain_statement statement.now ≡ true }
-    ensures { IfOk result (λ ending. Recorded key.now items.old.items (statement_course statement.now) left items.new.items ending) }
+    requires plain { is_plain_act (act_of statement.now) ≡ true }
+    ensures { IfOk result (λ ending. Recorded key.now items.old.items (act_course (act_of statement.now)) left items.new.items ending) }
 {
     if left == 0 {
         return Ok(Ending::Spends);
@@ -328,50 +297,52 @@ fn record_statement(
     match statement {
         Statement::Drop => Ok(Ending::Decides(Decision::Drop)),
         Statement::Out(exprs) => record_out(alloc, exprs.items(), key, left - 1, items),
-        Statement::If(head, block, other) => match record_head(head, key, left - 1, items)? {
-            None => Ok(Ending::Spends),
-            Some((datum, left)) => {
-                if datum.truth() {
-                    record_block(alloc, plain_items(block), key, left, items)
-                } else {
-                    record_other(alloc, other, key, left, items)
-                }
-            }
-        },
+        Statement::If(head, first, second) => {
+            record_if(alloc, head, first, second, key, left - 1, items)
+        }
         _ => unreachable!(),
     }
 }
 
+// An `if` behind its own step.
 #[cycle(recording)]
-fn record_other(
+fn record_if(
     alloc: Global,
-    other: &Option<Block>,
+    head: &Head,
+    first: &Block,
+    second: &Option<Block>,
     key: &Key,
     left: u32,
     items: &mut Vec<Item>,
 ) -> Result<Ending, NoMemory>
-    requires plain { plain_else (option_map is_plain_block other.now) ≡ true }
-    ensures { IfOk result (λ ending. Recorded key.now items.old.items (otherwise_course (option_map block_course other.now)) left items.new.items ending) }
+    requires plain { is_plain_act (if_tree head.now first.now second.now) ≡ true }
+    ensures { IfOk result (λ ending. Recorded key.now items.old.items (branch_course head.now first.now second.now) left items.new.items ending) }
 {
-    match other {
-        None => Ok(Ending::Goes(left)),
-        Some(block) => record_block(alloc, plain_items(block), key, left, items),
+    let Some((datum, left)) = record_head(head, key, left, items)? else {
+        return Ok(Ending::Spends);
+    };
+    match chosen_side(datum.truth(), first, second) {
+        Side::First(block) => record_block(alloc, block, key, left, items),
+        Side::Second(block) => record_block(alloc, block, key, left, items),
+        Side::Neither => Ok(Ending::Goes(left)),
     }
 }
 
+// Statements, one after the other, up to the first that decides.
 #[cycle(recording)]
+#[tactic(auto, using(crate::proofs::Plainness::small_act, crate::proofs::Plainness::plain_act))]
 fn record_block(
     alloc: Global,
-    statements: &[Statement],
+    block: &Block,
     key: &Key,
     steps: u32,
     items: &mut Vec<Item>,
 ) -> Result<Ending, NoMemory>
-    requires plain { list_all is_plain_statement statements.now ≡ true }
-    ensures { IfOk result (λ ending. Recorded key.now items.old.items (courses (map statement_course statements.now)) steps items.new.items ending) }
+    requires plain { is_plain (tree_of block.now) ≡ true }
+    ensures { IfOk result (λ ending. Recorded key.now items.old.items (acts_course (tree_of block.now)) steps items.new.items ending) }
 {
     let mut left = steps;
-    for statement in statements {
+    for statement in block.items() {
         match record_statement(alloc, statement, key, left, items)? {
             Ending::Spends => return Ok(Ending::Spends),
             Ending::Decides(decision) => return Ok(Ending::Decides(decision)),
@@ -379,19 +350,6 @@ fn record_block(
         }
     }
     Ok(Ending::Goes(left))
-}
-
-fn record_policy(
-    alloc: Global,
-    body: &Block,
-    key: &Key,
-    budget: u32,
-    items: &mut Vec<Item>,
-) -> Result<Ending, NoMemory>
-    requires plain { is_plain_block body.now ≡ true }
-    ensures { IfOk result (λ ending. Recorded key.now items.old.items (block_course body.now) budget items.new.items ending) }
-{
-    record_block(alloc, plain_items(body), key, budget, items)
 }
 
 // The end of a policy without a decision is a drop.
@@ -523,13 +481,13 @@ fn trace_of(
 ) -> Result<Run, NoMemory>
     requires key { IsTrue (valid_key key.now) }
     requires budget { IsBudget budget }
-    requires plain { is_plain policy.now ≡ true }
+    requires plain { is_plain (tree_of policy.now.body) ≡ true }
     ensures call { IfOk result (λ trace. IsOfCall policy.now number budget switch key.now trace) }
     ensures cells { IfOk result (λ trace. trace.cells ≡ []) }
-    ensures whole { IfOk result (λ trace. IsWhole policy.now budget key.now trace.items trace.outcome) }
+    ensures whole { IfOk result (λ trace. IsWhole (tree_of policy.now.body) budget key.now trace.items trace.outcome) }
 {
     let mut items = Vec::new(alloc);
-    let ending = record_policy(alloc, policy.body(), key, budget, &mut items)?;
+    let ending = record_block(alloc, policy.body(), key, budget, &mut items)?;
     Ok(Run {
         number,
         switch,
@@ -554,10 +512,10 @@ pub fn record<V: EnvView>(
 ) -> Result<Run, RecordError>
     requires key { IsTrue (valid_key key.now) }
     requires budget { IsBudget budget }
-    requires plain { is_plain policy.now ≡ true }
+    requires plain { is_plain (tree_of policy.now.body) ≡ true }
     ensures call { IfOk result (λ trace. IsOfCall policy.now number budget switch key.now trace) }
-    ensures items { IfOk result (λ trace. trace.items ≡ items_of (course_of policy.now budget) key.now) }
-    ensures outcome { IfOk result (λ trace. (env : Cell → Value) → Gives env trace.cells → trace.outcome ≡ eval_of policy.now budget env switch key.now) }
+    ensures items { IfOk result (λ trace. trace.items ≡ items_of (course_of (tree_of policy.now.body) budget) key.now) }
+    ensures outcome { IfOk result (λ trace. IsEvaluated (tree_of policy.now.body) budget switch key.now trace.cells trace.outcome) }
     ensures given { IfOk result (λ trace. AreGiven (V.gave view.new) trace.cells) }
     ensures unread { result ≡ Err Unread ↔ V.refused view.old < V.refused view.new }
     ensures cells { IfOk result (λ trace. trace.cells ≡ []) }

@@ -11,7 +11,7 @@ pub returns-in-Ok-clause-run : goal.returns-in-Ok-clause-run
 returns-in-Ok-clause-run g c =
     let count : c.line_count.result ≡ length (ended_lines (policy_part c.args.text.now)) = c.line_count.ensures.count ∙ ap (λ t. length (ended_lines t)) c.split_input.ensures.policy in
     let number : c.line_count.result + 2 ≡ first_number c.args.text.now = ap (λ n. n + 2) count in
-    ran_sim (g.O.Sink.tells c.args.output.now) (g.O.Sink.tells c.sim.new.output) c.args.text.now c.sim.result c.args.command c.in-Ok.policy c.in-Sim.budget (c.line_count.result + 2) _ c.in-Sim.is (rw c.split_input.ensures.policy at c.in-Ok.ensures.policy) number
+    ran_sim (g.O.Sink.tells c.args.output.now) (g.O.Sink.tells c.sim.new.output) c.args.text.now c.sim.result c.one_policy.ensures c.args.command c.in-Ok.policy c.in-Sim.budget (c.line_count.result + 2) _ c.in-Sim.is (rw c.split_input.ensures.policy at c.in-Ok.ensures.policy) number
     c.split_input.ensures.script c.sim.ensures.sims
 
 pub returns-in-Some-clause-run : goal.returns-in-Some-clause-run

@@ -1,5 +1,4 @@
-use Rattle.policy_lang.proofs.Budgets.{keeps_decisions}
-use Rattle.policy_lang.proofs.CellsRead.{reads_nothing_else}
+use Rattle.policy_lang.proofs.SameRuns.{keeps_decisions, reads_nothing_else}
 use Rattle.policy_lang.proofs.laws.evaluation_laws.Goals as goal
 
 pub returns : goal.returns

@@ -2,6 +2,7 @@ use Rattle.std.proofs.Common.{◌≡◌, ◌+◌, true, sym, ap, ◌∙◌, subs
 use Rattle.maple_base.specs.declared.decision.Outcome.TheVariants.{Decided, Spent}
 use Rattle.maple_base.specs.Kinds.{blank_value}
 use Rattle.policy_lang.specs.Courses.{course_of, outcome_at}
+use Rattle.policy_lang.specs.TreeOf.{tree_of}
 use Rattle.policy_lang.proofs.Lawful.{ends_as_evaluated}
 use Rattle.trace_record.specs.Traces.{Gives}
 use Rattle.trace_tree.specs.Bounds.{items_within}
@@ -71,7 +72,7 @@ returns c = λ traces knows unfound.
     let n : c.rules_needed_with-need.result ≡ need policy c.args.budget traces k =
     c.rules_needed_with-need.ensures (leaf_of own) ∙ ap (λ x. rules_needed (insert x (leaf_of own) c.args.self.now.tree)) is
     ∙ ap rules_needed (grows policy c.args.budget traces c.args.self.now knows k c.requires.key unfound) in
-    let d : c.in_ok-decision.decision ≡ decided (outcome_at (course_of policy c.args.budget) k) = c.in_ok-decision.ensures.decision ∙ sym (ap decided (ends_as_evaluated policy c.args.budget blank_value 1 k knows.plainly c.requires.key ∙ o)) in
+    let d : c.in_ok-decision.decision ≡ decided (outcome_at (course_of (tree_of policy.body) c.args.budget) k) = c.in_ok-decision.ensures.decision ∙ sym (ap decided (ends_as_evaluated (tree_of policy.body) c.args.budget blank_value 1 k knows.plainly c.requires.key ∙ o)) in
     let same = trace_same c.leaves.result _ c.into_parts-items.result.0 _ c.into_parts-items.result.1 c.in_ok-decision.decision _ (c.leaves.ensures ∙ leaves_are policy c.args.budget traces c.args.self.now knows k c.requires.key) is (c.into_parts-items.ensures.cells ∙ c.in-Ok.ensures.cells) d in
     on_three _ _ _ _ c.learn.result c.learn.ensures.tree c.learn.ensures.facts c.learn.ensures.barriers
     (λ t f b. learned_step policy c.args.budget traces c.args.self.now knows k c.requires.key unfound c.in-Decided.decision o c.learn.new.self _ _ (is_no_more _ _ n c.if-need.false) c.in_ok-decision.ensures.line

@@ -1,7 +1,7 @@
-use Rattle.std.proofs.Common.{◌≡◌, ◌+◌, ◌*◌, ◌≤◌, suc, drop, map}
-use Rattle.policy_lang.specs.Evaluation.{rounds, in_order, block_ending}
+use Rattle.std.proofs.Common.{◌≡◌, ◌+◌, ◌*◌, ◌≤◌, suc, drop}
+use Rattle.policy_lang.specs.TreeOf.{term_of, acts_of, tree_of}
+use Rattle.policy_lang.specs.Evaluation.{rounds, acts_ending, block_ending}
 use Rattle.policy_eval.specs.Answers.{arrived}
-use Rattle.policy_eval.specs.Endings.{statement_ending}
 use Rattle.policy_eval.proofs.Rounds.{RoundsLeft}
 use Rattle.policy_eval.proofs.evaluation.Evaluator.+statements.Given as goal
 
@@ -23,7 +23,7 @@ abbrev pub invariant-block-loop-statement : goal.invariant-block-loop-statement
 invariant-block-loop-statement g l =
     let a = arrived (g.E.EnvNow.has l.self.env.now) l.self.switch l.self.key.now in record {
       fewer : l.steps ≤ l.initial.steps;
-      rest : in_order (map statement_ending (drop l.statement-index l.statement-items)) a l.scope l.steps ≡ in_order (map statement_ending l.statement-items) a l.initial.scope l.initial.steps;
+      rest : acts_ending (acts_of (drop l.statement-index l.statement-items)) a l.scope l.steps ≡ acts_ending (acts_of l.statement-items) a l.initial.scope l.initial.steps;
     }
 
 -- the rounds so far decide nothing
@@ -31,7 +31,7 @@ abbrev pub invariant-repeat-loop-scope : goal.invariant-repeat-loop-scope
 invariant-repeat-loop-scope g l =
     let a = arrived (g.E.EnvNow.has l.self.env.now) l.self.switch l.self.key.now in record {
       fewer : l.steps ≤ l.initial.steps;
-      rest : RoundsLeft l.test (block_ending l.body) a l.scope l.steps (rounds (suc l.initial.steps) l.test (block_ending l.body) a l.initial.scope l.initial.steps);
+      rest : RoundsLeft (term_of l.test) (block_ending (tree_of l.body)) a l.scope l.steps (rounds (suc l.initial.steps) (term_of l.test) (block_ending (tree_of l.body)) a l.initial.scope l.initial.steps);
     }
 
 abbrev pub decreases-repeat-loop-scope : goal.decreases-repeat-loop-scope

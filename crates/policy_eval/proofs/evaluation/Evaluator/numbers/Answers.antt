@@ -1,6 +1,7 @@
 use Rattle.std.proofs.Common.{◌≡◌, ℕ, ◌<◌, ◌+◌, List, [], ◌∷◌, ◌++◌, length, drop, ap, sym, ◌∙◌, arith, length-append}
 use Rattle.std.proofs.lemmas.Result.{err_from_is_err_and}
 use Rattle.policy_lang.specs.declared.Expr.{Expr}
+use Rattle.policy_lang.specs.TreeOf.{terms_of}
 use Rattle.policy_lang.specs.Values.{number_in}
 use Rattle.policy_lang.specs.Evaluation.{Arrival, numbers_of}
 use Rattle.policy_eval.specs.Data.{datum_of}
@@ -29,7 +30,7 @@ loop-expr-preserved g c =
       count = omega (arith, ap length items, length-append ns (number_in (datum_of c.in_ok-datum.datum) ∷ []), c.loop-expr.invariant.count);
       given = numbers_more es i c.expr-item.result a c.args.scope.now c.args.steps.now c.loop-expr.steps c.value.new.steps (datum_of c.in_ok-datum.datum) ns lt c.expr-item.is (sym c.in_ok-datum.ensures.given)
           c.loop-expr.invariant.given
-          ∙ ap (λ l. put_ahead l (numbers_of (drop (i + 1) es) a c.args.scope.now c.value.new.steps)) (sym items);
+          ∙ ap (λ l. put_ahead l (numbers_of (terms_of (drop (i + 1) es)) a c.args.scope.now c.value.new.steps)) (sym items);
     }
 
 pub returns : goal.returns

@@ -1,4 +1,0 @@
-pub mod Heads
-pub mod Numbers
-pub mod Own
-pub mod Standing

@@ -1,2 +1,0 @@
-pub mod Indents
-pub mod Lines

@@ -1,5 +1,0 @@
-pub mod Added
-pub mod Outs
-pub mod Piles
-pub mod Replays
-pub mod Terms

@@ -1,0 +1,5 @@
+pub mod CountedFiles
+pub mod CountedLimits
+pub mod CountedNodes
+pub mod Growing
+pub mod Outlines

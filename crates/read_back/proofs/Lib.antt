@@ -1,3 +1,0 @@
-pub mod AlikePrinted
-pub mod ReadAgain
-pub mod ReadBack

@@ -1,4 +1,0 @@
--- A reader must believe: Laws.
--- Parts serves private contracts and proofs alone.
-pub mod Laws
-pub mod Parts
