@@ -1,7 +1,6 @@
 pub mod Maps
 pub mod Sets
-pub mod Places
-pub mod PlaceOrder
+pub mod SortedLists
 pub mod NamedTables
 pub mod Limits
 pub mod LinkFacts

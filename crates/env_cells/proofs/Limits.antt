@@ -15,7 +15,7 @@ use Rattle.env_cells.specs.Environment.{Environment, PortSet, NumberTable, place
 use Rattle.env_cells.specs.Named.{numbers_in, tables_named}
 use Rattle.env_cells.specs.Refusals.{full}
 use Rattle.env_cells.specs.Limits.{IsPlaceOf, IsWithinLimits}
-use Rattle.env_cells.proofs.PlaceOrder.{place_cmp_total, place_cmp-IsAntisymmetric}
+use Rattle.env_cells.specs.KeyOrders.{place_order_total, place_order_apart}
 
 -- what is not full is within the limit
 pub within_full : (count limit : ℕ) → full count limit ≡ None → count ≤ limit
@@ -142,14 +142,14 @@ module _ (e : Environment) (within : IsWithinLimits e) where
   pub limits_linked : (from to : Place) → map.len (map.insert e.links from to) ≤ 4096 → IsPlaceOf e from → IsPlaceOf e to → IsWithinLimits (record e { links = map.insert e.links from to })
   limits_linked from to few start end =
       limits_links (map.insert e.links from to) few
-      (inserted place_cmp_total (λ p q. IsPlaceOf e p) e.links from to (λ q tied. subst (IsPlaceOf e) (sym (place_cmp-IsAntisymmetric q from tied)) start) within.starts)
-      (inserted place_cmp_total (λ p q. IsPlaceOf e q) e.links from to (λ q tied. end) within.ends)
+      (inserted place_order_total (λ p q. IsPlaceOf e p) e.links from to (λ q tied. subst (IsPlaceOf e) (sym (place_order_apart q from tied)) start) within.starts)
+      (inserted place_order_total (λ p q. IsPlaceOf e q) e.links from to (λ q tied. end) within.ends)
 
   pub limits_unlinked : (from : Place) → IsWithinLimits (record e { links = map.remove e.links from })
   limits_unlinked from =
-      limits_links (map.remove e.links from) (len_removed place_cmp_total e.links from 4096 within.links)
-      (removed place_cmp_total (λ p q. IsPlaceOf e p) e.links from within.starts)
-      (removed place_cmp_total (λ p q. IsPlaceOf e q) e.links from within.ends)
+      limits_links (map.remove e.links from) (len_removed place_order_total e.links from 4096 within.links)
+      (removed place_order_total (λ p q. IsPlaceOf e p) e.links from within.starts)
+      (removed place_order_total (λ p q. IsPlaceOf e q) e.links from within.ends)
 
   kept_tables : (tables : map.FinMap name_cmp NumberTable) (place : Place) → IsPlaceOf e place → IsPlaceOf (record e { tables = tables }) place
   kept_tables tables place is = record { switch = is.switch; port = is.port }

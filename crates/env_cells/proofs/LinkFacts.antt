@@ -1,6 +1,6 @@
 -- What holds of the list of links of an environment.
-use Rattle.std.proofs.Common.{◌≡◌, ◌≢◌, ℕ, zero, suc, ◌<◌, ◌≤◌, Bool, true, false, cond, Some, List, [], ◌∷◌, length, get_or, sym, ap, ◌∙◌, refl, arith}
-use Rattle.std.specs.Prelude.{All, Contains, ◌||◌, ◌&&◌}
+use Rattle.std.proofs.Common.{◌≡◌, ◌≢◌, ℕ, zero, suc, ◌<◌, ◌≤◌, true, cond, Some, List, [], ◌∷◌, length, get_or, sym, ap, ◌∙◌, refl, arith}
+use Rattle.std.specs.Prelude.{All, Contains, ◌||◌}
 use Rattle.std.specs.declared.cmp.Ordering.{Ordering}
 use Rattle.std.specs.declared.cmp.Ordering.TheVariants.{Less, Equal, Greater}
 use Rattle.std.specs.Ordering.{eq_by_cmp, is_eq, nat_cmp, ordering_reverse}
@@ -14,8 +14,8 @@ use Rattle.maple_base.specs.declared.cells.Place.{Place}
 use Rattle.env_cells.specs.Environment.{Environment, PortSet, place_cmp, knows}
 use Rattle.env_cells.specs.Limits.{IsWithinLimits}
 use Rattle.env_cells.specs.Lists.{StartApart, RiseByPlace, IsBetweenPorts, IsKnown, NamesFewSwitches}
-use Rattle.env_cells.proofs.Places.{truth, rises}
-use Rattle.env_cells.proofs.PlaceOrder.{place_cmp_total}
+use Rattle.env_cells.specs.KeyOrders.{place_order_total}
+use Rattle.env_cells.proofs.SortedLists.{truth, second_true, rises}
 
 module _ {K X : Type 0} {R : K → K → Ordering} (o : IsTotalOrder R) where
   -- each entry of a list whose keys rise is found at its key
@@ -24,11 +24,7 @@ module _ {K X : Type 0} {R : K → K → Ordering} (o : IsTotalOrder R) where
   find_at (e ∷ es) zero d sorted lt = ap (λ r. cond (is_eq r) (Some e.1) (find R e.0 es)) (tied_itself o e.0)
   find_at (e ∷ es) (suc k) d sorted lt =
       ap (λ r. cond (is_eq r) (Some e.1) (find R (get_or es k d).0 es)) (o.antisymm (get_or es k d).0 e.0 ∙ ap ordering_reverse (rises R (e ∷ es) 0 (suc k) d sorted (omega arith) lt))
-      ∙ find_at es k d (rest (below_all R e.0 es) (is_sorted R es) sorted) (omega arith)
-    where
-      rest : (a b : Bool) → (a && b) ≡ true → b ≡ true
-      rest true b h = h
-      rest false b h = cc
+      ∙ find_at es k d (second_true (below_all R e.0 es) _ sorted) (omega arith)
 
   entries_sorted : (m : map.FinMap R X) → is_sorted R (map.entries m) ≡ true
   entries_sorted m = truth _ (map.entries_sorted m)
@@ -59,22 +55,22 @@ module _ (e : Environment) (within : IsWithinLimits e) where
   links = map.entries e.links
 
   pub links_apart : StartApart links
-  links_apart i j d lt inside = keys_apart place_cmp_total e.links i j d lt inside
+  links_apart i j d lt inside = keys_apart place_order_total e.links i j d lt inside
 
   pub links_rise : RiseByPlace links
-  links_rise i j d lt inside = rises place_cmp links i j d (entries_sorted place_cmp_total e.links) lt inside
+  links_rise i j d lt inside = rises place_cmp links i j d (entries_sorted place_order_total e.links) lt inside
 
   pub links_few : length links ≤ 4096
   links_few = omega (arith, map.len-entries e.links, within.links)
 
   pub links_ports : All IsBetweenPorts links
   links_ports k d lt =
-      let there = get_entry place_cmp_total e.links k d lt in
+      let there = get_entry place_order_total e.links k d lt in
       record { start = (within.starts _ _ there).port; end = (within.ends _ _ there).port }
 
   pub links_known : All (IsKnown e) links
   links_known k d lt =
-      let there = get_entry place_cmp_total e.links k d lt in
+      let there = get_entry place_order_total e.links k d lt in
       record { start = (within.starts _ _ there).switch; end = (within.ends _ _ there).switch }
 
   among : (switch : ℕ) → knows e switch ≡ true → Contains (map.keys e.switches) switch

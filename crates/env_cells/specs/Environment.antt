@@ -36,6 +36,10 @@ pub record Environment : Type 0 where
   pub links : map.FinMap place_cmp Place
   pub tables : map.FinMap name_cmp NumberTable
 
+-- what is known where these are the entries of the links and of the tables
+abbrev pub environment_of : map.FinMap nat_cmp PortSet → map.FinMap nat_cmp Place → List (Place × Place) → List (List ℕ × NumberTable) → Environment
+environment_of s h ls ts = record { switches = s; hosts = h; links = map.from_entries ls; tables = map.from_entries ts }
+
 -- without switches, hosts, links and tables
 abbrev pub nothing_known : Environment
 nothing_known = record { switches = map.empty; hosts = map.empty; links = map.empty; tables = map.empty }

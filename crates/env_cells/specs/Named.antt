@@ -1,23 +1,27 @@
 -- Tables by their names.
-use Rattle.std.specs.Prelude.{◌≡◌, ℕ, unwrap_or, if◌then◌else◌, Option, Some, List, [], ◌∷◌}
-use Rattle.std.specs.Ordering.{eq_by_cmp}
-use Rattle.std.specs.List.{list_any}
+use Rattle.std.specs.Prelude.{ℕ, unwrap_or, List, [], ◌∷◌}
 use Rattle.std.specs.FinMap as map
 use Rattle.env_cells.specs.Environment.{NumberTable, name_cmp}
+use Rattle.env_cells.specs.Sorted.{replaced}
 
 -- the numbers of a table; one that is not declared has none
 abbrev pub numbers_in : map.FinMap name_cmp NumberTable → List ℕ → NumberTable
 numbers_in tables name = unwrap_or (map.get tables name) map.empty
+
+-- a table has this number at the key
+abbrev pub with_number : map.FinMap name_cmp NumberTable → List ℕ → ℕ → ℕ → map.FinMap name_cmp NumberTable
+with_number tables name key value = map.insert tables name (map.insert (numbers_in tables name) key value)
+
+-- a table has no number at the key
+abbrev pub without_number : map.FinMap name_cmp NumberTable → List ℕ → ℕ → map.FinMap name_cmp NumberTable
+without_number tables name key = map.insert tables name (map.remove (numbers_in tables name) key)
 
 -- the tables of these names, each with the numbers that it has, and empty where it is new
 abbrev pub tables_named : map.FinMap name_cmp NumberTable → List (List ℕ) → map.FinMap name_cmp NumberTable
 tables_named tables [] = map.empty
 tables_named tables (name ∷ names) = map.insert (tables_named tables names) name (numbers_in tables name)
 
--- what there is at a name once each of these names that had no table has an empty one
-abbrev pub with_empty : map.FinMap name_cmp NumberTable → List (List ℕ) → List ℕ → Option NumberTable
-with_empty tables names q = if list_any (eq_by_cmp name_cmp q) names then Some (numbers_in tables q) else map.get tables q
-
--- each of these names that had no table has an empty one
-abbrev pub HaveAdded : List (List ℕ × NumberTable) → List (List ℕ) → List (List ℕ × NumberTable) → Type 0
-HaveAdded old names new = (q : List ℕ) → map.get (map.from_entries {R = name_cmp} new) q ≡ with_empty (map.from_entries old) names q
+-- tables that are among these entries take their numbers
+abbrev pub with_tables : map.FinMap name_cmp NumberTable → List (List ℕ × NumberTable) → map.FinMap name_cmp NumberTable
+with_tables tables [] = tables
+with_tables tables (e ∷ es) = replaced name_cmp (with_tables tables es) e.0 e.1

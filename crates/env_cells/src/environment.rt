@@ -19,11 +19,11 @@ ghost use Rattle.env_cells.specs.Limits.{IsWithinLimits};
 ghost use Rattle.env_cells.specs.Most.{most_links, most_switches};
 ghost use Rattle.env_cells.specs.Lists.{StartApart, RiseByPlace, IsBetweenPorts, IsKnown, NamesFewSwitches};
 
-use crate::link_map::LinkMap;
 use crate::number_map::NumberMap;
+use crate::sorted_map::SortedMap;
 use crate::tables::TableMap;
 use crate::up_ports::UpPorts;
-use crate::{Links, Update, UpdateError};
+use crate::{Update, UpdateError};
 use maple_base::{Cell, Name, Names, NoMemory, Place, Ports, UpdateRefused, Value, is_port};
 use std::alloc::Global;
 use std::marker::Model;
@@ -53,22 +53,22 @@ pub const MOST_NUMBERS: u64 = 65536;
 pub struct Env {
     switches: NumberMap<UpPorts>,
     hosts: NumberMap<Place>,
-    links: LinkMap,
+    links: SortedMap<Place, Place>,
     tables: TableMap,
     alloc: Global,
 }
 
 impl Model for Env {
-    ghost use Rattle.env_cells.specs.Environment.{Environment, environment_code};
+    ghost use Rattle.env_cells.specs.Environment.{Environment, environment_code, environment_of};
     ghost use Rattle.env_cells.specs.Limits.{IsWithinLimits};
 
     ghost Value = { Environment };
 
     ghost coded = { environment_code };
 
-    ghost view = { λ a. record { switches = a.switches; hosts = a.hosts; links = a.links; tables = a.tables } };
+    ghost view = { λ a. environment_of a.switches a.hosts a.links a.tables };
 
-    ghost invariant = { λ a. IsWithinLimits (record { switches = a.switches; hosts = a.hosts; links = a.links; tables = a.tables }) };
+    ghost invariant = { λ a. IsWithinLimits (environment_of a.switches a.hosts a.links a.tables) };
 }
 
 impl Env {
@@ -79,7 +79,7 @@ impl Env {
         Env {
             switches: NumberMap::new(alloc),
             hosts: NumberMap::new(alloc),
-            links: LinkMap::new(alloc),
+            links: SortedMap::new(alloc),
             tables: TableMap::new(alloc),
             alloc,
         }
@@ -116,7 +116,7 @@ impl Env {
     }
 
     /// The links, in the order of their first places.
-    pub fn links(&self) -> &Links
+    pub fn links(&self) -> &[(Place, Place)]
         ensures links { result.now ≡ map.entries self.now.links }
         ensures apart { StartApart result.now }
         ensures few { length result.now ≤ most_links }
@@ -127,14 +127,14 @@ impl Env {
         ensures order { RiseByPlace result.now }
         ensures limits { IsWithinLimits self.now }
     {
-        self.links.links()
+        self.links.entries()
     }
 
     /// Where the link from a place ends, if one begins there.
     pub fn link(&self, from: Place) -> Option<Place>
         ensures { result ≡ map.get self.now.links from }
     {
-        self.links.get(from)
+        self.links.get(&from).copied()
     }
 
     /// Whether a switch is known.
@@ -150,8 +150,8 @@ impl Env {
         ensures limits { IsWithinLimits self.now }
     {
         Ok(Env {
-            switches: self.switches.copy()?,
-            hosts: self.hosts.copy()?,
+            switches: self.switches.clone()?,
+            hosts: self.hosts.clone()?,
             links: self.links.copy()?,
             tables: self.tables.copy()?,
             alloc: self.alloc,
@@ -259,7 +259,7 @@ impl Env {
         self.check_switch(to.switch)?;
         check_port(from.port)?;
         check_port(to.port)?;
-        check_room(self.links.len_with(from), MOST_LINKS)?;
+        check_room(self.links.len_with(&from), MOST_LINKS)?;
         self.links.insert(from, to)?;
         Ok(())
     }
@@ -269,7 +269,7 @@ impl Env {
     {
         self.check_switch(from.switch)?;
         check_port(from.port)?;
-        self.links.remove(from);
+        self.links.remove(&from);
         Ok(())
     }
 

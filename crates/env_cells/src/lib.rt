@@ -2,9 +2,8 @@
 #![tactic(auto)]
 
 pub mod environment;
-mod link_map;
-pub mod links;
 mod number_map;
+mod sorted_map;
 mod tables;
 mod up_ports;
 pub mod updates;
@@ -12,6 +11,5 @@ pub mod updates;
 pub use environment::{
     Env, MOST_HOSTS, MOST_LINKS, MOST_NUMBERS, MOST_SWITCHES, MOST_TABLES, MOST_UP_PORTS,
 };
-pub use links::Links;
 pub use maple_base::UpdateRefused;
 pub use updates::{Update, UpdateError};

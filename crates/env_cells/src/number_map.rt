@@ -10,7 +10,7 @@ ghost use Rattle.env_cells.specs.Environment.{ports_in};
 
 use crate::up_ports::UpPorts;
 use maple_base::NoMemory;
-use std::alloc::Global;
+use std::alloc::{AllocError, Global};
 use std::collections::BTreeMap;
 use std::marker::Model;
 
@@ -88,11 +88,10 @@ impl<V: Drop> NumberMap<V> {
     }
 }
 
-impl<V: Clone> NumberMap<V> {
-    /// The same values at the same keys, if a clone is equal to its value.
-    pub fn copy(&self) -> Result<NumberMap<V>, NoMemory>
-        ensures { IfOk result (λ copy. ((v w : V) → V.is_clone v w → w ≡ v) → copy ≡ self.now) }
-    {
+impl<V: Clone> Clone for NumberMap<V> {
+    ghost is_clone = { λ m copy. ((v w : V) → V.is_clone v w → w ≡ v) → copy ≡ m };
+
+    fn clone(&self) -> Result<NumberMap<V>, AllocError> {
         let entries = self.entries.clone()?;
         Ok(NumberMap { entries })
     }

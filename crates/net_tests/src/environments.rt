@@ -49,7 +49,7 @@ fn asked_switch(alloc: Global, env: &Env, switch: &str) -> Result<String, Fail> 
 }
 
 fn asked_links(alloc: Global, env: &Env) -> Result<String, Fail> {
-    spelled_links(alloc, env.links().items())
+    spelled_links(alloc, env.links())
 }
 
 fn told_many(alloc: Global, env: &mut Env, kind: &str, count: &str) -> Result<String, Fail> {

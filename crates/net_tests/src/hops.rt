@@ -15,7 +15,7 @@ impl Subject for Scene {
             ["hop?", from, to] => asked_hop(alloc, self, from, to),
             ["way?", from, to] => asked_way(alloc, self, from, to),
             ["knows?", switch] => asked_switch(alloc, self, switch),
-            ["links?"] => spelled_links(alloc, self.links().items()),
+            ["links?"] => spelled_links(alloc, self.links()),
             _ => asked_update(alloc, self, command),
         }
     }

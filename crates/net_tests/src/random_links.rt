@@ -78,7 +78,7 @@ fn best_hop(reached: &[(u64, u64)], links: &[(Place, Place)], from: u64) -> Valu
 
 // Whether the hops to one switch are those that the search finds, from the scene and from its links.
 fn agrees(scene: &Scene, hops: &Hops, reached: &[(u64, u64)], to: u64) -> bool {
-    let links = scene.links().items();
+    let links = scene.links();
     for from in 1..65 {
         let best = best_hop(reached, links, from);
         if scene.cell(Cell::Hop { from, to }) != best {
@@ -98,7 +98,7 @@ fn agrees(scene: &Scene, hops: &Hops, reached: &[(u64, u64)], to: u64) -> bool {
 fn all_agree(alloc: Global, scene: &Scene) -> Result<bool, NoMemory> {
     let hops = Hops::build(alloc, scene.links())?;
     for to in 1..65 {
-        let reached = search(alloc, scene.links().items(), to)?;
+        let reached = search(alloc, scene.links(), to)?;
         if !agrees(scene, &hops, &reached, to) {
             return Ok(false);
         }

@@ -98,7 +98,7 @@ fn agrees(hops: &Hops, links: &[(Place, Place)]) -> bool {
 
 fn hops_agree(alloc: Global, scene: &Scene) -> Result<bool, NoMemory> {
     let hops = Hops::build(alloc, scene.links())?;
-    Ok(agrees(&hops, scene.links().items()))
+    Ok(agrees(&hops, scene.links()))
 }
 
 #[test]

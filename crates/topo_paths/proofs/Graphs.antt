@@ -1,8 +1,6 @@
 -- The links of an environment, in their order and after an update.
-use Rattle.std.proofs.Common.{◌≡◌, ◌≤◌, false, not, cond, eqb, ◌&&◌, List, Option, Some, None, is_some, refl, sym, ap, ◌∙◌, arith}
-use Rattle.std.specs.declared.cmp.Ordering.{Ordering}
-use Rattle.std.specs.declared.cmp.Ordering.TheVariants.{Less, Equal, Greater}
-use Rattle.std.specs.Ordering.{is_eq}
+use Rattle.std.proofs.Common.{◌≡◌, ◌≤◌, false, not, eqb, ◌&&◌, List, Option, Some, None, is_some, refl, sym, ap, ◌∙◌, arith}
+use Rattle.std.specs.declared.cmp.Ordering.TheVariants.{Less}
 use Rattle.std.specs.FinMap as map
 use Rattle.std.proofs.lemmas.Bool.{not-false, and_parts, eqb-true}
 use Rattle.std.proofs.lemmas.Bool.Decides.{nat_tests}
@@ -12,9 +10,9 @@ use Rattle.env_cells.specs.declared.updates.Update.TheVariants.{Link as LinkUpda
 use Rattle.env_cells.specs.Environment.{Environment, place_cmp}
 use Rattle.env_cells.specs.Changes.{applied}
 use Rattle.env_cells.specs.Lists.{RiseByPlace}
-use Rattle.env_cells.proofs.PlaceOrder.{place_cmp_total, place_cmp-IsAntisymmetric}
+use Rattle.env_cells.specs.KeyOrders.{place_order_total, place_order_apart}
 use Rattle.env_cells.proofs.Maps.{insert_same}
-use Rattle.env_cells.proofs.Places.{remove_absent}
+use Rattle.env_cells.proofs.SortedLists.{remove_absent}
 use Rattle.topo_paths.specs.Walks.{Link}
 use Rattle.topo_paths.specs.Graphs.{RisePorts}
 use Rattle.topo_paths.specs.Scenes.{links_in}
@@ -30,7 +28,7 @@ pub link_there : (e : Environment) (u : Update) (from to place : Place) → u �
 link_there e u from to place is there same =
     let (s, p) = and_parts (eqb place.switch to.switch) (eqb place.port to.port) (not-false _ same) in
     ap (λ x. links_in (applied e x)) is
-    ∙ ap map.entries (insert_same place_cmp_total place_cmp-IsAntisymmetric e.links from to (there ∙ ap Some (place_same place to (eqb-true _ _ s) (eqb-true _ _ p))))
+    ∙ ap map.entries (insert_same place_order_total place_order_apart e.links from to (there ∙ ap Some (place_same place to (eqb-true _ _ s) (eqb-true _ _ p))))
 
 none_of : (o : Option Place) → is_some o ≡ false → o ≡ None
 none_of None h = refl
@@ -39,4 +37,4 @@ none_of (Some place) h = absurd (cc)
 pub link_gone : (e : Environment) (u : Update) (from : Place) → u ≡ NoLink from → is_some (map.get e.links from) ≡ false → links_in (applied e u) ≡ links_in e
 link_gone e u from is none =
     ap (λ x. links_in (applied e x)) is
-    ∙ ap map.entries (sym (remove_absent place_cmp_total place_cmp-IsAntisymmetric e.links from (none_of (map.get e.links from) none)))
+    ∙ ap map.entries (sym (remove_absent place_order_total place_order_apart e.links from (none_of (map.get e.links from) none)))

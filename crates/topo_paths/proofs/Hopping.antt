@@ -8,7 +8,7 @@ use Rattle.maple_base.specs.declared.cells.Place.{Place}
 use Rattle.topo_paths.specs.Walks.{Link, IsWalk, NoWalk, IsShortest, IsNextHop}
 use Rattle.env_cells.specs.Lists.{IsAmong, IsBetweenPorts}
 use Rattle.maple_base.specs.Paths.{is_hop}
-use Rattle.topo_paths.specs.NextHops.{leads_in, leads_on, distance, hop_over, least_hop, next_hop}
+use Rattle.topo_paths.specs.NextHops.{leads_in, leads_on, distance, hop_over, next_hop}
 use Rattle.topo_paths.proofs.Levels.{next_hop-at}
 use Rattle.topo_paths.proofs.Distances.{leads_in-none, leads_in-zero, leads_in-more, leads_in-first, leads_in-walk, walk_from_leads, IsDistance, distance_is, distance_some}
 use Rattle.topo_paths.proofs.Nearness.{distance_where, to_named}

@@ -1,12 +1,13 @@
 -- Ways, hop by hop.
-use Rattle.std.proofs.Common.{◌≡◌, ◌≢◌, ◌⊎◌, ℕ, suc, ◌+◌, ◌<◌, ◌≤◌, true, List, [], ◌∷◌, ◌++◌, length, Some, IsTrue, inl, inr, refl, sym, ap, ◌∙◌, subst, ⊎_elim, arith}
+use Rattle.std.proofs.Common.{◌≡◌, ◌⊎◌, ℕ, suc, ◌+◌, ◌<◌, true, List, [], ◌∷◌, ◌++◌, length, Some, IsTrue, inr, refl, sym, ◌∙◌, subst, ⊎_elim, arith}
 use Rattle.std.specs.List.{list_all}
 use Rattle.std.proofs.lemmas.Bool.{and_from}
 use Rattle.std.proofs.lemmas.List.{length_push}
 use Rattle.std.proofs.lemmas.List.Folds.{list_all-append}
 use Rattle.maple_base.specs.declared.cells.Place.{Place}
-use Rattle.maple_base.specs.Paths.{is_hop, IsPath}
+use Rattle.maple_base.specs.Paths.{is_hop}
 use Rattle.topo_paths.specs.Walks.{Link, IsNextHop, IsWay, NoWalk}
+use Rattle.topo_paths.specs.Ways.{IsWholeWay}
 use Rattle.topo_paths.specs.Graphs.{IsGraph}
 use Rattle.topo_paths.specs.NextHops.{distance, next_hop}
 use Rattle.topo_paths.proofs.Distances.{distance_some, walk_from_leads}
@@ -17,11 +18,6 @@ use Rattle.topo_paths.proofs.Hopping.{hop_some, hop_nearer}
 pub way_push : (links : List Link) (to from at : ℕ) (hops : List Place) (hop : Place) → IsWay links to from at hops → IsNextHop links at to hop → IsWay links to from hop.switch (hops ++ record { switch = at; port = hop.port } ∷ [])
 way_push links to from at [] hop way next = (hop.switch, sym way, subst (λ s. IsNextHop links s to hop) (sym way) next, refl)
 way_push links to from at (first ∷ hops) hop (over, left, is, rest) next = (over, left, is, way_push links to over at hops hop rest next)
-
--- the first of some hops leaves another switch than the last one
-pub way_apart : (links : List Link) (to from at : ℕ) (hops : List Place) → 0 < length hops → IsWay links to from at hops → from ≢ to
-way_apart links to from at [] some way = absurd (omega (arith, some))
-way_apart links to from at (hop ∷ hops) some (next, left, is, rest) = is.apart
 
 -- the way so far: once it began there is a walk on, and its hops are few
 pub record IsUnderWay (links : List Link) (from to at : ℕ) (hops : List Place) : Type 0 where
@@ -40,16 +36,18 @@ way_turn links from to at hops hop graph h port w =
       ports = list_all-append is_hop hops (record { switch = at; port = hop.port } ∷ []) ∙ and_from (list_all is_hop hops) _ w.ports (and_from _ true port refl);
     }
 
--- some hops that end where there is no further one lead there
-pub way_end : (links : List Link) (from to at : ℕ) (hops : List Place) → 0 < length hops → (at ≡ to) ⊎ NoWalk links at to → IsUnderWay links from to at hops → IsWay links to from to hops
-way_end links from to at hops some none w =
-    ⊎_elim
-    (λ e. subst (λ s. IsWay links to from s hops) e w.way)
-    (λ never. ⊎_elim
-    (λ empty. absurd (omega (arith, some, empty)))
-    (λ (far, is, lt). let (walk, leads, long) = walk_from_leads links far at to (distance_some links at to far is).leads in absurd (never walk leads))
-    w.on)
-    none
-
-pub way_path : (links : List Link) (from to at : ℕ) (hops : List Place) → 0 < length hops → IsUnderWay links from to at hops → IsPath hops
-way_path links from to at hops some w = record { some = omega (arith, some); few = ⊎_elim (λ empty. omega (arith, empty)) (λ (far, is, lt). omega (arith, lt)) w.on; ports = w.ports }
+-- hops that end where there is no further one are all
+pub way_whole : (links : List Link) (from to at : ℕ) (hops : List Place) → (at ≡ to) ⊎ NoWalk links at to → IsUnderWay links from to at hops → IsWholeWay links from to hops
+way_whole links from to at [] none w = record { none = λ _. subst (λ s. (s ≡ to) ⊎ NoWalk links s to) (sym w.way) none; way = λ some. absurd (omega (arith, some)); path = λ some. absurd (omega (arith, some)); apart = λ some. absurd (omega (arith, some)) }
+way_whole links from to at (hop ∷ hops) none w = record {
+  none = λ empty. absurd (omega (arith, empty));
+  way = λ some. ⊎_elim
+      (λ e. subst (λ s. IsWay links to from s (hop ∷ hops)) e w.way)
+      (λ never. ⊎_elim
+      (λ empty. absurd (omega (arith, empty)))
+      (λ (far, is, lt). let (walk, leads, long) = walk_from_leads links far at to (distance_some links at to far is).leads in absurd (never walk leads))
+      w.on)
+      none;
+  path = λ some. record { some = omega (arith, some); few = ⊎_elim (λ empty. omega (arith, empty)) (λ (far, is, lt). omega (arith, lt)) w.on; ports = w.ports };
+  apart = λ some. let (next, left, is, rest) = w.way in is.apart;
+}

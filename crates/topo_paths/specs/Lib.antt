@@ -1,6 +1,6 @@
 -- A reader must believe: Walks (walks, shortest walks, next hops, ways), Graphs (which links have next hops), NextHops (the next hop as a function), Scenes (what a scene has in its cells),
 -- Laws (what the function says of all walks).
--- Levels, Rows and Tables serve private contracts and proofs alone.
+-- Levels, Rows, Tables and Ways serve private contracts and proofs alone.
 pub mod Graphs
 pub mod Laws
 pub mod Levels
@@ -9,3 +9,4 @@ pub mod Rows
 pub mod Scenes
 pub mod Tables
 pub mod Walks
+pub mod Ways

@@ -5,9 +5,9 @@ ghost use Rattle.std.specs.List.Sorted.{IsPermutation};
 ghost use Rattle.topo_paths.specs.Graphs.{IsGraph, RisePorts};
 ghost use Rattle.topo_paths.specs.NextHops.{next_hop};
 ghost use Rattle.topo_paths.specs.Walks.{IsNextHop, IsWay, NoWalk};
+ghost use Rattle.topo_paths.specs.Ways.{IsWholeWay};
 
 use crate::hop_table::HopTable;
-use env_cells::Links;
 use maple_base::{NoMemory, Path, Place};
 use std::alloc::Global;
 use std::marker::Model;
@@ -15,7 +15,7 @@ use std::marker::Model;
 /// The next hops between all switches over links.
 #[derive(Drop)]
 pub struct Hops {
-    links: Links,
+    links: Vec<(Place, Place)>,
     table: HopTable,
 }
 
@@ -26,26 +26,23 @@ impl Model for Hops {
 
     ghost Value = { List Link };
 
-    ghost view = { λ a. a.links };
+    ghost view = { λ a. a.links.items };
 
-    ghost invariant = { λ a. HasTable a.links a.table };
+    ghost invariant = { λ a. HasTable a.links.items a.table };
 }
 
 impl Hops {
     /// The next hops over links of which no two begin at one place, which name at most 64
     /// switches, and whose ports are from 1 to 65,280.
-    pub fn build(alloc: Global, links: &Links) -> Result<Hops, NoMemory>
+    pub fn build(alloc: Global, links: &[(Place, Place)]) -> Result<Hops, NoMemory>
         requires { IsGraph links.now }
         ensures { IfOk result (λ hops. hops ≡ links.now) }
     {
-        let list = Vec::from_slice(alloc, links.items())?;
-        let rising = rising(alloc, links.items())?;
+        let rising = rising(alloc, links)?;
         let mut table = HopTable::new(alloc, rising.len())?;
         table.rebuild(&rising);
-        Ok(Hops {
-            links: Links::new(list),
-            table,
-        })
+        let links = Vec::from_slice(alloc, links)?;
+        Ok(Hops { links, table })
     }
 
     /// The next hop between two switches: the least port of the first whose link begins a shortest
@@ -68,6 +65,17 @@ impl Hops {
         ensures none { IfOk result (λ answer. IfNone answer ((from ≡ to) ⊎ NoWalk self.now from to)) }
         ensures apart { IfOk result (λ answer. IfSome answer (λ path. from ≢ to)) }
     {
+        let hops = self.way(from, to)?;
+        if hops.is_empty() {
+            return Ok(None);
+        }
+        Ok(Some(Path::new(hops)))
+    }
+
+    // The next hops from one switch to another, as far as they lead.
+    fn way(&self, from: u64, to: u64) -> Result<Vec<Place>, NoMemory>
+        ensures { IfOk result (λ hops. IsWholeWay self.now from to hops.items) }
+    {
         let mut hops = Vec::new(*self.table.switches.allocator());
         let mut at = from;
         while let Some(next) = self.hop(at, to) {
@@ -77,10 +85,7 @@ impl Hops {
             })?;
             at = next.switch;
         }
-        if hops.is_empty() {
-            return Ok(None);
-        }
-        Ok(Some(Path::new(hops)))
+        Ok(hops)
     }
 }
 

@@ -14,7 +14,7 @@ ghost use Rattle.topo_paths.specs.Graphs.{IsGraph, RisePorts};
 ghost use Rattle.topo_paths.specs.Scenes.{links_in, cell_in, HopIsShown};
 
 use crate::hop_table::HopTable;
-use env_cells::{Env, Links, MOST_LINKS, Update, UpdateError};
+use env_cells::{Env, MOST_LINKS, Update, UpdateError};
 use maple_base::{Cell, EnvNow, NoMemory, Place, Value};
 use std::alloc::Global;
 use std::marker::Model;
@@ -74,6 +74,7 @@ impl Scene {
     }
 
     /// Whether the links are others after an update.
+    #[tactic(auto, using(crate::proofs::Graphs::link_there, crate::proofs::Graphs::link_gone))]
     fn moves_links(&self, update: &Update) -> bool
         ensures { result ≡ false → links_in (applied self.now update.now) ≡ links_in self.now }
     {
@@ -95,7 +96,7 @@ impl Scene {
     }
 
     /// The links, in the order of their first places.
-    pub fn links(&self) -> &Links
+    pub fn links(&self) -> &[(Place, Place)]
         ensures links { result.now ≡ links_in self.now }
         ensures graph { IsGraph result.now }
         ensures limits { IsWithinLimits self.now }
@@ -140,6 +141,7 @@ fn at_or_nothing(place: Option<Place>) -> Value
 }
 
 /// The links of an environment, which rise by port.
+#[tactic(auto, using(crate::proofs::Graphs::rise_by_port))]
 fn links_of(env: &Env) -> &[(Place, Place)]
     ensures links { result.now ≡ links_in env.now }
     ensures many { length result.now ≤ most_links }
@@ -147,5 +149,5 @@ fn links_of(env: &Env) -> &[(Place, Place)]
     ensures graph { IsGraph result.now }
     ensures rise { RisePorts result.now }
 {
-    env.links().items()
+    env.links()
 }

@@ -8,11 +8,11 @@ use Rattle.env_cells.specs.Lists.{StartApart, RiseByPlace, IsBetweenPorts, IsKno
 use Rattle.env_cells.proofs.LinkFacts.{links_apart, links_rise, links_few, links_ports, links_known, links_named}
 use Rattle.env_cells.proofs.environment.Env.links.Goals as goal
 
-within : (c : goal.After-links) → IsWithinLimits c.args.self.now
+within : (c : goal.After-entries) → IsWithinLimits c.args.self.now
 within c = subst IsWithinLimits c.self.view_is c.self.invariant
 
-lent : (c : goal.After-links) → map.entries c.args.self.now.links ≡ c.links.result.now
-lent c = sym (c.links.ensures ∙ ap (λ (e : Environment). map.entries e.links) c.self.view_is)
+lent : (c : goal.After-entries) → map.entries c.args.self.now.links ≡ c.entries.result.now
+lent c = sym (c.entries.ensures ∙ ap (λ (e : Environment). map.entries e.links) c.self.view_is)
 
 pub returns-clause-apart : goal.returns-clause-apart
 returns-clause-apart c = subst StartApart (lent c) (links_apart c.args.self.now (within c))

@@ -1,14 +1,14 @@
 use Rattle.std.proofs.Common.{◌≡◌, ◌≤◌, true, ap, sym, subst, arith}
 use Rattle.std.specs.Prelude.{is_some, unwrap_or}
 use Rattle.std.specs.FinSet as set
-use Rattle.env_cells.specs.Environment.{Environment, knows, ports_in}
+use Rattle.env_cells.specs.Environment.{environment_of, Environment, knows, ports_in}
 use Rattle.env_cells.specs.Limits.{IsWithinLimits}
 use Rattle.env_cells.proofs.Limits.{within_full, limits_raised}
 use Rattle.env_cells.proofs.environment.Env.raise_port.Goals as goal
 
 pub invariant_of-self-2 : goal.invariant_of-self-2
 invariant_of-self-2 c =
-    let e : Environment = record { switches = c.self.inside.switches; hosts = c.self.inside.hosts; links = c.self.inside.links; tables = c.self.inside.tables } in
+    let e : Environment = environment_of c.self.inside.switches c.self.inside.hosts c.self.inside.links c.self.inside.tables in
     let known : knows e c.args.switch ≡ true = sym (ap is_some c.in-Some.ensures) in
     let same : set.len (set.insert c.in-Some.up.now c.args.port) ≡ set.len (set.insert (ports_in e.switches c.args.switch) c.args.port) =
     ap (λ x. set.len (set.insert (unwrap_or x set.empty) c.args.port)) c.in-Some.ensures in

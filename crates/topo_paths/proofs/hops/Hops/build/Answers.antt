@@ -1,4 +1,4 @@
-use Rattle.std.proofs.Common.{◌≡◌, List, sym, ◌∙◌, subst}
+use Rattle.std.proofs.Common.{List, sym, ◌∙◌, subst}
 use Rattle.std.specs.List.Sorted.{IsPermutation}
 use Rattle.std.proofs.lemmas.List.Sorted.{IsPermutation-sym, All-permutation}
 use Rattle.env_cells.specs.Lists.{IsAmong, NamesFewSwitches}
@@ -11,8 +11,7 @@ use Rattle.topo_paths.proofs.hops.Hops.build.Goals as goal
 pub rebuild-requires-clause-few : goal.rebuild-requires-clause-few
 rebuild-requires-clause-few c =
     let (names, few, all) = c.requires.few in
-    let moved = subst (λ (x : List Link). IsPermutation x c.in_ok-rising.rising.items) c.items-2.ensures c.in_ok-rising.ensures.moved in
-    subst (λ (x : List Link). NamesFewSwitches x) (sym c.deref.ensures.value) (names, few, All-permutation (IsAmong names) c.args.links.now c.in_ok-rising.rising.items moved all)
+    subst (λ (x : List Link). NamesFewSwitches x) (sym c.deref.ensures.value) (names, few, All-permutation (IsAmong names) c.args.links.now c.in_ok-rising.rising.items c.in_ok-rising.ensures.moved all)
 
 pub rebuild-requires-clause-rise : goal.rebuild-requires-clause-rise
 rebuild-requires-clause-rise c = subst (λ (x : List Link). RisePorts x) (sym c.deref.ensures.value) c.in_ok-rising.ensures.rise
@@ -21,11 +20,10 @@ pub invariant_of-result : goal.invariant_of-result
 invariant_of-result c =
     let links = c.args.links.now in
     let lent = c.deref.result.now in
-    let moved = subst (λ (x : List Link). IsPermutation links x) (sym c.deref.ensures.value) (subst (λ (x : List Link). IsPermutation x c.in_ok-rising.rising.items) c.items-2.ensures c.in_ok-rising.ensures.moved) in
+    let moved = subst (λ (x : List Link). IsPermutation links x) (sym c.deref.ensures.value) c.in_ok-rising.ensures.moved in
     let back = IsPermutation-sym links lent moved in
     let t = c.rebuild.ensures.table in
-    let kept : c.new-2.result ≡ links = c.new-2.ensures ∙ c.in_ok-list.ensures.items ∙ c.items.ensures in
-    subst (λ (x : List Link). HasTable x c.rebuild.new.self) (sym kept)
+    subst (λ (x : List Link). HasTable x c.rebuild.new.self) (sym c.in_ok-links.ensures.items)
     (record {
       graph = c.requires;
       hops = record {

@@ -9,9 +9,9 @@ use Rattle.topo_paths.proofs.hops.Hops.hop.Goals as goal
 pub returns : goal.returns
 returns c =
     let links : List Link = c.args.self.now in
-    let is : c.self.inside.links ≡ links = c.self.view_is in
+    let is : c.self.inside.links.items ≡ links = c.self.view_is in
     let ports : All IsBetweenPorts links = subst (λ (x : List Link). All IsBetweenPorts x) is c.self.invariant.graph.ports in
-    let value : c.hop.result ≡ next_hop links c.args.from c.args.to = c.hop.ensures c.self.inside.links c.self.invariant.hops ∙ ap (λ (x : List Link). next_hop x c.args.from c.args.to) is in
+    let value : c.hop.result ≡ next_hop links c.args.from c.args.to = c.hop.ensures c.self.inside.links.items c.self.invariant.hops ∙ ap (λ (x : List Link). next_hop x c.args.from c.args.to) is in
     let law = hop_law links c.args.from c.args.to c.hop.result value in
     record {
       value = value;
