@@ -1,0 +1,10 @@
+pub mod Follows
+pub mod Lawful
+pub mod Looked
+pub mod Noted
+pub mod Recorded
+pub mod Rightly
+pub mod Settled
+pub mod Traces
+pub mod Valid
+pub mod Walks
