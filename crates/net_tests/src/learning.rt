@@ -95,6 +95,18 @@ impl Learned {
         put(self.alloc, &mut self.tree, trace)
     }
 
+    /// Removes the trace of this number from the tree and the list. Tells whether it was there.
+    pub fn retire(&mut self, number: u64) -> bool {
+        self.traces.retain(|trace| trace.0 != number);
+        retire(&mut self.tree, number)
+    }
+
+    /// Removes all traces but those of these numbers from the tree and the list. Tells how many.
+    pub fn retain(&mut self, numbers: &[u64]) -> u32 {
+        self.traces.retain(|trace| is_one_of(numbers, trace.0));
+        retain(&mut self.tree, numbers)
+    }
+
     /// The number of the trace that the tree finds for a packet, where a scan of the list finds it too.
     pub fn find(&self, key: &Key) -> Result<Option<u64>, Fail> {
         let found = match self.tree.search(key) {
@@ -238,6 +250,24 @@ fn grow(tree: &mut Tree, trace: Trace) -> Result<(), Trace>
     ensures unchanged { OnErr result (tree.new ≡ tree.old) }
 {
     tree.augment(trace)
+}
+
+#[tactic(auto, using(crate::proofs::Traces::fewer_without))]
+fn retire(tree: &mut Tree, number: u64) -> bool
+    ensures { rules_needed tree.new ≤ rules_needed tree.old }
+{
+    tree.retire(number)
+}
+
+#[tactic(auto, using(crate::proofs::Traces::fewer_kept))]
+fn retain(tree: &mut Tree, numbers: &[u64]) -> u32
+    ensures { rules_needed tree.new ≤ rules_needed tree.old }
+{
+    tree.retain(|leaf| is_one_of(numbers, leaf.number))
+}
+
+fn is_one_of(numbers: &[u64], number: u64) -> bool {
+    numbers.contains(&number)
 }
 
 // Whether a trace of these questions may be put into a tree.

@@ -16,6 +16,8 @@ impl Subject for Learned {
             ["many", count] => asks_many(alloc, self, count),
             ["add", trace] => adds(alloc, self, trace),
             ["add", trace, port] => adds_out(alloc, self, trace, port),
+            ["retire", trace] => retires(alloc, self, trace),
+            ["keep", traces @ ..] => keeps(alloc, self, traces),
             ["find", fields @ ..] => finds(alloc, self, fields),
             _ => asked_of_tree(alloc, self, command),
         }
@@ -54,6 +56,19 @@ fn adds_out(alloc: Global, learned: &mut Learned, trace: &str, port: &str) -> Re
     let port = u16::try_from(number(port)?)?;
     learned.add(number_of_trace, Decision::Out(Actions::new(&[port])))?;
     spelled_word(alloc, "ok")
+}
+
+fn retires(alloc: Global, learned: &mut Learned, trace: &str) -> Result<String, Fail> {
+    let was_there = learned.retire(number(trace)?);
+    spelled_word(alloc, if was_there { "yes" } else { "no" })
+}
+
+fn keeps(alloc: Global, learned: &mut Learned, traces: &[&str]) -> Result<String, Fail> {
+    let mut numbers = Vec::new(alloc);
+    for trace in traces {
+        numbers.push(number(trace)?)?;
+    }
+    spelled_number(alloc, u64::from(learned.retain(&numbers)))
 }
 
 fn finds(alloc: Global, learned: &Learned, fields: &[&str]) -> Result<String, Fail> {
@@ -104,6 +119,44 @@ const SCRIPTS: &[&str] = &[
 #[test]
 fn paths_and_rules(rt: HostRuntime) -> Result<(), Fail> {
     for script in scripts() {
+        follow(rt.alloc(), &mut Learned::new(rt.alloc()), script)?;
+    }
+    Ok(())
+}
+
+const FORGOTTEN: &[&str] = &[
+    "ask in_port=3?yes; add 1; ask in_port=3?no dl_dst=7; add 2 1; ask in_port=3?no dl_dst=9; add 3 2;
+         retire 1 = yes; retire 1 = no; leaves? = 2; find in_port=3 dl_dst=7 = none; find in_port=4 dl_dst=7 = 2;
+         find in_port=4 dl_dst=9 = 3; facts? = dl_dst=7 1 1, dl_dst=9 1 2; barriers? = in_port=3 2 65533;
+         ask in_port=3?yes dl_type=2048; add 4; find in_port=3 dl_type=2048 = 4",
+    "ask in_port=3?yes; add 1; ask in_port=3?no dl_dst=7; add 2 1; ask in_port=3?no dl_dst=9; add 3 2;
+         retire 2 = yes; retire 2 = no; leaves? = 2; find in_port=3 = 1; find in_port=4 dl_dst=7 = none;
+         find in_port=4 dl_dst=9 = 3; facts? = dl_dst=9 1 2, in_port=3 3; barriers? = in_port=3 2 65533;
+         ask in_port=3?no dl_dst=7; add 4 5; facts? = dl_dst=7 1 5, dl_dst=9 1 2, in_port=3 3",
+    "ask in_port=3?yes; add 1; ask in_port=3?no dl_dst=7; add 2 1; ask in_port=3?no dl_dst=9; add 3 2;
+         retire 3 = yes; retire 4 = no; leaves? = 2; find in_port=4 dl_dst=9 = none; find in_port=4 dl_dst=7 = 2;
+         retire 2 = yes; leaves? = 1; rules? = 1; find in_port=4 dl_dst=7 = none; facts? = in_port=3 1;
+         ask in_port=3?no tp_dst=22?no; add 5 6; rules? = 4; find in_port=4 tp_dst=23 = 5; find in_port=3 = 1",
+    "ask in_port=3?yes; add 1; ask in_port=3?no dl_dst=7; add 2 1; ask in_port=3?no dl_dst=9; add 3 2;
+         keep 1 2 3 = 0; leaves? = 3; find in_port=3 = 1; find in_port=4 dl_dst=7 = 2; find in_port=4 dl_dst=9 = 3;
+         keep = 3; leaves? = 0; rules? = 0; find in_port=3 = none; find in_port=4 dl_dst=7 = none;
+         keep = 0; ask dl_dst=7; add 1; leaves? = 1; find in_port=3 dl_dst=7 = 1",
+    "many 21999; ask dl_src=21999?no; add 1; many 21999; ask dl_src=21999?yes; add 2; many 10; ask dl_src=10?yes; add 3;
+         keep 3 = 2; leaves? = 1; rules? = 11; find dl_src=22000 = none; find dl_src=21999 = none; find dl_src=10 = 3;
+         many 10; ask dl_src=10?no tp_dst=22; add 4; rules? = 13; find dl_src=22000 tp_dst=22 = 4; retire 3 = yes; leaves? = 1",
+    "many 262143; ask dl_src=262143?no; add 1; many 262143; ask dl_src=262143?yes; add 2; retire 1 = yes;
+         find dl_src=262144 = none; find dl_src=262143 = 2; retire 2 = yes; leaves? = 0; ask dl_dst=7; add 3; find dl_dst=7 = 3",
+];
+
+fn forgotten() -> &'static [&'static str] {
+    FORGOTTEN
+}
+
+// The first four rows begin with one tree of three traces: what comes from port 3 is dropped, all else leaves by its
+// target. Where a branch was emptied, a trace may ask there what it likes. In the last two a long false side goes.
+#[test]
+fn what_is_forgotten(rt: HostRuntime) -> Result<(), Fail> {
+    for script in forgotten() {
         follow(rt.alloc(), &mut Learned::new(rt.alloc()), script)?;
     }
     Ok(())

@@ -5,8 +5,12 @@ pub mod Branching
 pub mod Children
 pub mod Clears
 pub mod Growths
+pub mod Keeping
+pub mod Kept
 pub mod Places
 pub mod Puts
 pub mod Refusals
+pub mod Retains
 pub mod Rolls
+pub mod Stands
 pub mod Walks

@@ -5,6 +5,7 @@ mod clear;
 mod grow;
 pub mod laws;
 pub mod node;
+mod retain;
 pub mod tree;
 mod walk;
 
