@@ -8,7 +8,7 @@ use Rattle.maple_base.specs.declared.key.Key.{Key}
 use Rattle.maple_base.specs.declared.decision.Rule.{Rule}
 use Rattle.maple_base.specs.Choice.{fits, stands_above, MayChoose}
 use Rattle.maple_base.proofs.Standing.{never_itself, not_above, not_both}
-use Rattle.rule_builder.proofs.Spans.{none_in, the_one}
+use Rattle.priority_plan.proofs.Spans.{none_in, the_one}
 use Rattle.maple.specs.Choosing.{NoneFits, IsBest}
 
 -- the better of the best so far and a further rule

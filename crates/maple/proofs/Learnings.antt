@@ -34,12 +34,12 @@ use Rattle.trace_tree.specs.Growth.{found, scratch, insert, leaf_of, admits, lea
 use Rattle.trace_tree.specs.Bounds.{items_within}
 use Rattle.trace_tree.proofs.Growths.{grown_ordered}
 use Rattle.trace_tree.proofs.Apart.{scratch_apart, admitted_scratch, apart_push, grown_push, leaves_grown}
-use Rattle.rule_builder.specs.Rules.{facts_of, barriers_of, fact_actions, rules_of, rules_needed}
-use Rattle.rule_builder.specs.Counts.{count_of, count_in}
+use Rattle.priority_plan.specs.Rules.{facts_of, barriers_of, fact_actions, rules_of, rules_needed}
+use Rattle.priority_plan.specs.Counts.{count_of, count_in}
 use Rattle.rule_builder.specs.Chosen.{HoldsRules, ChoosesRight}
 use Rattle.rule_builder.proofs.Choice.{choice_law, table_law}
-use Rattle.rule_builder.proofs.Counted.{needed_count}
-use Rattle.rule_builder.proofs.Spans.{barrier_least, none_in, the_one}
+use Rattle.priority_plan.proofs.Counted.{needed_count}
+use Rattle.priority_plan.proofs.Spans.{barrier_least, none_in, the_one}
 use Rattle.maple.specs.declared.world.World.{World}
 use Rattle.packet_key.specs.declared.malformed.Malformed.{Malformed as Fault}
 use Rattle.report_text.specs.declared.line.Line.TheVariants.{Hit, Miss, Malformed, Answer, Spent as SpentRun}

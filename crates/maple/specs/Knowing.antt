@@ -13,7 +13,7 @@ use Rattle.policy_lang.specs.Courses.{course_of, items_of, outcome_at}
 use Rattle.trace_tree.specs.declared.node.Trace.{Trace}
 use Rattle.trace_tree.specs.Growth.{scratch, found}
 use Rattle.trace_tree.specs.Apart.{AreApart}
-use Rattle.rule_builder.specs.Rules.{facts_of, barriers_of, rules_needed}
+use Rattle.priority_plan.specs.Rules.{facts_of, barriers_of, rules_needed}
 use Rattle.packet_key.specs.Frames.{key_of}
 use Rattle.report_text.specs.declared.line.Line.{Line}
 use Rattle.maple.specs.declared.step.Step.{Step}

@@ -20,7 +20,7 @@ use Rattle.report_text.specs.declared.line.Line.TheVariants.{Hit, Miss, Malforme
 use Rattle.report_text.specs.declared.line.Learnt.{Learnt}
 use Rattle.report_text.specs.declared.line.Learnt.TheVariants.{Learned, Rows}
 use Rattle.report_text.specs.Report.{spelled}
-use Rattle.rule_builder.specs.Rules.{rules_of, rules_needed}
+use Rattle.priority_plan.specs.Rules.{rules_of, rules_needed}
 use Rattle.trace_tree.specs.declared.node.Trace.{Trace}
 use Rattle.trace_tree.specs.Growth.{found, scratch}
 use Rattle.maple.specs.declared.step.Step.{Step}

@@ -11,7 +11,7 @@ ghost use Rattle.policy_eval.specs.Answers.{IsBudget};
 ghost use Rattle.trace_tree.specs.declared.node.Trace.{Trace as TraceData};
 ghost use Rattle.trace_tree.specs.Bounds.{items_within};
 ghost use Rattle.trace_tree.specs.Growth.{admits, found, insert, leaf_of, leaves_of};
-ghost use Rattle.rule_builder.specs.Rules.{barriers_of, facts_of, level_limit, levels_of};
+ghost use Rattle.priority_plan.specs.Rules.{barriers_of, facts_of, level_limit, levels_of};
 ghost use Rattle.maple.specs.Knowing.{Knows, SaysAnswer, SaysFrame, SaysPacket, SaysStep};
 ghost use Rattle.report_text.specs.declared.line.Line.{Line as LineOf};
 ghost use Rattle.report_text.specs.Report.{spelled};

@@ -8,17 +8,15 @@ use Rattle.maple_base.specs.declared.items.Item.TheVariants.{Read, Test}
 use Rattle.maple_base.specs.Keys.{in_domain}
 use Rattle.maple_base.specs.Questions.{among, asks_once, same_field, within_domain}
 use Rattle.trace_tree.specs.declared.node.Leaf.{Leaf}
-use Rattle.trace_tree.specs.Shape.{Shape, Branches, Empty, Ends, Reads, Tests, NoBranch, Branch}
+use Rattle.trace_tree.specs.Shape.{Shape}
 use Rattle.trace_tree.specs.Growth.{admits, insert}
 use Rattle.trace_tree.specs.Bounds.{items_within}
-use Rattle.trace_tree.specs.Kept.{kept, kept_in, IsKept, AreKept}
+use Rattle.trace_tree.specs.Kept.{kept, IsKept}
 use Rattle.trace_tree.proofs.Growths.{both}
 use Rattle.trace_tree.proofs.Admits.{item_here}
-use Rattle.trace_tree.proofs.Kept.{is_ends, is_reads, is_tests, is_branch}
-use Rattle.rule_builder.specs.Rules.{with_barrier, rules_needed}
-use Rattle.rule_builder.specs.Counts.{count_of, count_in}
-use Rattle.rule_builder.proofs.Counted.{needed_count}
-use Rattle.rule_builder.proofs.Grows.{few_more}
+use Rattle.priority_plan.specs.Rules.{rules_needed}
+use Rattle.priority_plan.proofs.Grows.{few_more}
+use Rattle.priority_plan.proofs.Shrinks.{kept_no_more, answered_no_more}
 use Rattle.net_tests.specs.Fixed.{is_new, fixed_behind}
 
 pub all_within : (is : List Item) → list_all within_domain is ≡ true → items_within is ≡ true
@@ -47,45 +45,8 @@ asks_further items n d seen fixed new lt seen_is first new_is before h =
 pub few_further : (items : List Item) (leaf : Leaf) (t : Shape) → admits items t ≡ true → length items ≤ 262144 → rules_needed (insert items leaf t) ≤ rules_needed t + 262145
 few_further items leaf t a h = omega (arith, few_more items leaf t a, h)
 
-barrier_rises : (a b : ℕ) → a ≤ b → with_barrier a ≤ with_barrier b
-barrier_rises zero b h = omega arith
-barrier_rises (suc a) zero h = absurd (omega (arith, h))
-barrier_rises (suc a) (suc b) h = omega (arith, h)
-
-module _ (A : Leaf → Bool → Type 0) where
-  mutual
-    -- where leaves go, rules go
-    count_kept : (t u : Shape) → IsKept A t u → count_of u ≤ count_of t
-    count_kept Empty u k = subst (λ x. count_of x ≤ 0) (sym k) (omega arith)
-    count_kept (Ends l) u k = is_ends (λ x. count_of x ≤ 1) k.0 l u k.2 (omega arith) (omega arith)
-    count_kept (Reads f bs) u k =
-        let h = count_in_kept bs k.0 k.1 in
-        is_reads (λ x. count_of x ≤ count_in bs) f k.0 u k.2 (omega arith) h
-    count_kept (Tests f v n y) u k =
-        let h = barrier_rises (count_of k.0) (count_of n) (count_kept n k.0 k.2) in
-        let i = count_kept y k.1 k.3 in
-        is_tests (λ x. count_of x ≤ count_of (Tests f v n y)) f v k.0 k.1 u k.4 (omega arith) (omega (arith, h, i))
-
-    count_in_kept : (bs cs : Branches) → AreKept A bs cs → count_in cs ≤ count_in bs
-    count_in_kept NoBranch cs k = subst (λ x. count_in x ≤ 0) (sym k) (omega arith)
-    count_in_kept (Branch v t bs) cs k =
-        let h = count_kept t k.0 k.2 in
-        let i = count_in_kept bs k.1 k.3 in
-        is_branch (λ x. count_in x ≤ count_in (Branch v t bs)) v k.0 k.1 cs k.4 (omega (arith, i)) (omega (arith, h, i))
-
-  pub fewer_kept : (t u : Shape) → IsKept A t u → rules_needed u ≤ rules_needed t
-  fewer_kept t u k = let e = needed_count t in let f = needed_count u in omega (arith, count_kept t u k, e, f)
-
-mutual
-  what_is_kept : (p : Leaf → Bool) (t : Shape) → IsKept (λ l b. b ≡ p l) t (kept p t)
-  what_is_kept p Empty = refl
-  what_is_kept p (Ends l) = (p l, refl, refl)
-  what_is_kept p (Reads f bs) = (kept_in p bs, what_are_kept p bs, refl)
-  what_is_kept p (Tests f v n y) = (kept p n, kept p y, what_is_kept p n, what_is_kept p y, refl)
-
-  what_are_kept : (p : Leaf → Bool) (bs : Branches) → AreKept (λ l b. b ≡ p l) bs (kept_in p bs)
-  what_are_kept p NoBranch = refl
-  what_are_kept p (Branch v t bs) = (kept p t, kept_in p bs, what_is_kept p t, what_are_kept p bs, refl)
+pub fewer_kept : (A : Leaf → Bool → Type 0) (t u : Shape) → IsKept A t u → rules_needed u ≤ rules_needed t
+fewer_kept A t u k = (answered_no_more A t u k).rules
 
 pub fewer_without : (p : Leaf → Bool) (t : Shape) → rules_needed (kept p t) ≤ rules_needed t
-fewer_without p t = fewer_kept (λ l b. b ≡ p l) t (kept p t) (what_is_kept p t)
+fewer_without p t = (kept_no_more p t).rules

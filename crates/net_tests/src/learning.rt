@@ -6,11 +6,12 @@ ghost use Rattle.maple_base.specs.Questions.{asks_once, field_number, same_field
 ghost use Rattle.net_tests.specs.Fixed.{is_new, fixed_behind};
 ghost use Rattle.trace_tree.specs.Growth.{admits, leaves_of, place_of, AreOrdered};
 ghost use Rattle.trace_tree.specs.Bounds.{items_within};
-ghost use Rattle.rule_builder.specs.Rules.{levels_of, rules_needed};
+ghost use Rattle.priority_plan.specs.Rules.{rules_needed};
 
 use crate::packets::item_of;
 use maple_base::{Cells, Decision, Field, Item, Items, Key, NoMemory, RuleList};
-use rule_builder::{levels, rules, rules_needed, rules_needed_with};
+use priority_plan::{Chain, chain, levels, rules_needed};
+use rule_builder::{rules, rules_needed_with};
 use std::alloc::{AllocError, Global};
 use std::marker::Model;
 use std::mem;
@@ -34,7 +35,7 @@ impl Model for Learned {
     ghost use Rattle.std.specs.Prelude.{◌≤◌};
     ghost use Rattle.trace_tree.specs.Shape.{Shape};
     ghost use Rattle.trace_tree.specs.ShapeCode.{coded_shape};
-    ghost use Rattle.rule_builder.specs.Rules.{rules_needed};
+    ghost use Rattle.priority_plan.specs.Rules.{rules_needed};
 
     ghost Value = { Shape };
 
@@ -147,7 +148,16 @@ impl Learned {
     /// How many priorities the rules take.
     pub fn levels(&self) -> Result<u64, Fail> {
         if self.bound <= MOST_RULES {
-            Ok(levels_in(&self.tree))
+            Ok(levels(&self.tree))
+        } else {
+            Err(Fail::from("too many rules"))
+        }
+    }
+
+    /// Rules that show that no fewer priorities do, the lowest first.
+    pub fn chain(&self) -> Result<Chain, Fail> {
+        if self.bound <= MOST_RULES {
+            chain_in(self.alloc, &self.tree)
         } else {
             Err(Fail::from("too many rules"))
         }
@@ -163,17 +173,16 @@ impl Learned {
     }
 }
 
-fn levels_in(tree: &Tree) -> u64
-    requires { rules_needed tree.now < 2 ^ 64 }
-    ensures { result ≡ levels_of tree.now }
-{
-    levels(tree)
+fn chain_in(alloc: Global, tree: &Tree) -> Result<Chain, Fail> {
+    if levels(tree) <= 65_000 {
+        Ok(chain(alloc, tree)?)
+    } else {
+        Err(Fail::from("too many levels"))
+    }
 }
 
-fn rules_in(alloc: Global, tree: &Tree) -> Result<RuleList, Fail>
-    requires { rules_needed tree.now < 2 ^ 64 }
-{
-    if levels_in(tree) <= 65_000 {
+fn rules_in(alloc: Global, tree: &Tree) -> Result<RuleList, Fail> {
+    if levels(tree) <= 65_000 {
         Ok(rules(alloc, tree)?)
     } else {
         Err(Fail::from("too many levels"))

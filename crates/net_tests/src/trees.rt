@@ -31,6 +31,7 @@ fn asked_of_tree(alloc: Global, learned: &Learned, command: &[&str]) -> Result<S
         ["rules_with?"] => spelled_number(alloc, learned.rules_needed_with()?),
         ["levels?"] => spelled_number(alloc, learned.levels()?),
         ["facts?"] => spelled_facts(alloc, learned),
+        ["chain?"] => spelled_chain(alloc, learned),
         ["barriers?"] => spelled_barriers(alloc, learned),
         _ => Err(Fail::from("no command of a tree")),
     }
@@ -84,6 +85,11 @@ fn spelled_facts(alloc: Global, learned: &Learned) -> Result<String, Fail> {
     spelled_rules(alloc, list.facts())
 }
 
+fn spelled_chain(alloc: Global, learned: &Learned) -> Result<String, Fail> {
+    let chain = learned.chain()?;
+    spelled_rules(alloc, chain.items())
+}
+
 fn spelled_barriers(alloc: Global, learned: &Learned) -> Result<String, Fail> {
     let list = learned.rules()?;
     spelled_rules(alloc, list.barriers())
@@ -111,7 +117,8 @@ const SCRIPTS: &[&str] = &[
     "many 262143; ask dl_src=262143?no; add 1; many 262143; ask dl_src=262143?yes; add 2;
          find dl_src=262144 = 1; find dl_src=262143 = 2; find dl_src=262142 = none; find dl_src=0 = none",
     "ask tp_dst=22?no; rules_with? = 2; add 1 2; ask tp_dst=22?yes; rules_with? = 3; add 2; leaves? = 2; rules? = 3;
-         levels? = 3; facts? = any 1 2, tp_dst=22 3; barriers? = tp_dst=22 2 65533",
+         levels? = 3; facts? = any 1 2, tp_dst=22 3; barriers? = tp_dst=22 2 65533;
+         chain? = any 1 2, tp_dst=22 2 65533, tp_dst=22 3",
 ];
 
 // The first two rows have paths that part at the last item: of 22,000 items, and of as many as a path
@@ -126,7 +133,7 @@ fn paths_and_rules(rt: HostRuntime) -> Result<(), Fail> {
 
 const FORGOTTEN: &[&str] = &[
     "ask in_port=3?yes; add 1; ask in_port=3?no dl_dst=7; add 2 1; ask in_port=3?no dl_dst=9; add 3 2;
-         retire 1 = yes; retire 1 = no; leaves? = 2; find in_port=3 dl_dst=7 = none; find in_port=4 dl_dst=7 = 2;
+         chain? = dl_dst=7 1 1, in_port=3 2 65533, in_port=3 3; retire 1 = yes; retire 1 = no; leaves? = 2; find in_port=3 dl_dst=7 = none; find in_port=4 dl_dst=7 = 2;
          find in_port=4 dl_dst=9 = 3; facts? = dl_dst=7 1 1, dl_dst=9 1 2; barriers? = in_port=3 2 65533;
          ask in_port=3?yes dl_type=2048; add 4; find in_port=3 dl_type=2048 = 4",
     "ask in_port=3?yes; add 1; ask in_port=3?no dl_dst=7; add 2 1; ask in_port=3?no dl_dst=9; add 3 2;

@@ -12,9 +12,10 @@ use Rattle.trace_tree.specs.Growth.{change, insert, child, admits, IsOrdered, Ar
 use Rattle.trace_tree.specs.Walks.{behind}
 use Rattle.trace_tree.proofs.Growths.{both, admits_Empty, child_below, child_ordered}
 use Rattle.trace_tree.proofs.Children.{change_here, change_ahead, change_past}
-use Rattle.rule_builder.specs.Rules.{with_barrier, rules_needed}
-use Rattle.rule_builder.specs.Counts.{count_of, count_in, barrier_at, barriers_with}
-use Rattle.rule_builder.proofs.Counted.{needed_count}
+use Rattle.priority_plan.specs.Rules.{with_barrier, rules_needed}
+use Rattle.priority_plan.specs.Counts.{count_of, count_in}
+use Rattle.rule_builder.specs.Counts.{barrier_at, barriers_with}
+use Rattle.priority_plan.proofs.Counted.{needed_count}
 
 change_count : (bs : Branches) (v : ℕ) (g : Shape → Shape) → AreOrdered bs → count_in (change v g bs) + count_of (child v bs) ≡ count_in bs + count_of (g (child v bs))
 change_count NoBranch v g o = omega arith

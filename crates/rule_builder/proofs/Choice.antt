@@ -16,7 +16,7 @@ use Rattle.trace_tree.specs.Growth.{IsOrdered, AreOrdered, search_of, search_in,
 use Rattle.trace_tree.specs.declared.node.Trace.{Trace}
 use Rattle.trace_tree.specs.declared.node.Leaf.{Leaf}
 use Rattle.maple_base.specs.Choice.{stands_above, fits, MayChoose}
-use Rattle.rule_builder.specs.Rules.{with_barrier, levels_of, fact, barrier, facts_of, facts_in, barrier_behind, barriers_of, barriers_in, fact_actions, rules_of}
+use Rattle.priority_plan.specs.Rules.{with_barrier, levels_of, fact, barrier, facts_of, facts_in, barrier_behind, barriers_of, barriers_in, fact_actions, rules_of}
 use Rattle.rule_builder.specs.Chosen.{fixed_by, IsFactOf, HoldsRules, list_of, IsFoundRule, IsFoundOrBarrier, ChoiceLaw, TableLaw}
 use Rattle.flow_table.specs.Shielding.{IsBarrier, IsShieldedBy}
 use Rattle.rule_builder.proofs.Leading.{fact_at, fact_in, IsFresh, AreFresh}
@@ -24,7 +24,8 @@ use Rattle.rule_builder.proofs.Paths.{fact_match, match_found}
 use Rattle.rule_builder.proofs.Fresh.{grown_fresh}
 use Rattle.trace_tree.proofs.Growths.{search_scratch, grown_ordered}
 use Rattle.rule_builder.proofs.Fixes.{fixed_value, fits_fixed, pcp-fix}
-use Rattle.rule_builder.proofs.Spans.{none_in, the_one, behind_is, barrier_above, barrier_least, facts_within, barriers_within, facts_fit, barriers_fit, facts_in_above, barriers_in_above}
+use Rattle.priority_plan.proofs.Spans.{none_in, the_one, behind_is, barrier_above, barrier_least, facts_within, barriers_within}
+use Rattle.rule_builder.proofs.Fits.{facts_fit, barriers_fit, facts_in_above, barriers_in_above}
 
 -- no fitting barrier stands above this priority
 abbrev pub Unshielded : List Rule → Key → ℕ → Type 0

@@ -14,13 +14,13 @@ use Rattle.maple_base.specs.Questions.{same_field}
 use Rattle.trace_tree.specs.Shape.{Shape, Branches, Empty, Ends, Reads, Tests, NoBranch, Branch}
 use Rattle.trace_tree.specs.Growth.{IsBelow, IsOrdered, AreOrdered, scratch}
 use Rattle.trace_tree.proofs.Growths.{same_field_is, grown_ordered}
-use Rattle.rule_builder.specs.Rules.{with_barrier, levels_of, fact, facts_of, facts_in, barrier_behind, barriers_of, barriers_in, rules_of}
+use Rattle.priority_plan.specs.Rules.{with_barrier, levels_of, fact, facts_of, facts_in, barrier_behind, barriers_of, barriers_in, rules_of}
 use Rattle.maple_base.specs.Choice.{Differ}
 use Rattle.rule_builder.specs.Laws.{DistinctLaw}
 use Rattle.rule_builder.proofs.Leading.{IsFresh, AreFresh}
 use Rattle.rule_builder.proofs.Fixes.{fixed_of-fix, same_refl}
 use Rattle.rule_builder.proofs.Fresh.{grown_fresh}
-use Rattle.rule_builder.proofs.Spans.{none_in, the_one, behind_is, barrier_above, barrier_least, Within, facts_within, barriers_within}
+use Rattle.priority_plan.proofs.Spans.{none_in, the_one, behind_is, barrier_above, barrier_least, Within, facts_within, barriers_within}
 
 own_fixed : (f : Field) (v : ℕ) (m : Match) → fixed_of (fix f v m) f ≡ Some v
 own_fixed f v m = fixed_of-fix f v m f ∙ ap (λ b. cond b (Some v) (fixed_of m f)) (same_refl f)

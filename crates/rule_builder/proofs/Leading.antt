@@ -7,7 +7,7 @@ use Rattle.maple_base.specs.declared.key.Key.{Key}
 use Rattle.maple_base.specs.declared.decision.Rule.{Rule}
 use Rattle.maple_base.specs.Keys.{field_of, fix, fixed_of}
 use Rattle.trace_tree.specs.Shape.{Shape, Branches, Empty, Ends, Reads, Tests, NoBranch, Branch}
-use Rattle.rule_builder.specs.Rules.{with_barrier, levels_of, fact}
+use Rattle.priority_plan.specs.Rules.{with_barrier, levels_of, fact}
 
 abbrev mutual
   -- the fact of the leaf that the key leads to

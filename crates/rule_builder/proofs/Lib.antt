@@ -1,15 +1,13 @@
 pub mod Brings
 pub mod Choice
-pub mod Counted
 pub mod Distinct
+pub mod Exact
+pub mod Fits
 pub mod Fixes
 pub mod Fresh
-pub mod Grows
 pub mod InDomains
 pub mod Leading
 pub mod Moves
 pub mod Normal
 pub mod Paths
-pub mod Places
-pub mod Spans
 pub mod Steps

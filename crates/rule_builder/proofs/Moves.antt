@@ -1,5 +1,5 @@
 -- Lists to which the parts of a whole were added, in some order.
-use Rattle.std.proofs.Common.{◌≡◌, ℕ, zero, suc, ◌+◌, ◌-◌, List, ◌++◌, ap, ◌∙◌, subst, arith, append_assoc}
+use Rattle.std.proofs.Common.{◌≡◌, ℕ, ◌+◌, List, ◌++◌, ap, ◌∙◌, subst, append_assoc}
 use Rattle.std.specs.List.Sorted.{IsPermutation}
 use Rattle.std.proofs.lemmas.List.Sorted.{IsPermutation-trans, IsPermutation-append_left, IsPermutation-append_right, IsPermutation-append_comm}
 use Rattle.maple_base.specs.declared.key.Field.{Field}
@@ -7,7 +7,7 @@ use Rattle.maple_base.specs.declared.key.Match.{Match}
 use Rattle.maple_base.specs.declared.decision.Rule.{Rule}
 use Rattle.maple_base.specs.Keys.{fix}
 use Rattle.trace_tree.specs.Shape.{Shape, Tests}
-use Rattle.rule_builder.specs.Rules.{levels_of, with_barrier, barrier_behind, facts_of, barriers_of}
+use Rattle.priority_plan.specs.Rules.{levels_of, with_barrier, barrier_behind, facts_of, barriers_of}
 
 -- a part is added, and the rest is left
 pub part_added : {X : Type 0} (all done part rest new : List X) → IsPermutation all (done ++ (part ++ rest)) → IsPermutation (done ++ part) new → IsPermutation all (new ++ rest)
@@ -37,8 +37,3 @@ module _ (t : Shape) (f : Field) (v : ℕ) (n y : Shape) (rolled : t ≡ Tests f
       last_added all done (barriers_of n m b) (first ++ above) new
       (subst (λ x. IsPermutation all (done ++ barriers_of x m b)) rolled h)
       (subst (λ x. IsPermutation x new) (ap (λ x. x ++ above) j ∙ append_assoc done first above) q)
-
--- the levels of a false side, from those of the test and of its true side
-pub below_is : (n above : ℕ) → (with_barrier n + above - above) - 1 ≡ n
-below_is zero above = omega arith
-below_is (suc n) above = omega arith

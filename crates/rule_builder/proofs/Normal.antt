@@ -19,12 +19,12 @@ use Rattle.maple_base.specs.Questions.{among, asks_once}
 use Rattle.trace_tree.specs.Growth.{change, insert, leaf_of, grown, scratch, child, admits, AllAskOnce, AreAdmitted}
 use Rattle.trace_tree.proofs.Growths.{both, same_field_is, admits_Empty}
 use Rattle.trace_tree.proofs.Children.{change_here, change_ahead, change_past}
-use Rattle.rule_builder.specs.Rules.{with_barrier, levels_of, fact, facts_of, facts_in, barrier_behind, barriers_of, barriers_in}
+use Rattle.priority_plan.specs.Rules.{with_barrier, levels_of, fact, facts_of, facts_in, barrier_behind, barriers_of, barriers_in}
 use Rattle.rule_builder.specs.Orderly.{of_packet, of_transport, asks_in_place, orderly_behind, AllOrderly}
 use Rattle.rule_builder.specs.Laws.{NormalLaw}
 use Rattle.rule_builder.proofs.Fixes.{fixed_of-fix}
 use Rattle.rule_builder.proofs.Fresh.{Only, only_more, only_nothing, not_true}
-use Rattle.rule_builder.proofs.Spans.{none_in, the_one, behind_is}
+use Rattle.priority_plan.proofs.Spans.{none_in, the_one, behind_is}
 
 link_fix : (f : Field) (v : ℕ) (m : Match) → link_normal m ≡ true → in_domain f v ≡ true → link_normal (fix f v m) ≡ true
 link_fix InPort v m h d = grind arith

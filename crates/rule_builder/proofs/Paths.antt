@@ -16,7 +16,7 @@ use Rattle.trace_tree.specs.declared.node.Leaf.{Leaf}
 use Rattle.trace_tree.specs.Shape.{Shape, Branches, Empty, Ends, Reads, Tests, NoBranch, Branch}
 use Rattle.trace_tree.specs.Growth.{change, insert, leaf_of, grown, found, search_of, search_in, child, admits, IsOrdered, AreOrdered, AreAdmitted}
 use Rattle.trace_tree.proofs.Growths.{both, same_field_is, none_yet, child_ordered, child_change, admits_Empty, insert_ordered}
-use Rattle.rule_builder.specs.Rules.{with_barrier, levels_of}
+use Rattle.priority_plan.specs.Rules.{with_barrier, levels_of}
 use Rattle.rule_builder.specs.Chosen.{fixed_by}
 use Rattle.rule_builder.proofs.Leading.{fact_at, fact_in, match_at, match_in}
 

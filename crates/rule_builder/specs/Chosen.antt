@@ -13,7 +13,7 @@ use Rattle.flow_table.specs.Shielding.{IsBarrier, IsShieldedBy}
 use Rattle.trace_tree.specs.declared.node.Trace.{Trace}
 use Rattle.trace_tree.specs.Shape.{Shape, Empty}
 use Rattle.trace_tree.specs.Growth.{found, scratch, AreAdmitted, AllAskOnce}
-use Rattle.rule_builder.specs.Rules.{facts_of, barriers_of, fact_actions, rules_of}
+use Rattle.priority_plan.specs.Rules.{facts_of, barriers_of, fact_actions, rules_of}
 
 -- a match with the reads and the true tests of these items fixed
 abbrev pub fixed_by : List Item → Match → Match

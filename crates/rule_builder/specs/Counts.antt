@@ -1,24 +1,12 @@
--- How many rules a tree has, counted from below, and how many a further trace brings.
+-- How many rules a further trace brings.
 use Rattle.std.specs.Prelude.{ℕ, ◌+◌, true, false, List, [], ◌∷◌, ◌==◌, if◌then◌else◌, Option, Some, None}
 use Rattle.maple_base.specs.declared.items.Item.{Item}
 use Rattle.maple_base.specs.declared.items.Item.TheVariants.{Read, Test}
-use Rattle.trace_tree.specs.Shape.{Shape, Branches, Empty, Ends, Reads, Tests, NoBranch, Branch}
+use Rattle.trace_tree.specs.Shape.{Shape, Empty}
 use Rattle.trace_tree.specs.Walks.{behind}
 use Rattle.trace_tree.specs.declared.node.Node.{Node}
 use Rattle.trace_tree.specs.TreeOf.{tree_of}
-use Rattle.rule_builder.specs.Rules.{with_barrier}
-
-abbrev mutual
-  -- none where it is empty, one for a trace, those of all branches, and those of a test's false side, its barrier and its true side
-  pub count_of : Shape → ℕ
-  count_of Empty = 0
-  count_of (Ends l) = 1
-  count_of (Reads f bs) = count_in bs
-  count_of (Tests f v n y) = with_barrier (count_of n) + count_of y
-
-  pub count_in : Branches → ℕ
-  count_in NoBranch = 0
-  count_in (Branch v t bs) = count_of t + count_in bs
+use Rattle.priority_plan.specs.Counts.{count_of}
 
 -- a false test brings its barrier where its false side had no rule
 abbrev pub barrier_at : Item → Shape → ℕ

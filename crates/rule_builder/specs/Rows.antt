@@ -11,7 +11,7 @@ use Rattle.maple_base.specs.Keys.{anything}
 use Rattle.trace_tree.specs.declared.node.Trace.{Trace}
 use Rattle.trace_tree.specs.Shape.{Shape}
 use Rattle.trace_tree.specs.Growth.{scratch}
-use Rattle.rule_builder.specs.Rules.{levels_of, facts_of, barriers_of, rules_needed}
+use Rattle.priority_plan.specs.Rules.{levels_of, facts_of, barriers_of, rules_needed}
 
 -- a trace over a TCP packet (RFC 790: 6) that asks whether it goes to port 22
 abbrev pub asks_ssh : Bool → Decision → Trace

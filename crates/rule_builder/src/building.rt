@@ -9,132 +9,19 @@ ghost use Rattle.maple_base.specs.Keys.{anything};
 ghost use Rattle.trace_tree.specs.TreeOf.{tree_of, branches, branches_of, child_trees};
 ghost use Rattle.trace_tree.specs.Bounds.{IsWithin, AreWithin};
 ghost use Rattle.trace_tree.specs.Walks.{behind};
-ghost use Rattle.rule_builder.specs.Rules.{level_limit, levels_of, most_levels, with_barrier, fact, barrier_behind, facts_of, facts_in, barriers_of, barriers_in, fact_actions, rules_needed};
-ghost use Rattle.rule_builder.specs.Counts.{count_of, count_in, barriers_with, tree_at};
+ghost use Rattle.priority_plan.specs.Rules.{level_limit, levels_of, most_levels, with_barrier, fact, barrier_behind, facts_of, facts_in, barriers_of, barriers_in, fact_actions, rules_needed};
+ghost use Rattle.priority_plan.specs.Counts.{count_of, count_in};
+ghost use Rattle.rule_builder.specs.Counts.{barriers_with, tree_at};
 ghost use Rattle.rule_builder.specs.Chosen.{ChoiceLaw, TableLaw};
 ghost use Rattle.rule_builder.specs.Rows.{RowsOfTwo, RowsOfDrop};
-ghost use Rattle.rule_builder.specs.Laws.{NoneExact, NoneLower, LevelsLaw, BelowLaw, DistinctLaw, DomainLaw, NormalLaw, FewLevels, FewMore};
+ghost use Rattle.priority_plan.specs.Laws.{NoneLower, LevelsLaw, BelowLaw, FewLevels, FewMore};
+ghost use Rattle.rule_builder.specs.Laws.{NoneExact, DistinctLaw, DomainLaw, NormalLaw};
 
-use maple_base::{
-    Actions, CONTROLLER_PORT, Decision, Field, Item, Items, Match, NoMemory, Rule, RuleList,
-};
+use maple_base::{Field, Item, Items, Match, NoMemory, Rule, RuleList};
 use of10_codec::in_order;
+use priority_plan::{node_levels, push_barrier, push_fact, rules_needed};
 use std::alloc::Global;
-use trace_tree::{Leaf, Node, Tree};
-
-/// How many priorities the rules of a tree take.
-pub fn levels(tree: &Tree) -> u64
-    requires { levels_of tree.now < 2 ^ 64 }
-    ensures { result ≡ levels_of tree.now }
-{
-    node_levels(tree.root())
-}
-
-// Down the false sides in a loop: a path has few other steps, since each of these fixes a field.
-#[cycle(levels)]
-fn node_levels(node: &Node) -> u64
-    requires { levels_of (tree_of node.now) < 2 ^ 64 }
-    ensures { result ≡ levels_of (tree_of node.now) }
-{
-    let mut node = node;
-    let mut levels: u64 = 0;
-    // tests since the last rule: their barriers count once a further rule stands on their false side
-    let mut waiting: u64 = 0;
-    loop {
-        match node {
-            Node::Empty => return levels,
-            Node::Leaf(_) => return levels + waiting + 1,
-            Node::Values { children, .. } => {
-                let most = most_levels(children);
-                return if most == 0 {
-                    levels
-                } else {
-                    levels + waiting + most
-                };
-            }
-            Node::Test { no, yes, .. } => {
-                let above = node_levels(yes);
-                if above == 0 {
-                    waiting = waiting.saturating_add(1);
-                } else {
-                    levels += waiting + above;
-                    waiting = 1;
-                }
-                node = no;
-            }
-        }
-    }
-}
-
-#[cycle(levels)]
-fn most_levels(children: &[(u64, Node)]) -> u64
-    requires { most_levels (branches (child_trees children.now)) < 2 ^ 64 }
-    ensures { result ≡ most_levels (branches (child_trees children.now)) }
-{
-    let mut most = 0;
-    for child in children {
-        let levels = node_levels(&child.1);
-        if most < levels {
-            most = levels;
-        }
-    }
-    most
-}
-
-/// How many rules a tree has.
-pub fn rules_needed(tree: &Tree) -> u64
-    requires { rules_needed tree.now < 2 ^ 64 }
-    ensures { result ≡ rules_needed tree.now }
-{
-    node_rules(tree.root())
-}
-
-#[cycle(counts)]
-fn node_rules(node: &Node) -> u64
-    requires { count_of (tree_of node.now) < 2 ^ 64 }
-    ensures { result ≡ count_of (tree_of node.now) }
-{
-    let mut node = node;
-    let mut rules: u64 = 0;
-    // tests since the last rule: their barriers count once a further rule stands on their false side
-    let mut waiting: u64 = 0;
-    loop {
-        match node {
-            Node::Empty => return rules,
-            Node::Leaf(_) => return rules + waiting + 1,
-            Node::Values { children, .. } => {
-                let all = all_rules(children);
-                return if all == 0 {
-                    rules
-                } else {
-                    rules + waiting + all
-                };
-            }
-            Node::Test { no, yes, .. } => {
-                let above = node_rules(yes);
-                if above == 0 {
-                    waiting = waiting.saturating_add(1);
-                } else {
-                    rules += waiting + above;
-                    waiting = 1;
-                }
-                node = no;
-            }
-        }
-    }
-}
-
-#[cycle(counts)]
-fn all_rules(children: &[(u64, Node)]) -> u64
-    requires { count_in (branches (child_trees children.now)) < 2 ^ 64 }
-    ensures { result ≡ count_in (branches (child_trees children.now)) }
-{
-    let mut all = 0;
-    for child in children {
-        all += node_rules(&child.1);
-    }
-    all
-}
+use trace_tree::{Node, Tree};
 
 /// How many rules a tree will have with a further trace of these items.
 pub fn rules_needed_with(tree: &Tree, items: &Items) -> u64
@@ -143,8 +30,7 @@ pub fn rules_needed_with(tree: &Tree, items: &Items) -> u64
     requires room { rules_needed tree.now + length items.now + 1 < 2 ^ 64 }
     ensures { (leaf : LeafData) → result ≡ rules_needed (insert items.now leaf tree.now) }
 {
-    let rules = node_rules(tree.root());
-    rules + 1 + barriers_with(tree.root(), items.items())
+    rules_needed(tree) + 1 + barriers_with(tree.root(), items.items())
 }
 
 // The barriers that a trace of these items brings.
@@ -310,51 +196,6 @@ fn push_all(
         push_rules(&child.1, levels, &within, base, facts, barriers)?;
     }
     Ok(())
-}
-
-// Adds the rule of a trace.
-fn push_fact(leaf: &Leaf, of: &Match, base: u64, facts: &mut Vec<Rule>) -> Result<(), NoMemory>
-    requires { base + 1 ≤ level_limit }
-    ensures { OnOk result (facts.new.items ≡ facts.old.items ++ fact leaf.now of.now base ∷ []) }
-{
-    let actions = fact_actions(&leaf.decision);
-    facts.push(Rule {
-        of: *of,
-        priority: (base + 1) as u16,
-        actions,
-        cookie: 0,
-        idle: 0,
-    })?;
-    Ok(())
-}
-
-// Adds the barrier behind a false side of so many levels, if it has any.
-fn push_barrier(below: u64, of: &Match, base: u64, barriers: &mut Vec<Rule>) -> Result<(), NoMemory>
-    requires { base + with_barrier below ≤ level_limit }
-    ensures { OnOk result (barriers.new.items ≡ barriers.old.items ++ barrier_behind below of.now base) }
-{
-    if below > 0 {
-        barriers.push(Rule {
-            of: *of,
-            priority: (base + below + 1) as u16,
-            actions: Actions::new(&[CONTROLLER_PORT]),
-            cookie: 0,
-            idle: 0,
-        })?;
-    }
-    Ok(())
-}
-
-fn fact_actions(decision: &Decision) -> Actions
-    ensures { result ≡ fact_actions decision.now }
-{
-    match decision {
-        Decision::Path(path) => match path.items() {
-            [first, ..] => decision.actions_at(first.switch),
-            [] => decision.actions_at(0),
-        },
-        _ => decision.actions_at(0),
-    }
 }
 
 /// What a switch may choose among the rules of a tree is the rule of the trace that the key finds.

@@ -3,6 +3,4 @@
 
 pub mod building;
 
-pub use building::{
-    choice_law, levels, rules, rules_law, rules_needed, rules_needed_with, rules_rows,
-};
+pub use building::{choice_law, rules, rules_law, rules_needed_with, rules_rows};

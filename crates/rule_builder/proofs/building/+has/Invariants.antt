@@ -2,7 +2,7 @@ use Rattle.std.proofs.Common.{◌≡◌, ◌≤◌, ◌+◌, ◌*◌, drop}
 use Rattle.std.specs.Prelude.{nat_lt}
 use Rattle.trace_tree.specs.TreeOf.{tree_of, branches, child_trees}
 use Rattle.trace_tree.specs.Growth.{nodes_of, nodes_in}
-use Rattle.rule_builder.specs.Counts.{count_of, count_in}
+use Rattle.priority_plan.specs.Counts.{count_of, count_in}
 use Rattle.rule_builder.proofs.building.+has.Given as goal
 
 -- what was passed has no rule

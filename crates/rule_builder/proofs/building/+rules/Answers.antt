@@ -7,10 +7,12 @@ use Rattle.trace_tree.specs.Growth.{nodes_of}
 use Rattle.trace_tree.specs.Shape.{Tests, Reads}
 use Rattle.trace_tree.proofs.Puts.{OnOk_map}
 use Rattle.trace_tree.proofs.Rolls.{tree_of-Values, tree_of-Test}
-use Rattle.rule_builder.specs.Rules.{levels_of, with_barrier, facts_of, barriers_of, facts_in, barriers_in}
-use Rattle.rule_builder.proofs.Steps.{most_step, nodes_step, facts_step, barriers_step, domains_step}
-use Rattle.rule_builder.proofs.Spans.{barrier_least}
-use Rattle.rule_builder.proofs.Moves.{part_added, facts_left, barriers_left, below_is}
+use Rattle.priority_plan.specs.Rules.{levels_of, with_barrier, facts_of, barriers_of, facts_in, barriers_in}
+use Rattle.priority_plan.proofs.Steps.{most_step, nodes_step}
+use Rattle.rule_builder.proofs.Steps.{facts_step, barriers_step, domains_step}
+use Rattle.priority_plan.proofs.Spans.{barrier_least}
+use Rattle.priority_plan.proofs.Falls.{below_is}
+use Rattle.rule_builder.proofs.Moves.{part_added, facts_left, barriers_left}
 use Rattle.rule_builder.proofs.building.+rules.Goals as goal
 
 pub push_rules-loop-node-preserved : goal.push_rules-loop-node-preserved

@@ -3,7 +3,7 @@ use Rattle.std.specs.List.Sorted.{IsPermutation}
 use Rattle.trace_tree.specs.TreeOf.{tree_of, branches, child_trees}
 use Rattle.trace_tree.specs.Bounds.{IsWithin, AreWithin}
 use Rattle.trace_tree.specs.Growth.{nodes_of, nodes_in}
-use Rattle.rule_builder.specs.Rules.{levels_of, most_levels, facts_of, facts_in, barriers_of, barriers_in}
+use Rattle.priority_plan.specs.Rules.{levels_of, most_levels, facts_of, facts_in, barriers_of, barriers_in}
 use Rattle.rule_builder.proofs.building.+rules.Given as goal
 
 -- what is there and what is left are all of it

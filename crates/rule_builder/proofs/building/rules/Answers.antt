@@ -3,7 +3,7 @@ use Rattle.std.specs.List.Sorted.{IsPermutation}
 use Rattle.std.proofs.lemmas.List.Sorted.{IsPermutation-trans}
 use Rattle.maple_base.specs.Keys.{anything}
 use Rattle.trace_tree.specs.TreeOf.{tree_of}
-use Rattle.rule_builder.specs.Rules.{facts_of, barriers_of}
+use Rattle.priority_plan.specs.Rules.{facts_of, barriers_of}
 use Rattle.rule_builder.proofs.building.rules.Goals as goal
 
 pub returns-clause-facts : goal.returns-clause-facts

@@ -1,7 +1,8 @@
-use Rattle.rule_builder.proofs.Places.{none_exact, none_lower, levels_law, below_law}
+use Rattle.rule_builder.proofs.Exact.{none_exact}
+use Rattle.priority_plan.proofs.Places.{none_lower, levels_law, below_law}
 use Rattle.rule_builder.proofs.Distinct.{distinct_law}
 use Rattle.rule_builder.proofs.InDomains.{domain_law}
-use Rattle.rule_builder.proofs.Grows.{few_levels, few_more}
+use Rattle.priority_plan.proofs.Grows.{few_levels, few_more}
 use Rattle.rule_builder.proofs.Normal.{normal_law}
 use Rattle.rule_builder.proofs.building.rules_law.Goals as goal
 

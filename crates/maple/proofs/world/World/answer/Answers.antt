@@ -8,8 +8,8 @@ use Rattle.trace_record.specs.Traces.{Gives}
 use Rattle.trace_tree.specs.Bounds.{items_within}
 use Rattle.trace_tree.specs.Growth.{admits, insert, leaf_of}
 use Rattle.trace_tree.proofs.Puts.{OnOk_map}
-use Rattle.rule_builder.specs.Rules.{rules_needed}
-use Rattle.rule_builder.proofs.Grows.{few_levels}
+use Rattle.priority_plan.specs.Rules.{rules_needed}
+use Rattle.priority_plan.proofs.Grows.{few_levels}
 use Rattle.maple.specs.Report.{decided, plain, need}
 use Rattle.maple.proofs.Learnings.{next, ordered, leaves_few, leaves_are, next_within, next_admitted, grows, spent_step, full_step, learned_step, is_more, is_no_more, on_three, trace_of, trace_same}
 use Rattle.maple.proofs.world.World.answer.Goals as goal

@@ -2,8 +2,8 @@ use Rattle.std.proofs.Common.{◌≡◌, ◌<◌, ◌≤◌, ◌+◌, ◌*◌, d
 use Rattle.std.specs.Prelude.{max}
 use Rattle.trace_tree.specs.TreeOf.{tree_of, branches, child_trees}
 use Rattle.trace_tree.specs.Growth.{nodes_of, nodes_in}
-use Rattle.rule_builder.specs.Rules.{levels_of, most_levels}
-use Rattle.rule_builder.proofs.building.+levels.Given as goal
+use Rattle.priority_plan.specs.Rules.{levels_of, most_levels}
+use Rattle.priority_plan.proofs.counting.+levels.Given as goal
 
 -- the levels so far, and those of what is left
 abbrev pub invariant-node_levels-loop-node : goal.invariant-node_levels-loop-node

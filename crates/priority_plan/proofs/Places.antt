@@ -8,19 +8,13 @@ use Rattle.maple_base.specs.declared.key.Match.{Match}
 use Rattle.maple_base.specs.declared.decision.Rule.{Rule}
 use Rattle.maple_base.specs.Keys.{fix, anything}
 use Rattle.trace_tree.specs.Shape.{Shape, Branches, Empty, Ends, Reads, Tests, NoBranch, Branch}
-use Rattle.rule_builder.specs.Rules.{with_barrier, levels_of, most_levels, fact, barrier, facts_of, facts_in, barrier_behind, barriers_of, barriers_in, rules_within, PartedBy, StandsBelow, StandsBelowIn}
-use Rattle.rule_builder.specs.Laws.{NoneExact, NoneLower, LevelsLaw, BelowLaw}
-use Rattle.rule_builder.proofs.Spans.{none_in, behind_is, barrier_above, Within, facts_within, barriers_within}
-use Rattle.rule_builder.proofs.Choice.{facts_pcp, barriers_pcp, inexact}
+use Rattle.priority_plan.specs.Rules.{with_barrier, levels_of, most_levels, fact, barrier, facts_of, facts_in, barrier_behind, barriers_of, barriers_in, rules_within, PartedBy, StandsBelow, StandsBelowIn}
+use Rattle.priority_plan.specs.Laws.{NoneLower, LevelsLaw, BelowLaw}
+use Rattle.priority_plan.proofs.Spans.{none_in, behind_is, barrier_above, Within, facts_within, barriers_within}
 
 pub rules_between : (t : Shape) (m : Match) (b : ℕ) (r : Rule) → Contains (rules_within t m b) r → Within b (levels_of t) r
 rules_between t m b r h =
     ⊎_elim (λ c. facts_within t m b r c) (λ c. barriers_within t m b r c) (Contains-append_cases (facts_of t m b) (barriers_of t m b) r h)
-
-pub none_exact : NoneExact
-none_exact t r h =
-    ⊎_elim (λ c. inexact r.of (facts_pcp t anything 0 r refl c)) (λ c. inexact r.of (barriers_pcp t anything 0 r refl c))
-    (Contains-append_cases (facts_of t anything 0) (barriers_of t anything 0) r h)
 
 pub none_lower : NoneLower
 none_lower t r h = let w = rules_between t anything 0 r h in omega (arith, w.0)

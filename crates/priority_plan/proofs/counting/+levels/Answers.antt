@@ -1,9 +1,9 @@
 use Rattle.std.proofs.Common.{◌≡◌, sym, ap, ◌∙◌, arith}
 use Rattle.trace_tree.specs.TreeOf.{tree_of, branches, child_trees}
 use Rattle.trace_tree.proofs.Rolls.{tree_of-Values}
-use Rattle.rule_builder.specs.Rules.{levels_of, most_levels}
-use Rattle.rule_builder.proofs.Steps.{most_step, nodes_step}
-use Rattle.rule_builder.proofs.building.+levels.Goals as goal
+use Rattle.priority_plan.specs.Rules.{levels_of, most_levels}
+use Rattle.priority_plan.proofs.Steps.{most_step, nodes_step}
+use Rattle.priority_plan.proofs.counting.+levels.Goals as goal
 
 pub node_levels-overflow_add-result-else-most-eq0 : goal.node_levels-overflow_add-result-else-most-eq0
 node_levels-overflow_add-result-else-most-eq0 t c =

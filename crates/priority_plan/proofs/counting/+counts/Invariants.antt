@@ -1,8 +1,8 @@
 use Rattle.std.proofs.Common.{◌≡◌, ◌<◌, ◌≤◌, ◌+◌, ◌*◌, drop}
 use Rattle.trace_tree.specs.TreeOf.{tree_of, branches, child_trees}
 use Rattle.trace_tree.specs.Growth.{nodes_of, nodes_in}
-use Rattle.rule_builder.specs.Counts.{count_of, count_in}
-use Rattle.rule_builder.proofs.building.+counts.Given as goal
+use Rattle.priority_plan.specs.Counts.{count_of, count_in}
+use Rattle.priority_plan.proofs.counting.+counts.Given as goal
 
 -- the rules so far, and those of what is left
 abbrev pub invariant-node_rules-loop-node : goal.invariant-node_rules-loop-node

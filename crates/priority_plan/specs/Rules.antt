@@ -111,6 +111,6 @@ abbrev mutual
   StandsBelowIn NoBranch f m base r q = ⊥
   StandsBelowIn (Branch v t bs) f m base r q = StandsBelow t (fix f v m) base r q ⊎ StandsBelowIn bs f m base r q
 
--- the first rule of a tree must stand below the second, so that no switch chooses it in the second's place
+-- the first rule of a tree must stand below the second: at a test the rules of the false side below its barrier, and the barrier below the rules of the true side
 abbrev pub MustStandBelow : Shape → Rule → Rule → Type 0
 MustStandBelow t r q = StandsBelow t anything 0 r q

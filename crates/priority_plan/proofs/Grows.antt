@@ -11,12 +11,12 @@ use Rattle.trace_tree.specs.Shape.{Shape, Branches, Empty, Ends, Reads, Tests, N
 use Rattle.trace_tree.specs.Growth.{change, insert, child, admits}
 use Rattle.trace_tree.proofs.Growths.{both, admits_Empty}
 use Rattle.trace_tree.proofs.Children.{change_here, change_ahead, change_past}
-use Rattle.rule_builder.specs.Rules.{with_barrier, levels_of, most_levels}
-use Rattle.rule_builder.specs.Counts.{count_of, count_in}
-use Rattle.rule_builder.specs.Laws.{FewLevels, FewMore}
-use Rattle.rule_builder.proofs.Counted.{needed_count}
+use Rattle.priority_plan.specs.Rules.{with_barrier, levels_of, most_levels}
+use Rattle.priority_plan.specs.Counts.{count_of, count_in}
+use Rattle.priority_plan.specs.Laws.{FewLevels, FewMore}
+use Rattle.priority_plan.proofs.Counted.{needed_count}
 
-barrier_mono : (a b : ℕ) → a ≤ b → with_barrier a ≤ with_barrier b
+pub barrier_mono : (a b : ℕ) → a ≤ b → with_barrier a ≤ with_barrier b
 barrier_mono zero b h = omega arith
 barrier_mono (suc a) zero h = absurd (omega (arith, h))
 barrier_mono (suc a) (suc b) h = omega (arith, h)

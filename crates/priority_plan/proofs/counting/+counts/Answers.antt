@@ -1,8 +1,8 @@
 use Rattle.std.proofs.Common.{◌≡◌, sym, ap, ◌∙◌, arith}
 use Rattle.trace_tree.specs.TreeOf.{tree_of, branches, child_trees}
 use Rattle.trace_tree.proofs.Rolls.{tree_of-Values}
-use Rattle.rule_builder.specs.Counts.{count_of, count_in}
-use Rattle.rule_builder.proofs.building.+counts.Goals as goal
+use Rattle.priority_plan.specs.Counts.{count_of, count_in}
+use Rattle.priority_plan.proofs.counting.+counts.Goals as goal
 
 pub node_rules-overflow_add-result-else-all-eq0 : goal.node_rules-overflow_add-result-else-all-eq0
 node_rules-overflow_add-result-else-all-eq0 t c =

@@ -4,9 +4,9 @@ use Rattle.maple_base.specs.declared.key.Field.{Field}
 use Rattle.maple_base.specs.declared.key.Match.{Match}
 use Rattle.maple_base.specs.Keys.{fix, anything}
 use Rattle.trace_tree.specs.Shape.{Shape, Branches, Empty, Ends, Reads, Tests, NoBranch, Branch}
-use Rattle.rule_builder.specs.Rules.{with_barrier, levels_of, most_levels, facts_of, facts_in, barrier_behind, barriers_of, barriers_in, rules_needed}
-use Rattle.rule_builder.specs.Counts.{count_of, count_in}
-use Rattle.rule_builder.proofs.Spans.{barrier_least}
+use Rattle.priority_plan.specs.Rules.{with_barrier, levels_of, most_levels, facts_of, facts_in, barrier_behind, barriers_of, barriers_in, rules_needed}
+use Rattle.priority_plan.specs.Counts.{count_of, count_in}
+use Rattle.priority_plan.proofs.Spans.{barrier_least}
 
 record BothZero (a b : ℕ) : Type 0 where
   from : a ≡ 0 → b ≡ 0

@@ -1,0 +1,9 @@
+pub mod Chains
+pub mod Counted
+pub mod Falls
+pub mod Few
+pub mod Grows
+pub mod Places
+pub mod Shrinks
+pub mod Spans
+pub mod Steps

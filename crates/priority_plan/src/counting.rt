@@ -1,0 +1,122 @@
+// How many priorities the rules of a tree take, and how many rules there are.
+ghost use Rattle.std.specs.Prelude.{◌≡◌, ◌^◌, ◌<◌};
+ghost use Rattle.trace_tree.specs.TreeOf.{tree_of, branches, child_trees};
+ghost use Rattle.priority_plan.specs.Rules.{levels_of, most_levels, rules_of, rules_needed};
+ghost use Rattle.priority_plan.specs.Counts.{count_of, count_in};
+ghost use Rattle.priority_plan.specs.Laws.{IsGreatest};
+
+use trace_tree::{Node, Tree};
+
+/// How many priorities the rules of a tree take.
+pub fn levels(tree: &Tree) -> u64
+    ensures count { result ≡ levels_of tree.now }
+    ensures greatest { IsGreatest (rules_of tree.now) result }
+{
+    node_levels(tree.root())
+}
+
+/// How many priorities the rules of a node take.
+// Down the false sides in a loop: a path has few other steps, since each of these fixes a field.
+#[cycle(levels)]
+pub fn node_levels(node: &Node) -> u64
+    requires { levels_of (tree_of node.now) < 2 ^ 64 }
+    ensures { result ≡ levels_of (tree_of node.now) }
+{
+    let mut node = node;
+    let mut levels: u64 = 0;
+    // tests since the last rule: their barriers count once a further rule stands on their false side
+    let mut waiting: u64 = 0;
+    loop {
+        match node {
+            Node::Empty => return levels,
+            Node::Leaf(_) => return levels + waiting + 1,
+            Node::Values { children, .. } => {
+                let most = most_levels(children);
+                return if most == 0 {
+                    levels
+                } else {
+                    levels + waiting + most
+                };
+            }
+            Node::Test { no, yes, .. } => {
+                let above = node_levels(yes);
+                if above == 0 {
+                    waiting = waiting.saturating_add(1);
+                } else {
+                    levels += waiting + above;
+                    waiting = 1;
+                }
+                node = no;
+            }
+        }
+    }
+}
+
+#[cycle(levels)]
+fn most_levels(children: &[(u64, Node)]) -> u64
+    requires { most_levels (branches (child_trees children.now)) < 2 ^ 64 }
+    ensures { result ≡ most_levels (branches (child_trees children.now)) }
+{
+    let mut most = 0;
+    for child in children {
+        let levels = node_levels(&child.1);
+        if most < levels {
+            most = levels;
+        }
+    }
+    most
+}
+
+/// How many rules a tree has.
+pub fn rules_needed(tree: &Tree) -> u64
+    ensures { result ≡ rules_needed tree.now }
+{
+    node_rules(tree.root())
+}
+
+#[cycle(counts)]
+fn node_rules(node: &Node) -> u64
+    requires { count_of (tree_of node.now) < 2 ^ 64 }
+    ensures { result ≡ count_of (tree_of node.now) }
+{
+    let mut node = node;
+    let mut rules: u64 = 0;
+    // tests since the last rule: their barriers count once a further rule stands on their false side
+    let mut waiting: u64 = 0;
+    loop {
+        match node {
+            Node::Empty => return rules,
+            Node::Leaf(_) => return rules + waiting + 1,
+            Node::Values { children, .. } => {
+                let all = all_rules(children);
+                return if all == 0 {
+                    rules
+                } else {
+                    rules + waiting + all
+                };
+            }
+            Node::Test { no, yes, .. } => {
+                let above = node_rules(yes);
+                if above == 0 {
+                    waiting = waiting.saturating_add(1);
+                } else {
+                    rules += waiting + above;
+                    waiting = 1;
+                }
+                node = no;
+            }
+        }
+    }
+}
+
+#[cycle(counts)]
+fn all_rules(children: &[(u64, Node)]) -> u64
+    requires { count_in (branches (child_trees children.now)) < 2 ^ 64 }
+    ensures { result ≡ count_in (branches (child_trees children.now)) }
+{
+    let mut all = 0;
+    for child in children {
+        all += node_rules(&child.1);
+    }
+    all
+}
