@@ -1,8 +1,5 @@
 pub mod ActNodes
-pub mod Agreement
-pub mod Answers
-pub mod Courses
-pub mod Follows
+pub mod Both
 pub mod Found
 pub mod Lawful
 pub mod LeftOver
@@ -12,10 +9,8 @@ pub mod NodeHeads
 pub mod NodeJoins
 pub mod NodeLoops
 pub mod Order
-pub mod PlainCode
 pub mod Rolls
 pub mod SameNames
-pub mod SameRuns
 pub mod Scopes
 pub mod SoundParts
 pub mod Tables

@@ -13,7 +13,7 @@ use Rattle.policy_lang.specs.declared.nodes.Stop.{Stop}
 use Rattle.policy_lang.specs.declared.nodes.Stop.TheVariants as stop
 use Rattle.maple_base.specs.declared.policy_fault.PolicyFault.TheVariants.{Nesting, Nodes}
 use Rattle.policy_lang.specs.NodeWalks.{Begins, Begun, unless_deep, deep_in}
-use Rattle.policy_lang.proofs.Courses.{both}
+use Rattle.policy_lang.proofs.Both.{both}
 
 pub deep_now : (e : Term) (n d : ℕ) → 32 < d → deep_in e n d ≡ Some n
 deep_now (Single a) n d h = ap (λ b. cond b (Some n) None) (lt-ltb 32 d h)

@@ -7,7 +7,7 @@ use Rattle.std.proofs.lemmas.Bool.Decides.{same_from_decides}
 use Rattle.std.proofs.lemmas.Slice.Eq.{bytes_eq-Decides}
 use Rattle.std.proofs.Math.Seq.{take-append_seam}
 use Rattle.maple_base.specs.Padded.{padded}
-use Rattle.policy_lang.proofs.Courses.{both}
+use Rattle.policy_lang.proofs.Both.{both}
 
 same_front : (x y u v : List ℕ) → x ++ u ≡ y ++ v → length x ≡ length y → x ≡ y
 same_front x y u v e h = sym (take-append_seam x u) ∙ ap (take (length x)) e ∙ ap (λ n. take n (y ++ v)) h ∙ take-append_seam y v

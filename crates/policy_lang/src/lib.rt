@@ -1,4 +1,4 @@
-//! Policies: the syntax tree of the policy language, and what a policy means.
+//! Policies: the syntax tree of the policy language, and which trees are well formed.
 #![tactic(auto)]
 
 ghost use Rattle.std.specs.Prelude.{◌≡◌, ◌≤◌, List, length};
@@ -15,7 +15,6 @@ pub mod laws;
 pub mod name_fault;
 mod names;
 pub mod nodes;
-pub mod plain;
 mod types;
 
 pub use build::BuildError;

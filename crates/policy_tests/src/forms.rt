@@ -2,8 +2,7 @@
 use crate::support::{push_bytes, text_of};
 use maple_base::NoMemory;
 use policy_lang::Policy;
-use policy_lang::plain::is_plain;
-use policy_text::{ReadError, is_basic, print_policy, read_policy};
+use policy_text::{ReadError, print_policy, read_policy};
 use std::alloc::Global;
 use std::test::Fail;
 
@@ -389,49 +388,6 @@ fn first_limits(rt: HostRuntime) -> Result<(), Fail> {
     for (row, want) in limits() {
         let got = fault_of(alloc, &text_of(alloc, row)?)?;
         assert_eq!(rt; got.as_str(), *want, "{row}");
-    }
-    Ok(())
-}
-
-// A policy, whether it is plain, and whether it is basic.
-type Kind = (&'static str, bool, bool);
-
-fn kinds() -> &'static [Kind] {
-    KINDS
-}
-
-const KINDS: &[Kind] = &[
-    ("policy { }", true, true),
-    ("policy { out 0x2; drop; }", true, true),
-    ("policy { out (2); }", true, true),
-    (
-        "policy { if (pkt.nw_src is (1.2.3.4)) { if pkt.tp_dst is 1 { } } drop; }",
-        true,
-        true,
-    ),
-    ("policy { out 1, 2; }", true, false),
-    ("policy { flood; }", false, false),
-    ("policy { out pkt.in_port; }", false, false),
-    ("policy { out 1 + 1; }", false, false),
-    ("policy { if pkt.tp_dst == 1 { } }", false, false),
-    ("policy { if pkt.tp_dst is 1 { } else { } }", true, false),
-    (
-        "policy { if pkt.tp_dst is 1 { if pkt.tp_src is 1 { out 1, 2; } } }",
-        true,
-        false,
-    ),
-    ("policy { let x = 1; }", false, false),
-    ("policy learning { }", true, false),
-    ("table t; policy { }", true, false),
-    (WHOLE, false, false),
-];
-
-#[test]
-fn plain_and_basic_policies(rt: HostRuntime) -> Result<(), Fail> {
-    for (text, plain, basic) in kinds() {
-        let policy = read_policy(rt.alloc(), text.as_bytes())?;
-        assert_eq!(rt; is_plain(&policy), *plain, "{text}");
-        assert_eq!(rt; is_basic(&policy), *basic, "{text}");
     }
     Ok(())
 }

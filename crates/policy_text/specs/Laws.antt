@@ -1,18 +1,9 @@
 -- What follows of a policy's text.
-use Rattle.std.specs.Prelude.{◌≡◌, ℕ, ◌≤◌, true, List, length, map}
-use Rattle.maple_base.specs.declared.key.Key.{Key}
-use Rattle.maple_base.specs.declared.cells.Cell.{Cell}
-use Rattle.maple_base.specs.declared.cells.Value.{Value}
-use Rattle.maple_base.specs.declared.decision.Outcome.TheVariants.{Spent}
-use Rattle.maple_base.specs.PolicyLimits.{most_bytes, most_nodes}
+use Rattle.std.specs.Prelude.{◌≡◌, ℕ, ◌≤◌, List, length, map}
+use Rattle.maple_base.specs.PolicyLimits.{most_bytes}
 use Rattle.policy_lang.specs.declared.Policy.{Policy}
-use Rattle.policy_lang.specs.Evaluation.{eval_of}
 use Rattle.policy_lang.specs.Nodes.{nodes_of}
-use Rattle.policy_lang.specs.Plain.{is_plain}
 use Rattle.policy_lang.specs.PolicyTree.{policy_tree}
-use Rattle.policy_lang.specs.Sizes.{acts_size}
-use Rattle.policy_lang.specs.Tree.{Acts}
-use Rattle.policy_lang.specs.TreeOf.{tree_of}
 use Rattle.policy_grammar.specs.Grammar.{File}
 use Rattle.policy_outline.specs.FileNodes.{file_nodes}
 use Rattle.policy_print.specs.Printed.{policy_text}
@@ -30,11 +21,3 @@ IsReadBack p = length (policy_text p) ≤ most_bytes → IsTextOf p (policy_text
 -- the nodes of a text are as many as those of its tree, and one by one as deep
 abbrev pub NodesAgree : Type 0
 NodesAgree = (f : File) → map (λ x. x.depth) (file_nodes f) ≡ map (λ x. x.depth) (nodes_of (statements_acts f.body))
-
--- with as many steps as the body has nodes, no plain policy runs out of steps, at any key
-abbrev pub NodesSuffice : Type 0
-NodesSuffice = (body : Acts) (env : Cell → Value) (switch : ℕ) (k : Key) (b : ℕ) → is_plain body ≡ true → acts_size body ≤ b → ¬ (eval_of body b env switch k ≡ Spent)
-
--- with 4,096 steps no plain policy runs out of steps, at any key
-abbrev pub NeverSpent : Type 0
-NeverSpent = (policy : Policy) (env : Cell → Value) (switch : ℕ) (k : Key) → is_plain (tree_of policy.body) ≡ true → ¬ (eval_of (tree_of policy.body) most_nodes env switch k ≡ Spent)

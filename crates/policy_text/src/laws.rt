@@ -1,8 +1,7 @@
 // What follows of a policy's text.
-ghost use Rattle.policy_text.specs.Laws.{OnePolicy, NodesAgree, NodesSuffice, NeverSpent};
+ghost use Rattle.policy_text.specs.Laws.{OnePolicy, NodesAgree};
 ghost use Rattle.policy_text.specs.Names.{NamesStandThere};
 
-use policy_lang::laws::form_laws;
 use policy_tree::one_file;
 
 /// A text is that of one policy alone: two policies that have it are one tree.
@@ -22,11 +21,3 @@ pub fn nodes_law()
 pub fn names_law()
     ensures { NamesStandThere }
 {}
-
-/// A plain policy takes at most as many steps as it has nodes, and never spends 4,096.
-pub fn steps_law()
-    ensures suffice { NodesSuffice }
-    ensures never { NeverSpent }
-{
-    form_laws();
-}
