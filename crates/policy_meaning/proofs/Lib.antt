@@ -1,2 +1,3 @@
-pub mod Evaluated
-pub mod SameCourse
+pub mod Fits
+pub mod Kept
+pub mod Lawful

@@ -1,6 +1,8 @@
 -- What a policy means: a run as a tree of questions. Running a statement and evaluating an expression or a head that binds a name count one step each, ahead of their parts; each next hop that a `route` reads counts one more.
 use Rattle.std.specs.Prelude.{ℕ, zero, suc, ◌-◌, Bool, true, false, ◌==◌, if◌then◌else◌, List, [], ◌∷◌, length, drop, Option, Some, None}
+use Rattle.maple_base.specs.declared.key.Key.{Key}
 use Rattle.maple_base.specs.declared.cells.Place.{Place}
+use Rattle.maple_base.specs.declared.cells.Cell.{Cell}
 use Rattle.maple_base.specs.declared.cells.Cell.TheVariants as cells
 use Rattle.maple_base.specs.declared.cells.Value.{Value}
 use Rattle.maple_base.specs.declared.cells.Value.TheVariants as value
@@ -11,8 +13,8 @@ use Rattle.maple_base.specs.declared.operator.Operator.{Operator}
 use Rattle.maple_base.specs.Ports.{is_port}
 use Rattle.maple_base.specs.Questions.{same_bool}
 use Rattle.policy_lang.specs.Tree.{Atom, Number, Var, SwitchOf, PortOf, PacketSwitch, Packet, Callee, Up, At, Term, Single, Call, Is, Not, Pair, Ask, Binds, Holds, Act, Acts, Drop, Flood, Out, Route, Let, Assign, If, IfElse, While, Done, Then}
-use Rattle.policy_lang.specs.Values.{Datum, Numeral, Truth, Scope, number_in, truth_in, place_in, flag_in, named, assigned, ports_among, sent_out}
-use Rattle.policy_lang.specs.Evaluation.{opposite, place_at, applied, settling, hop_at, source_cell, source_told}
+use Rattle.policy_meaning.specs.Values.{Datum, Numeral, Truth, Scope, number_in, truth_in, place_in, flag_in, named, assigned, ports_among, sent_out, opposite, place_at, applied, settling, hop_at, source_cell, source_told}
+use Rattle.question_tree.specs.Readings.{outcome_in}
 use Rattle.question_tree.specs.Asking.{Asking, Run, gives, ends, ◌>>=◌, field, test, cell, count, whole}
 
 -- a part of a run that gives something: with so many steps left, it gives this and how many are left then
@@ -213,3 +215,7 @@ abbrev mutual
 -- what the statements of a policy do of a packet at a switch, in at most so many steps; their end without a decision is a drop
 abbrev pub meaning : Acts → ℕ → ℕ → Asking Outcome
 meaning body budget switch = whole (Decided Dropped) (in_block (acts_of body switch) [] budget)
+
+-- plain evaluation: the end of the answers that a key and an environment give
+abbrev pub eval_of : Acts → ℕ → (Cell → Value) → ℕ → Key → Outcome
+eval_of body budget env switch k = outcome_in (meaning body budget switch) k env

@@ -1,9 +1,13 @@
 // What holds of the meaning of each policy.
-ghost use Rattle.policy_meaning.specs.Laws.{IsPlainEvaluation, SameTraces};
+ghost use Rattle.policy_meaning.specs.Laws.{AsksWithinBudget, BeginsHere, DecidesPorts, KeepsDecisions};
 
-/// Answered by a key and an environment, what a policy means is what plain evaluation makes of it.
-/// Of a plain policy the questions that earlier answers don't settle are those of its course.
-pub fn meaning_law()
-    ensures evaluation { IsPlainEvaluation }
-    ensures traces { SameTraces }
+/// What a policy means, for each body, budget and switch: where cells have values of their kinds, a path
+/// that is decided begins at the switch, and each port that is decided is in 1 to 65,280 or flood's alone;
+/// the packet is asked at most as many questions as there are steps; with more steps a decision stays the
+/// same.
+pub fn meaning_laws()
+    ensures begins { BeginsHere }
+    ensures ports { DecidesPorts }
+    ensures few { AsksWithinBudget }
+    ensures budget { KeepsDecisions }
 {}

@@ -41,7 +41,7 @@ right_unsettled [] seen h = refl
 right_unsettled (i ∷ is) seen h = and_from (not (settles seen i)) (asks_unsettled (seen ++ i ∷ []) is) (ap not h.0.unsettled) (right_unsettled is (seen ++ i ∷ []) h.1)
 
 -- what is known behind one more item
-abbrev or_else : Option ℕ → Option ℕ → Option ℕ
+abbrev pub or_else : Option ℕ → Option ℕ → Option ℕ
 or_else (Some v) o = Some v
 or_else None o = o
 
@@ -49,7 +49,7 @@ either_way : (b : Bool) (x y o : Option ℕ) (w : ℕ) → x ≡ or_else y o →
 either_way true x y o w h = refl
 either_way false x y o w h = h
 
-known_more : (is : List Item) (f : Field) (i : Item) → known f (is ++ i ∷ []) ≡ or_else (known f is) (known f (i ∷ []))
+pub known_more : (is : List Item) (f : Field) (i : Item) → known f (is ++ i ∷ []) ≡ or_else (known f is) (known f (i ∷ []))
 known_more [] f i = refl
 known_more (Read g w ∷ is) f i = either_way (same_field f g) (known f (is ++ i ∷ [])) (known f is) (known f (i ∷ [])) w (known_more is f i)
 known_more (Test g w true ∷ is) f i = either_way (same_field f g) (known f (is ++ i ∷ [])) (known f is) (known f (i ∷ [])) w (known_more is f i)

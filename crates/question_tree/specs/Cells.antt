@@ -4,6 +4,7 @@ use Rattle.std.specs.Str.{bytes_eq}
 use Rattle.maple_base.specs.declared.cells.Cell.{Cell}
 use Rattle.maple_base.specs.declared.cells.Cell.TheVariants.{Host, Hop, Up, Num}
 use Rattle.maple_base.specs.declared.cells.Value.{Value}
+use Rattle.maple_base.specs.Kinds.{of_kind}
 
 abbrev pub same_cell : Cell → Cell → Bool
 same_cell (Host m) (Host n) = m == n
@@ -21,6 +22,10 @@ given c ((d, v) ∷ ds) = if same_cell c d then Some v else given c ds
 abbrev pub reads_once : List (Cell × Value) → List (Cell × Value) → Bool
 reads_once seen [] = true
 reads_once seen (c ∷ cs) = is_none (given c.0 seen) && reads_once (seen ++ c ∷ []) cs
+
+-- a value is of its cell's kind
+abbrev pub is_of_kind : Cell × Value → Bool
+is_of_kind c = of_kind c.0 c.1
 
 -- the environment has in the cells what was read there
 abbrev pub Gives : (Cell → Value) → List (Cell × Value) → Type 0

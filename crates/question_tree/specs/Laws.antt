@@ -1,5 +1,5 @@
 -- What holds of every tree of questions.
-use Rattle.std.specs.Prelude.{◌≡◌, ◌↔◌, ℕ, ◌*◌, ◌≤◌, Bool, true, false, not, ◌&&◌, ◌||◌, List, [], ◌∷◌, ◌++◌, length, is_some}
+use Rattle.std.specs.Prelude.{◌≡◌, ◌↔◌, ℕ, ◌+◌, ◌-◌, ◌≤◌, Bool, true, false, not, ◌&&◌, ◌||◌, List, [], ◌∷◌, ◌++◌, length, is_some}
 use Rattle.std.specs.List.{list_all}
 use Rattle.maple_base.specs.declared.key.Key.{Key}
 use Rattle.maple_base.specs.declared.key.Match.{Match}
@@ -8,10 +8,11 @@ use Rattle.maple_base.specs.declared.cells.Value.{Value}
 use Rattle.maple_base.specs.declared.items.Item.{Item}
 use Rattle.maple_base.specs.declared.items.Item.TheVariants.{Read, Test}
 use Rattle.maple_base.specs.declared.decision.Outcome.{Outcome}
+use Rattle.maple_base.specs.Kinds.{of_kind}
 use Rattle.maple_base.specs.Keys.{in_domain, valid_key, fix, anything, match_normal}
 use Rattle.maple_base.specs.Questions.{meets, clash, known, excluded, asks_once, within_domain}
 use Rattle.question_tree.specs.Asking.{Asking, Done, AsksField, AsksTest, AsksCell}
-use Rattle.question_tree.specs.Cells.{Gives, SomeGives, reads_once}
+use Rattle.question_tree.specs.Cells.{Gives, SomeGives, is_of_kind, reads_once}
 use Rattle.question_tree.specs.Readings.{outcome_in, items_of, cells_of}
 use Rattle.question_tree.specs.Through.{Seen, through, nothing}
 use Rattle.question_tree.specs.Leads.{Leads}
@@ -58,11 +59,31 @@ NoClash =
 abbrev pub AsEvaluated : Type 0
 AsEvaluated = (c : Asking Outcome) (k : Key) (env : Cell → Value) → valid_key k ≡ true → outcome_in (through c nothing) k env ≡ outcome_in c k env
 
--- a question becomes at most three: for the type, for the protocol, and itself
+-- on each way the packet is asked at most so many questions
+abbrev pub AsksAtMost : {A : Type 0} → ℕ → Asking A → Type 0
+AsksAtMost n (Done a) = Unit {0}
+AsksAtMost n (AsksField f by) = (1 ≤ n) × ((v : ℕ) → AsksAtMost (n - 1) (by v))
+AsksAtMost n (AsksTest f v by) = (1 ≤ n) × ((b : Bool) → AsksAtMost (n - 1) (by b))
+AsksAtMost n (AsksCell c by) = (v : Value) → AsksAtMost n (by v)
+
+-- of such a tree a trace has at most two items more: the type and the protocol are each read once for the questions of other fields
 abbrev pub AsksFew : Type 0
 AsksFew =
-    (c : Asking Outcome) (k : Key) (env : Cell → Value) → valid_key k ≡ true
-    → length (items_of (through c nothing) k env) ≤ 3 * length (items_of c k env)
+    (c : Asking Outcome) (n : ℕ) (k : Key) (env : Cell → Value) → AsksAtMost n c → valid_key k ≡ true
+    → length (items_of (through c nothing) k env) ≤ n + 2
+
+-- where each cell has a value of its kind, each end is one of these
+abbrev pub EndsWithin : (Outcome → Bool) → Asking Outcome → Type 0
+EndsWithin such (Done o) = such o ≡ true
+EndsWithin such (AsksField f by) = (v : ℕ) → EndsWithin such (by v)
+EndsWithin such (AsksTest f v by) = (b : Bool) → EndsWithin such (by b)
+EndsWithin such (AsksCell c by) = (v : Value) → of_kind c v ≡ true → EndsWithin such (by v)
+
+-- of such a tree each trace whose cells have values of their kinds ends so
+abbrev pub TracesEndSo : Type 0
+TracesEndSo =
+    (such : Outcome → Bool) (c : Asking Outcome) (k : Key) (env : Cell → Value) → EndsWithin such c → valid_key k ≡ true
+    → list_all is_of_kind (cells_of (through c nothing) k env) ≡ true → such (outcome_in c k env) ≡ true
 
 -- each value that the tree asks a test for is in its field's domain
 abbrev pub TestsWithin : {A : Type 0} → Asking A → Type 0

@@ -1,6 +1,6 @@
 // What holds of every tree of questions.
 ghost use Rattle.question_tree.specs.Example.{ExampleTraces};
-ghost use Rattle.question_tree.specs.Laws.{OwnTrace, SameTrace, OnePath, NoClash, OnlyItsCells, AsEvaluated, AsksFew, ValuesWithin, LawOfTraces, TrueAnswers, NotedTrace};
+ghost use Rattle.question_tree.specs.Laws.{OwnTrace, SameTrace, OnePath, NoClash, OnlyItsCells, AsEvaluated, AsksFew, TracesEndSo, ValuesWithin, LawOfTraces, TrueAnswers, NotedTrace};
 
 /// What holds of each tree: a key and an environment meet their own trace, whoever meets a trace
 /// has it, and a cell that isn't asked changes nothing. Two traces whose cells are of one
@@ -13,13 +13,17 @@ pub fn tree_laws()
     ensures no_clash { NoClash }
 {}
 
-/// What holds of each tree without the settled questions: it ends as plain evaluation does, asks at
-/// most three questions for one, and the law of traces. And of a tree whose tests are all of values
-/// of their fields' domains, each item is.
+/// What holds of each tree without the settled questions: it ends as plain evaluation does, and the
+/// law of traces. A trace of a tree that asks at most `n` questions on any way has at most `n + 2`
+/// items: the type and the protocol are each read once for the questions of other fields. Where a
+/// tree's ends have a property whenever cells have values of their kinds, so has each end whose trace
+/// read such values. And of a tree whose tests are all of values of their fields' domains, each item
+/// is.
 pub fn reading_laws()
     ensures evaluated { AsEvaluated }
     ensures traces { LawOfTraces }
     ensures few { AsksFew }
+    ensures ends { TracesEndSo }
     ensures values { ValuesWithin }
 {}
 
