@@ -1,8 +1,7 @@
-pub mod PortLists
-pub mod Names
-pub mod SameNames
-pub mod Numbers
-pub mod Ways
+pub mod Asked
+pub mod Hops
+pub mod Branches
+pub mod Blocks
 pub mod Rounds
-pub mod Runs
-pub mod Pairs
+pub mod Whole
+pub mod Evaluations

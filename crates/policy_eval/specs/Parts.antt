@@ -1,27 +1,79 @@
--- How the parts of a policy that have parts of their own are evaluated, with these names in force and so many steps left ahead of them.
-use Rattle.std.specs.Prelude.{ℕ, suc, Option}
-use Rattle.std.specs.Option.{option_map}
-use Rattle.maple_base.specs.declared.operator.Operator.{Operator}
-use Rattle.policy_lang.specs.declared.Head.{Head}
-use Rattle.policy_lang.specs.declared.Block.{Block}
+-- What the answers of heads, ways and statements say.
+use Rattle.std.specs.Prelude.{ℕ, suc, ◌==◌, Bool, List, [], ◌∷◌, if◌then◌else◌, Result, Ok, Err, Option, Some, None}
+use Rattle.maple_base.specs.declared.cells.Place.{Place}
+use Rattle.maple_base.specs.declared.cells.Value.TheVariants.{At}
+use Rattle.question_tree.specs.Asking.{Run, gives}
+use Rattle.question_tree.specs.Leads.{Saying}
+use Rattle.policy_lang.specs.Tree.{Source, Binds}
+use Rattle.policy_lang.specs.Tree as tree
 use Rattle.policy_lang.specs.declared.Expr.{Expr}
-use Rattle.policy_lang.specs.Tree.{Callee}
-use Rattle.policy_lang.specs.TreeOf.{term_of, ask_of, tree_of}
-use Rattle.policy_lang.specs.Values.{Scope}
-use Rattle.policy_lang.specs.Evaluation.{Arrival, Given, value_of, from_two, two_given, settling, called, Running, head_of, chosen, rounds, block_ending}
+use Rattle.policy_lang.specs.declared.Head.{Head}
+use Rattle.policy_lang.specs.declared.Statement.{Statement}
+use Rattle.policy_lang.specs.declared.Block.{Block}
+use Rattle.policy_lang.specs.TreeOf as plain
+use Rattle.policy_meaning.specs.Values.{Scope}
+use Rattle.policy_meaning.specs.Meaning.{Giving, Running, act_of, acts_of, in_block, nothing_done, behind_hop, way, head_of, if_of, while_of}
+use Rattle.expr_eval.specs.declared.asker.Stop.{Stop}
+use Rattle.expr_eval.specs.Walked.{Told, Walked, told, stopped}
+use Rattle.policy_eval.specs.declared.heads.Source.{Source as Kept}
+use Rattle.policy_eval.specs.declared.heads.Source.TheVariants as kept
 
--- what a call makes of two expressions, the first ahead of the second
-abbrev pub call_of : Callee → Expr → Expr → Arrival → Scope → ℕ → Given
-call_of c l r a s left = from_two (called c a.env) (value_of (term_of l) a s left) (value_of (term_of r) a s)
+-- what a head that binds a name reads
+abbrev pub source_of : Kept → Source
+source_of kept.Host = tree.Host
+source_of kept.Hop = tree.Hop
+source_of (kept.Table t) = tree.Table t
 
--- what an operator makes of two expressions
-abbrev pub pair_of : Operator → Expr → Expr → Arrival → Scope → ℕ → Given
-pair_of o l r a s left = two_given (settling o) o (value_of (term_of l) a s left) (value_of (term_of r) a s)
+-- the names in force where a head holds
+abbrev pub names_where : Bool → Scope → Option Scope
+names_where held s = if held then Some s else None
 
--- how an `if` ends
-abbrev pub branch_ending : Head → Block → Option Block → Running
-branch_ending head first second a s left = chosen (head_of (ask_of head) a s left) (block_ending (tree_of first)) (option_map (λ b. block_ending (tree_of b)) second) a s
+-- of a head: whether it holds, with the names that are then in force and the steps that are left
+abbrev pub GivesHead : {S : Type 0} → Saying S → S → Run (Option Scope × ℕ) → S → Result Bool Stop → Scope → ℕ → Type 0
+GivesHead said s m t r scope left = Walked said s m t (told (λ held. (names_where held scope, left)) r)
 
--- how the rounds of a `while` end
-abbrev pub repeat_ending : Expr → Block → Running
-repeat_ending test body a s left = rounds (suc left) (term_of test) (block_ending (tree_of body)) a s left
+-- what a head asks that binds a name
+abbrev pub binds_of : Kept → Expr → List ℕ → ℕ → Scope → Giving (Option Scope)
+binds_of source e x = head_of (Binds (source_of source) (plain.term_of e) x)
+
+-- of a way: its places
+abbrev pub GivesWay : {S : Type 0} → Saying S → S → Run (List Place) → S → Result (List Place) Stop → Type 0
+GivesWay said s m t r = Walked said s m t (told (λ ps. ps) r)
+
+-- the way from a switch, which may be the place's own, of so many next hops at most
+abbrev pub way_from : ℕ → Place → ℕ → ℕ → Run (List Place)
+way_from more to left from = if from == to.switch then gives (to ∷ []) else way more to left from
+
+-- of a part without a value: it goes on with these names in force and so many steps left
+abbrev pub GoesOn : {S U : Type 0} → Saying S → S → Run (Scope × ℕ) → S → Result U Stop → Scope → ℕ → Type 0
+GoesOn said s m t r scope left = Walked said s m t (told (λ u. (scope, left)) r)
+
+-- where what is left leads, the whole does
+abbrev pub LeadsOn : {S A : Type 0} → Saying S → S → Run A → S → Run A → Type 0
+LeadsOn said s rest first all = (t : _) (r : Told _) → Walked said s rest t r → Walked said first all t r
+
+-- of a next hop on a way of as many hops as you like: what is behind it is left, or the way ends
+abbrev pub GivesHop : {S : Type 0} → Saying S → S → ℕ → Place → ℕ → S → Result Place Stop → ℕ → Type 0
+GivesHop said s from to left t (Ok p) rest = (more : ℕ) → LeadsOn said t (behind_hop from to (way more to rest) (At p)) s (way (suc more) to left from)
+GivesHop said s from to left t (Err e) rest = (more : ℕ) → Walked said s (way (suc more) to left from) t (stopped e)
+
+-- what a block does
+abbrev pub block_runs : Block → ℕ → Running
+block_runs b switch = in_block (acts_of (plain.tree_of b) switch)
+
+-- what the second block of an `if` does, if there is one
+abbrev pub second_runs : Option Block → ℕ → Running
+second_runs None switch = nothing_done
+second_runs (Some b) switch = block_runs b switch
+
+-- what an `if` does
+abbrev pub branch_runs : Head → Block → Option Block → ℕ → Running
+branch_runs q first second switch = if_of (plain.ask_of q) (block_runs first switch) (second_runs second switch) switch
+
+-- what a `while` does
+abbrev pub repeat_runs : Expr → Block → ℕ → Running
+repeat_runs e body switch = while_of (plain.term_of e) (block_runs body switch) switch
+
+-- what a statement does
+abbrev pub statement_runs : Statement → ℕ → Running
+statement_runs st switch = act_of (plain.act_of st) switch

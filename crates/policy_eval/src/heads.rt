@@ -1,63 +1,97 @@
-// What heads bind.
-ghost use Rattle.std.specs.Prelude.{◌≡◌, ℕ, IfOk};
+// What an `if` asks.
+ghost use Rattle.std.specs.Prelude.{◌≡◌, ◌<◌, false, OnOk, IfOk};
 ghost use Rattle.std.specs.Option.{option_map};
-ghost use Rattle.policy_lang.specs.Values.{place_of_host, port_of_hop, number_in_table, flag_in};
-ghost use Rattle.policy_lang.specs.Evaluation.{bound};
-ghost use Rattle.policy_eval.specs.Data.{datum_of};
-ghost use Rattle.policy_eval.specs.HeadAnswers.{HeldAs};
+ghost use Rattle.policy_lang.specs.TreeOf.{ask_of};
+ghost use Rattle.policy_data.specs.Data.{datum_of};
+ghost use Rattle.policy_meaning.specs.Values.{source_cell, source_told};
+ghost use Rattle.policy_meaning.specs.Meaning.{head_of};
+ghost use Rattle.policy_eval.specs.Parts.{source_of, binds_of, GivesHead};
 
-use crate::{Datum, Scope};
-use maple_base::{Name, NoMemory, Value};
+use expr_eval::{Asker, Stop, value};
+use maple_base::{Cell, Name, Value};
+use policy_data::{Datum, Scope, Steps, bind, number_in_table, place_of_host, port_of_hop};
+use policy_lang::{Expr, Head};
 
-/// Where a host is.
-pub fn place_of_host(value: Value) -> Option<Datum>
-    ensures { option_map datum_of result ≡ place_of_host value }
+// What a head that binds a name reads: where a host is, by which port a switch is reached, or what
+// a table has.
+#[derive(Clone, Copy)]
+pub enum Source {
+    Host,
+    Hop,
+    Table(Name),
+}
+
+// The cell that is read by a number.
+fn cell_at(source: &Source, switch: u64, number: u64) -> Cell
+    ensures { result ≡ source_cell (source_of source.now) switch number }
 {
-    match value {
-        Value::At(place) => Some(Datum::At(place)),
-        _ => None,
+    match source {
+        Source::Host => Cell::Host(number),
+        Source::Hop => Cell::Hop {
+            from: switch,
+            to: number,
+        },
+        Source::Table(table) => Cell::Num {
+            table: *table,
+            key: number,
+        },
     }
 }
 
-/// By which port a next hop is reached.
-pub fn port_of_hop(value: Value) -> Option<Datum>
-    ensures { option_map datum_of result ≡ port_of_hop value }
+// What its value tells.
+fn told_by(source: &Source, value: Value) -> Option<Datum>
+    ensures { option_map datum_of result ≡ source_told (source_of source.now) value }
 {
-    match value {
-        Value::At(place) => Some(Datum::Number(place.port)),
-        _ => None,
+    match source {
+        Source::Host => place_of_host(value),
+        Source::Hop => port_of_hop(value),
+        Source::Table(_) => number_in_table(value),
     }
 }
 
-/// What a table has at a number.
-pub fn number_in_table(value: Value) -> Option<Datum>
-    ensures { option_map datum_of result ≡ number_in_table value }
+// Whether a head that binds a name holds; the name is then in force.
+#[tactic(auto, using(question_tree::proofs::Walks::leads_end, question_tree::proofs::Walks::leads_next, question_tree::proofs::Walks::leads_cell, crate::proofs::Asked::bound_names))]
+fn binds<A: Asker>(
+    source: &Source,
+    expr: &Expr,
+    name: &Name,
+    switch: u64,
+    scope: &mut Scope,
+    steps: &mut Steps,
+    asker: &mut A,
+) -> Result<bool, Stop>
+    ensures given { GivesHead A.said asker.old (binds_of source.now expr.now name.now switch scope.old steps.old) asker.new result scope.new steps.new }
+    ensures kept { IfOk result (λ held. held ≡ false → scope.new ≡ scope.old) }
+    ensures held { A.holds asker.new ≡ A.holds asker.old }
+    ensures fewer { OnOk result (steps.new < steps.old) }
 {
-    match value {
-        Value::Number(number) => Some(Datum::Number(number)),
-        _ => None,
-    }
+    steps.count()?;
+    let number = value(expr, switch, scope, steps, asker)?.number();
+    let found = asker.cell(cell_at(source, switch, number))?;
+    Ok(bind(name, told_by(source, found), scope)?)
 }
 
-/// Whether a port is up.
-pub fn flag_in(value: Value) -> bool
-    ensures { result ≡ flag_in value }
+/// Whether a head holds at a switch; a name that it binds is then in force.
+#[tactic(auto, using(question_tree::proofs::Walks::leads_end, question_tree::proofs::Walks::leads_next))]
+pub fn head<A: Asker>(
+    head: &Head,
+    switch: u64,
+    scope: &mut Scope,
+    steps: &mut Steps,
+    asker: &mut A,
+) -> Result<bool, Stop>
+    ensures given { GivesHead A.said asker.old (head_of (ask_of head.now) switch scope.old steps.old) asker.new result scope.new steps.new }
+    ensures kept { IfOk result (λ held. held ≡ false → scope.new ≡ scope.old) }
+    ensures held { A.holds asker.new ≡ A.holds asker.old }
+    ensures fewer { OnOk result (steps.new < steps.old) }
 {
-    match value {
-        Value::Flag(flag) => flag,
-        _ => false,
-    }
-}
-
-/// Binds a name to what was found, and says whether anything was.
-pub fn bind(name: &Name, found: Option<Datum>, scope: &mut Scope) -> Result<bool, NoMemory>
-    ensures { IfOk result (λ held. (left : ℕ) → HeldAs held scope.old scope.new left (bound name.now scope.old (option_map datum_of found) left)) }
-{
-    match found {
-        None => Ok(false),
-        Some(datum) => {
-            scope.declare(*name, datum)?;
-            Ok(true)
+    match head {
+        Head::Host(expr, name) => binds(&Source::Host, expr, name, switch, scope, steps, asker),
+        Head::Hop(expr, name) => binds(&Source::Hop, expr, name, switch, scope, steps, asker),
+        Head::Lookup(table, expr, name) => {
+            let source = Source::Table(*table);
+            binds(&source, expr, name, switch, scope, steps, asker)
         }
+        Head::Test(expr) => Ok(value(expr, switch, scope, steps, asker)?.truth()),
     }
 }

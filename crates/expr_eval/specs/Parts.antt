@@ -1,0 +1,31 @@
+-- For private functions: what the parts of an expression give.
+use Rattle.std.specs.Prelude.{ℕ, suc, Result, IfOk}
+use Rattle.maple_base.specs.declared.key.Field.{Field}
+use Rattle.maple_base.specs.declared.operator.Operator.{Operator}
+use Rattle.question_tree.specs.Asking.{Goes, Run}
+use Rattle.question_tree.specs.Leads.{Saying, Leads}
+use Rattle.policy_lang.specs.declared.Expr.{Expr}
+use Rattle.policy_lang.specs.Tree.{Callee, Call, Is, Not, Pair}
+use Rattle.policy_lang.specs.TreeOf.{term_of}
+use Rattle.policy_data.specs.declared.datum.Datum.{Datum}
+use Rattle.policy_data.specs.Data.{datum_of}
+use Rattle.policy_meaning.specs.Values.{Datum as Given, Scope}
+use Rattle.policy_meaning.specs.Meaning.{Giving, value_of}
+use Rattle.expr_eval.specs.declared.asker.Refusal.{Refusal}
+
+-- of a part that counts no step: what it gives, where no question was refused
+abbrev pub GivesDatum : {S : Type 0} → Saying S → S → Run Given → S → Result Datum Refusal → Type 0
+GivesDatum said s m t r = IfOk r (λ d. Leads said s m t (Goes (datum_of d)))
+
+-- expressions with parts, behind their own step
+abbrev pub call_of : Callee → Expr → Expr → ℕ → Scope → Giving Given
+call_of c l r switch s left = value_of (Call c (term_of l) (term_of r)) switch s (suc left)
+
+abbrev pub is_of : Field → Expr → ℕ → Scope → Giving Given
+is_of f e switch s left = value_of (Is f (term_of e)) switch s (suc left)
+
+abbrev pub not_of : Expr → ℕ → Scope → Giving Given
+not_of e switch s left = value_of (Not (term_of e)) switch s (suc left)
+
+abbrev pub pair_of : Operator → Expr → Expr → ℕ → Scope → Giving Given
+pair_of o l r switch s left = value_of (Pair o (term_of l) (term_of r)) switch s (suc left)
