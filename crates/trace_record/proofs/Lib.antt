@@ -1,4 +1,5 @@
-pub mod Leading
-pub mod Plainness
+pub mod Free
+pub mod KnownFields
 pub mod Recordings
-pub mod TraceLaws
+pub mod Runs
+pub mod TableOfCells

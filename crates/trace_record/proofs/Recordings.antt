@@ -1,55 +1,96 @@
--- Parts of a policy lead on, one behind the other.
-use Rattle.std.proofs.Common.{◌≡◌, ℕ, suc, add-one, ◌+◌, ◌<◌, Bool, List, [], ◌∷◌, ◌++◌, length, drop, get_or, sym, ap, ◌∙◌, append_assoc}
-use Rattle.std.proofs.Math.Path.{fun_ext}
-use Rattle.std.proofs.Math.Seq.{drop-cons}
-use Rattle.std.specs.Prelude.{Some}
-use Rattle.maple_base.specs.declared.key.Field.{Field}
+-- A recorder's notes are a trace.
+use Rattle.std.proofs.Common.{◌≡◌, true, List, [], ◌∷◌, ◌++◌, refl, sym, ap, ◌∙◌, subst}
+use Rattle.std.specs.Prelude.{None, Result, Ok, Err, IfOk, OnOk, ◌&&◌}
+use Rattle.std.specs.List.{list_all}
+use Rattle.std.proofs.lemmas.Bool.{and_parts}
 use Rattle.maple_base.specs.declared.key.Key.{Key}
+use Rattle.maple_base.specs.declared.cells.Cell.{Cell}
+use Rattle.maple_base.specs.declared.cells.Value.{Value}
 use Rattle.maple_base.specs.declared.items.Item.{Item}
-use Rattle.policy_lang.specs.declared.Expr.{Expr}
-use Rattle.policy_lang.specs.Tree.{Term, Is}
-use Rattle.policy_lang.specs.TreeOf.{term_of, terms_of}
-use Rattle.policy_lang.specs.Values.{Datum, Truth, number_in}
-use Rattle.policy_lang.specs.Evaluation.{Given}
-use Rattle.policy_lang.specs.Courses.{Course, Onward, Going, ask_test, value_course, numbers_course}
-use Rattle.trace_record.specs.Recording.{Leads, Asked, RecordedValue, course_given}
-use Rattle.trace_record.proofs.Leading.{leads_by, leads_on}
+use Rattle.maple_base.specs.declared.decision.Outcome.{Outcome}
+use Rattle.maple_base.specs.Keys.{valid_key}
+use Rattle.maple_base.specs.Kinds.{of_kind}
+use Rattle.question_tree.specs.Cells.{given, AreGiven, is_of_kind}
+use Rattle.question_tree.specs.Asking.{Asking}
+use Rattle.question_tree.specs.Through.{Seen, nothing}
+use Rattle.question_tree.specs.Leads.{CellIs, Saying, Leads}
+use Rattle.question_tree.specs.Notes.{Notes, seen}
+use Rattle.question_tree.specs.Laws.{IsTrace}
+use Rattle.question_tree.proofs.Walks.{leads_as}
+use Rattle.question_tree.proofs.Looked.{looked_new, given_all, given_still}
+use Rattle.question_tree.proofs.Recorded.{notes_trace}
+use Rattle.expr_eval.specs.declared.asker.Refusal.{Refusal}
+use Rattle.trace_record.specs.Recorded.{Records}
 
--- a test asks for its number, and then of its field
-pub test_recorded : (k : Key) (whole e : Term) (f : Field) (left before rest n : ℕ) (x : Datum) (g : Given) (seen mid now : List Item) (truth : Bool)
-    → Is f e ≡ whole → left ≡ suc before → n ≡ number_in x → g ≡ Some (x, rest)
-    → RecordedValue k seen (value_course e) before mid g → Asked k mid (ask_test f n) now truth
-    → RecordedValue k seen (value_course whole) left now (Some (Truth truth, rest))
-test_recorded k whole e f left before rest n x g seen mid now truth w l m q inner asked next =
-    let on : Onward = λ answer seen. next (Truth answer) seen rest in
-    let then : Datum → Going = λ d seen left. ask_test f (number_in d) seen (λ answer seen. next (Truth answer) seen left) in
-    leads_on k seen seen now (value_course whole seen left next) (value_course e seen before then) (on truth now)
-    (leads_by k seen (value_course whole seen left next) (value_course e seen before then)
-    (ap (λ y. value_course y seen left next) (sym w) ∙ ap (λ y. value_course (Is f e) seen y next) l))
-    (leads_on k seen mid now (value_course e seen before then) (course_given g mid then) (on truth now) (inner then)
-    (leads_on k mid mid now (course_given g mid then) (ask_test f n mid on) (on truth now)
-    (leads_by k mid (course_given g mid then) (ask_test f n mid on) (ap (λ y. course_given y mid then) q ∙ ap (λ y. ask_test f y mid on) (sym m)))
-    (asked on)))
+pub kinds_all : (cs : List (Cell × Value)) (c : Cell) (v : Value) → list_all is_of_kind cs ≡ true → of_kind c v ≡ true → list_all is_of_kind (cs ++ (c, v) ∷ []) ≡ true
+kinds_all [] c v h k = ap (λ b. b && true) k
+kinds_all (d ∷ cs) c v h k =
+    let q = and_parts (is_of_kind d) (list_all is_of_kind cs) h in
+    ap (λ b. b && list_all is_of_kind (cs ++ (c, v) ∷ [])) q.0 ∙ kinds_all cs c v q.1 k
 
--- the numbers so far ahead of those to come
-abbrev pub NumbersLead : Key → List Expr → List Item → ℕ → ℕ → List ℕ → List Item → ℕ → Type 0
-NumbersLead k es seen steps i ns mid left =
-    (next : List ℕ → Going) → Leads k seen (numbers_course (terms_of es) seen steps next) mid (numbers_course (terms_of (drop i es)) mid left (λ more. next (ns ++ more)))
+-- a cell that was not read before is read
+pub cell_read : (k : Key) (is : List Item) (cs ds : List (Cell × Value)) (c : Cell) (v : Value) (gave now : Cell → Value → Type 0)
+    → given c cs ≡ None → ds ≡ cs ++ (c, v) ∷ [] → ((d : Cell) (w : Value) → gave d w → now d w) → now c v → of_kind c v ≡ true → Records k k (seen is cs) (seen is ds) gave now (CellIs c v)
+cell_read k is cs ds c v gave now new h kept told kind =
+    subst (λ ds. Records k k (seen is cs) (seen is ds) gave now (CellIs c v)) (sym h)
+    (record {
+      key = refl;
+      notes = looked_new k (seen is cs) c v new;
+      told = λ all. given_all now cs c v (given_still gave now cs kept all) told;
+      kept = kept;
+      kinds = λ all. kinds_all cs c v all kind;
+    })
 
--- one more number
-pub numbers_lead : (k : Key) (es : List Expr) (seen mid now : List Item) (steps left rest i : ℕ) (e : Expr) (x : Datum) (g : Given) (ns : List ℕ) → i < length es → e ≡ get_or es i e
-    → NumbersLead k es seen steps i ns mid left → g ≡ Some (x, rest) → RecordedValue k mid (value_course (term_of e)) left now g
-    → NumbersLead k es seen steps (i + 1) (ns ++ number_in x ∷ []) now rest
-numbers_lead k es seen mid now steps left rest i e x g ns lt q lead v value next =
-    let then : List ℕ → Going = λ more. next (ns ++ more) in
-    let after : Datum → Going = λ d seen left. numbers_course (terms_of (drop (suc i) es)) seen left (λ more. then (number_in d ∷ more)) in
-    let end : Course = numbers_course (terms_of (drop (i + 1) es)) now rest (λ more. next ((ns ++ number_in x ∷ []) ++ more)) in
-    leads_on k seen mid now (numbers_course (terms_of es) seen steps next) (numbers_course (terms_of (drop i es)) mid left then) end (lead next)
-    (leads_on k mid mid now (numbers_course (terms_of (drop i es)) mid left then) (value_course (term_of e) mid left after) end
-    (leads_by k mid (numbers_course (terms_of (drop i es)) mid left then) (value_course (term_of e) mid left after)
-    (ap (λ l. numbers_course (terms_of l) mid left then) (drop-cons es i e lt ∙ ap (λ d. d ∷ drop (suc i) es) (sym q))))
-    (leads_on k mid now now (value_course (term_of e) mid left after) (course_given g now after) end (value after)
-    (leads_by k now (course_given g now after) end
-    (ap (λ y. course_given y now after) v
-    ∙ ap (λ j. numbers_course (terms_of (drop j es)) now rest (λ more. then (number_in x ∷ more))) (sym (add-one i))
-    ∙ ap (numbers_course (terms_of (drop (i + 1) es)) now rest) (fun_ext (λ more. ap next (sym (append_assoc ns (number_in x ∷ []) more))))))))
+-- the answers of a recorder
+abbrev pub Recording : {S : Type 0} → (S → Key) → (S → Seen) → (S → Cell → Value → Type 0) → Saying S
+Recording key see gave s a t = Records (key s) (key t) (see s) (see t) (gave s) (gave t) a
+
+pub record IsRecorded (k : Key) (s : Seen) (start gave : Cell → Value → Type 0) (c : Asking Outcome) (o : Outcome) : Type 0 where
+  pub trace : IsTrace c k s.items s.cells o
+  pub told : AreGiven gave s.cells
+  pub kept : (d : Cell) (w : Value) → start d w → gave d w
+  pub kinds : list_all is_of_kind s.cells ≡ true
+
+record Held (k l : Key) (s : Seen) (start gave : Cell → Value → Type 0) : Type 0 where
+  same_key : l ≡ k
+  told : AreGiven gave s.cells
+  kept : (d : Cell) (w : Value) → start d w → gave d w
+  kinds : list_all is_of_kind s.cells ≡ true
+
+pub recorded : {S : Type 0} (key : S → Key) (see : S → Seen) (gave : S → Cell → Value → Type 0) (c : Asking Outcome) (s t : S) (o : Outcome)
+    → valid_key (key s) ≡ true → see s ≡ nothing → Leads (Recording key see gave) s c t o → IsRecorded (key s) (see t) (gave s) (gave t) c o
+recorded key see gave c s t o valid empty l =
+    let k = key s in
+    let q = leads_as (Recording key see gave) (Notes k) see (λ u. Held k (key u) (see u) (gave s) (gave u)) s c t o
+    (λ u a v h w. (subst (λ x. Notes x (see u) a (see v)) h.same_key w.notes, record { same_key = sym w.key ∙ h.same_key; told = w.told h.told; kept = λ d x g. w.kept d x (h.kept d x g); kinds = w.kinds h.kinds }))
+    (record { same_key = refl; told = subst (λ x. AreGiven (gave s) x.cells) (sym empty) tt; kept = λ d x g. g; kinds = subst (λ x. list_all is_of_kind x.cells ≡ true) (sym empty) refl }) l in record {
+      trace = notes_trace c k (see t) o valid (subst (λ x. Leads (Notes k) x c (see t) o) empty q.0);
+      told = q.1.told;
+      kept = q.1.kept;
+      kinds = q.1.kinds;
+    }
+
+pub recorded_if : {S : Type 0} (key : S → Key) (see : S → Seen) (gave : S → Cell → Value → Type 0) (c : Asking Outcome) (s t : S) (r : Result Outcome Refusal)
+    → valid_key (key s) ≡ true → see s ≡ nothing → IfOk r (λ o. Leads (Recording key see gave) s c t o) → IfOk r (λ o. IsRecorded (key s) (see t) (gave s) (gave t) c o)
+recorded_if key see gave c s t (Ok o) valid empty l = recorded key see gave c s t o valid empty l
+recorded_if key see gave c s t (Err e) valid empty l = tt
+
+pub ok_trace : (k : Key) (s : Seen) (start gave : Cell → Value → Type 0) (c : Asking Outcome) (r : Result Outcome Refusal)
+    → IfOk r (λ o. IsRecorded k s start gave c o) → IfOk r (λ o. IsTrace c k s.items s.cells o)
+ok_trace k s start gave c (Ok o) h = h.trace
+ok_trace k s start gave c (Err e) h = tt
+
+pub ok_told : (k : Key) (s : Seen) (start gave : Cell → Value → Type 0) (c : Asking Outcome) (r : Result Outcome Refusal)
+    → IfOk r (λ o. IsRecorded k s start gave c o) → IfOk r (λ o. AreGiven gave s.cells)
+ok_told k s start gave c (Ok o) h = h.told
+ok_told k s start gave c (Err e) h = tt
+
+pub ok_kinds : (k : Key) (s : Seen) (start gave : Cell → Value → Type 0) (c : Asking Outcome) (r : Result Outcome Refusal)
+    → IfOk r (λ o. IsRecorded k s start gave c o) → IfOk r (λ o. list_all is_of_kind s.cells ≡ true)
+ok_kinds k s start gave c (Ok o) h = h.kinds
+ok_kinds k s start gave c (Err e) h = tt
+
+pub ok_kept : (k : Key) (s : Seen) (start gave : Cell → Value → Type 0) (c : Asking Outcome) (r : Result Outcome Refusal)
+    → IfOk r (λ o. IsRecorded k s start gave c o) → OnOk r ((d : Cell) (w : Value) → start d w → gave d w)
+ok_kept k s start gave c (Ok o) h = h.kept
+ok_kept k s start gave c (Err e) h = tt

@@ -1,6 +1,8 @@
--- A reader must believe: Traces (a trace, the law of traces, what `record` promises of a call).
--- TraceViews says what contracts see of a `Run`. Given and Recording serve private contracts and proofs alone.
-pub mod Given
-pub mod Recording
-pub mod TraceViews
-pub mod Traces
+-- A reader must believe: Runs (a recorded run, the law of runs, what `record` promises of a call), Laws (two runs don't clash).
+-- RunViews says what contracts see of a `Run`; Recorded, Facts and CellKeys are words of private contracts.
+pub mod CellKeys
+pub mod Facts
+pub mod Laws
+pub mod Recorded
+pub mod RunViews
+pub mod Runs
