@@ -7,6 +7,7 @@ pub mod Clears
 pub mod Growths
 pub mod Keeping
 pub mod Kept
+pub mod Numbers
 pub mod Places
 pub mod Puts
 pub mod Refusals

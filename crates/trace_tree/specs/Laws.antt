@@ -7,10 +7,11 @@ use Rattle.maple_base.specs.Questions.{clash}
 use Rattle.trace_tree.specs.declared.node.Trace.{Trace}
 use Rattle.trace_tree.specs.declared.node.Leaf.{Leaf}
 use Rattle.trace_tree.specs.Shape.{Empty}
-use Rattle.trace_tree.specs.Growth.{insert, leaf_of, scratch, found, search_of, admits, AreAdmitted, leaves_of}
+use Rattle.trace_tree.specs.Growth.{insert, leaf_of, scratch, found, search_of, admits, AreAdmitted, AllAskOnce, leaves_of}
 use Rattle.trace_tree.specs.Apart.{AreApart}
 use Rattle.trace_tree.specs.Kept.{kept}
 use Rattle.trace_tree.specs.Stands.{StandsFor, of_leaf}
+use Rattle.trace_tree.specs.Numbers.{HaveOwnNumbers, IsNewNumber}
 
 -- traces of which no two clash are admitted one after the other
 abbrev pub ApartIsAdmitted : Type 0
@@ -47,3 +48,15 @@ FewerAreAdmitted = (rs : List Trace) (q : Trace → Bool) → AreAdmitted Empty 
 -- the tree without the leaves of some traces is the tree of the others
 abbrev pub KeptIsScratch : Type 0
 KeptIsScratch = (rs : List Trace) (p : Leaf → Bool) → AreAdmitted Empty rs → kept p (scratch rs) ≡ scratch (filter (of_leaf p) rs)
+
+-- traces that ask of a fixed field no more still do not when some of them go
+abbrev pub FewerAskOnce : Type 0
+FewerAskOnce = (rs : List Trace) (q : Trace → Bool) → AllAskOnce rs → AllAskOnce (filter q rs)
+
+-- a trace of a new number behind traces that their numbers tell apart
+abbrev pub NewNumberIsOwn : Type 0
+NewNumberIsOwn = (rs : List Trace) (r : Trace) → HaveOwnNumbers rs → IsNewNumber r.number rs → HaveOwnNumbers (rs ++ r ∷ [])
+
+-- traces that their numbers tell apart still are so when some of them go
+abbrev pub FewerHaveOwnNumbers : Type 0
+FewerHaveOwnNumbers = (rs : List Trace) (q : Trace → Bool) → HaveOwnNumbers rs → HaveOwnNumbers (filter q rs)

@@ -1,5 +1,5 @@
 // What holds of the tree that a list of traces makes.
-ghost use Rattle.trace_tree.specs.Laws.{ApartIsAdmitted, OnlyApartIsAdmitted, FreeIsAdmitted, EmptyStandsForNone, GrowsByInsertion, SearchIsFound, LeavesAreTraces, FewerAreAdmitted, KeptIsScratch};
+ghost use Rattle.trace_tree.specs.Laws.{ApartIsAdmitted, OnlyApartIsAdmitted, FreeIsAdmitted, EmptyStandsForNone, GrowsByInsertion, SearchIsFound, LeavesAreTraces, FewerAreAdmitted, KeptIsScratch, FewerAskOnce, NewNumberIsOwn, FewerHaveOwnNumbers};
 
 /// The laws of trees of traces. After calls of `augment` on a new tree, it is the tree of those traces in their order.
 pub fn scratch_laws()
@@ -12,4 +12,7 @@ pub fn scratch_laws()
     ensures leaves { LeavesAreTraces }
     ensures fewer { FewerAreAdmitted }
     ensures kept { KeptIsScratch }
+    ensures fewer_once { FewerAskOnce }
+    ensures numbers { NewNumberIsOwn }
+    ensures fewer_numbers { FewerHaveOwnNumbers }
 {}

@@ -2,6 +2,7 @@ use Rattle.std.proofs.Common.{refl, arith}
 use Rattle.trace_tree.proofs.Growths.{search_scratch}
 use Rattle.trace_tree.proofs.Apart.{scratch_apart, admitted_scratch, grown_push, leaves_grown, apart_scratch, admitted_filter}
 use Rattle.trace_tree.proofs.Keeping.{kept_grown}
+use Rattle.trace_tree.proofs.Numbers.{once_filter, numbers_push, numbers_filter}
 use Rattle.trace_tree.specs.Shape.{Empty}
 use Rattle.trace_tree.proofs.laws.scratch_laws.Goals as goal
 
@@ -31,3 +32,12 @@ returns-clause-only c = apart_scratch
 
 pub returns-clause-none : goal.returns-clause-none
 returns-clause-none c = record { admitted = tt; made = refl }
+
+pub returns-clause-fewer_once : goal.returns-clause-fewer_once
+returns-clause-fewer_once c = once_filter
+
+pub returns-clause-numbers : goal.returns-clause-numbers
+returns-clause-numbers c = numbers_push
+
+pub returns-clause-fewer_numbers : goal.returns-clause-fewer_numbers
+returns-clause-fewer_numbers c = numbers_filter

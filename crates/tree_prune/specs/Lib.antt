@@ -1,0 +1,6 @@
+-- A reader must believe: Current (which traces have the values of now in their cells), Stale (the first cell of a trace that has another value),
+-- Live (which of the learned traces live), Laws (what becomes of the live traces and of their tree).
+pub mod Current
+pub mod Laws
+pub mod Live
+pub mod Stale
