@@ -1,5 +1,5 @@
--- How many rules a further trace brings.
-use Rattle.std.proofs.Common.{◌≡◌, ℕ, zero, suc, ◌+◌, ◌≤◌, true, false, cond, List, [], ◌∷◌, length, ap, subst, ⊎_elim, arith}
+-- How many rules a further trace brings, and how many there are at most.
+use Rattle.std.proofs.Common.{◌≡◌, ℕ, zero, suc, ◌+◌, ◌≤◌, ◌*◌, ◌<◌, ◌^◌, true, false, cond, List, [], ◌∷◌, length, ap, subst, ⊎_elim, arith}
 use Rattle.std.specs.Prelude.{◌==◌, ◌&&◌}
 use Rattle.std.proofs.lemmas.Bool.{cases_order, eq-eqb}
 use Rattle.std.proofs.lemmas.Bool.Decides.{nat_tests}
@@ -8,32 +8,15 @@ use Rattle.maple_base.specs.declared.items.Item.TheVariants.{Read, Test}
 use Rattle.maple_base.specs.Questions.{same_field}
 use Rattle.trace_tree.specs.declared.node.Leaf.{Leaf}
 use Rattle.trace_tree.specs.Shape.{Shape, Branches, Empty, Ends, Reads, Tests, NoBranch, Branch}
-use Rattle.trace_tree.specs.Growth.{change, insert, child, admits}
+use Rattle.maple_base.specs.Limits.{most_items}
+use Rattle.trace_tree.specs.Growth.{change, insert, child, admits, leaves_of, leaves_in}
+use Rattle.trace_tree.specs.Bounds.{longest_of, longest_in}
 use Rattle.trace_tree.proofs.Growths.{both, admits_Empty}
 use Rattle.trace_tree.proofs.Children.{change_here, change_ahead, change_past}
-use Rattle.priority_plan.specs.Rules.{with_barrier, levels_of, most_levels}
+use Rattle.priority_plan.specs.Rules.{with_barrier, levels_of, rules_needed}
 use Rattle.priority_plan.specs.Counts.{count_of, count_in}
 use Rattle.priority_plan.specs.Laws.{FewLevels, FewMore}
-use Rattle.priority_plan.proofs.Counted.{needed_count}
-
-pub barrier_mono : (a b : ℕ) → a ≤ b → with_barrier a ≤ with_barrier b
-barrier_mono zero b h = omega arith
-barrier_mono (suc a) zero h = absurd (omega (arith, h))
-barrier_mono (suc a) (suc b) h = omega (arith, h)
-
-mutual
-  levels_counted : (t : Shape) → levels_of t ≤ count_of t
-  levels_counted Empty = omega arith
-  levels_counted (Ends l) = omega arith
-  levels_counted (Reads f bs) = levels_counted_in bs
-  levels_counted (Tests f v n y) =
-      let a = barrier_mono (levels_of n) (count_of n) (levels_counted n) in
-      let b = levels_counted y in
-      omega (arith, a, b)
-
-  levels_counted_in : (bs : Branches) → most_levels bs ≤ count_in bs
-  levels_counted_in NoBranch = omega arith
-  levels_counted_in (Branch v t bs) = let a = levels_counted t in let b = levels_counted_in bs in omega (arith, a, b)
+use Rattle.priority_plan.proofs.Counted.{needed_count, levels_counted}
 
 pub few_levels : FewLevels
 few_levels t = let a = levels_counted t in let e = needed_count t in omega (arith, a, e)
@@ -95,3 +78,40 @@ insert_grew (Test f v false ∷ is) leaf (Tests h w n y) a =
 
 pub few_more : FewMore
 few_more is leaf t a = let h = insert_grew is leaf t a in let e = needed_count t in let f = needed_count (insert is leaf t) in omega (arith, h, e, f)
+
+-- each leaf has its fact and at most a barrier for each question of its path
+times_add : (a b d : ℕ) → (a + b) * d ≡ a * d + b * d
+times_add a b d = omega arith
+
+barrier_few : (c l d : ℕ) → c ≤ l * d → with_barrier c ≤ l * d + l
+barrier_few zero l d h = omega arith
+barrier_few (suc c) zero d h = absurd (omega (arith, h))
+barrier_few (suc c) (suc l) d h = omega (arith, h)
+
+mutual
+  few_of : (t : Shape) (d : ℕ) → longest_of t < d → count_of t ≤ leaves_of t * d
+  few_of Empty d h = omega arith
+  few_of (Ends l) d h = omega (arith, h)
+  few_of (Reads f bs) d h = few_in bs d (omega (arith, h))
+  few_of (Tests f v n y) zero h = absurd (omega (arith, h))
+  few_of (Tests f v n y) (suc d) h =
+      let a = barrier_few (count_of n) (leaves_of n) d (few_of n d (omega (arith, h))) in
+      let b = few_of y (suc d) (omega (arith, h)) in
+      let e = times_add (leaves_of n) (leaves_of y) (suc d) in
+      omega (arith, a, b, e)
+
+  few_in : (bs : Branches) (d : ℕ) → longest_in bs < d → count_in bs ≤ leaves_in bs * d
+  few_in NoBranch d h = omega arith
+  few_in (Branch v t bs) d h =
+      let a = few_of t d (omega (arith, h)) in
+      let b = few_in bs d (omega (arith, h)) in
+      let e = times_add (leaves_of t) (leaves_in bs) d in
+      omega (arith, a, b, e)
+
+pub few_rules : (t : Shape) → longest_of t ≤ most_items → leaves_of t < 2 ^ 32 → rules_needed t < 2 ^ 64
+few_rules t short few =
+    let a = few_of t (most_items + 1) (omega (arith, short)) in
+    omega (arith, a, few, needed_count t)
+
+pub few_priorities : (t : Shape) → longest_of t ≤ most_items → leaves_of t < 2 ^ 32 → levels_of t < 2 ^ 64
+few_priorities t short few = let a = few_rules t short few in let b = few_levels t in omega (arith, a, b)

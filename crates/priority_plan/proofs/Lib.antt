@@ -1,9 +1,8 @@
 pub mod Chains
 pub mod Counted
-pub mod Falls
-pub mod Few
 pub mod Grows
+pub mod Left
+pub mod Listed
 pub mod Places
 pub mod Shrinks
 pub mod Spans
-pub mod Steps

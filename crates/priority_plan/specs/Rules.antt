@@ -1,5 +1,5 @@
 -- The rules of a tree of traces.
-use Rattle.std.specs.Prelude.{ℕ, zero, suc, ◌+◌, ◌⊎◌, max, List, [], ◌∷◌, ◌++◌, Contains, length}
+use Rattle.std.specs.Prelude.{ℕ, zero, suc, ◌+◌, ◌⊎◌, max, List, [], ◌∷◌, ◌++◌, map, filter_map, Option, Some, None, Contains, length}
 use Rattle.maple_base.specs.Ports.{controller_port}
 use Rattle.maple_base.specs.declared.key.Field.{Field}
 use Rattle.maple_base.specs.declared.key.Match.{Match}
@@ -11,6 +11,8 @@ use Rattle.maple_base.specs.Decisions.{actions_at}
 use Rattle.maple_base.specs.Keys.{fix, anything}
 use Rattle.trace_tree.specs.declared.node.Leaf.{Leaf}
 use Rattle.trace_tree.specs.Shape.{Shape, Branches, Empty, Ends, Reads, Tests, NoBranch, Branch}
+use Rattle.priority_plan.specs.declared.rows.Row.{Row}
+use Rattle.priority_plan.specs.declared.rows.Row.TheVariants.{Fact, Barrier}
 
 -- the most levels of a tree whose rules are made: they take priorities from 1 on
 abbrev pub level_limit : ℕ
@@ -52,35 +54,40 @@ fact l m base = record { of = m; priority = base + 1; actions = fact_actions l.d
 abbrev pub barrier : Match → ℕ → Rule
 barrier m priority = record { of = m; priority = priority; actions = controller_port ∷ []; cookie = 0; idle = 0 }
 
-abbrev mutual
-  -- the rules of the traces: each fixes the reads and the true tests of its path
-  pub facts_of : Shape → Match → ℕ → List Rule
-  facts_of Empty m base = []
-  facts_of (Ends l) m base = fact l m base ∷ []
-  facts_of (Reads f bs) m base = facts_in bs f m base
-  facts_of (Tests f v n y) m base = facts_of n m base ++ facts_of y (fix f v m) (base + with_barrier (levels_of n))
-
-  pub facts_in : Branches → Field → Match → ℕ → List Rule
-  facts_in NoBranch f m base = []
-  facts_in (Branch v t bs) f m base = facts_of t (fix f v m) base ++ facts_in bs f m base
-
 -- a barrier behind so many levels
 abbrev pub barrier_behind : ℕ → Match → ℕ → List Rule
 barrier_behind zero m base = []
 barrier_behind (suc n) m base = barrier m (base + with_barrier (suc n)) ∷ []
 
 abbrev mutual
-  -- the barriers of the tests: each fixes the tested value, behind a false side that has a rule
-  pub barriers_of : Shape → Match → ℕ → List Rule
-  barriers_of Empty m base = []
-  barriers_of (Ends l) m base = []
-  barriers_of (Reads f bs) m base = barriers_in bs f m base
-  barriers_of (Tests f v n y) m base =
-      barriers_of n m base ++ (barrier_behind (levels_of n) (fix f v m) base ++ barriers_of y (fix f v m) (base + with_barrier (levels_of n)))
+  -- the rules of the traces, and between the two sides of a test, whose false side has a rule, its barrier. The rule of a trace fixes the reads and the true
+  -- tests of its path, and a barrier the tested value too. Of a test's rules the highest stand first
+  pub rows_of : Shape → Match → ℕ → List Row
+  rows_of Empty m base = []
+  rows_of (Ends l) m base = Fact (fact l m base) ∷ []
+  rows_of (Reads f bs) m base = rows_in bs f m base
+  rows_of (Tests f v n y) m base =
+      rows_of y (fix f v m) (base + with_barrier (levels_of n)) ++ (map Barrier (barrier_behind (levels_of n) (fix f v m) base) ++ rows_of n m base)
 
-  pub barriers_in : Branches → Field → Match → ℕ → List Rule
-  barriers_in NoBranch f m base = []
-  barriers_in (Branch v t bs) f m base = barriers_of t (fix f v m) base ++ barriers_in bs f m base
+  pub rows_in : Branches → Field → Match → ℕ → List Row
+  rows_in NoBranch f m base = []
+  rows_in (Branch v t bs) f m base = rows_of t (fix f v m) base ++ rows_in bs f m base
+
+abbrev pub fact_of : Row → Option Rule
+fact_of (Fact r) = Some r
+fact_of (Barrier r) = None
+
+abbrev pub barrier_of : Row → Option Rule
+barrier_of (Fact r) = None
+barrier_of (Barrier r) = Some r
+
+-- the rules of the traces
+abbrev pub facts_of : Shape → Match → ℕ → List Rule
+facts_of t m base = filter_map fact_of (rows_of t m base)
+
+-- the barriers of the tests
+abbrev pub barriers_of : Shape → Match → ℕ → List Rule
+barriers_of t m base = filter_map barrier_of (rows_of t m base)
 
 -- the rules of a part of a tree
 abbrev pub rules_within : Shape → Match → ℕ → List Rule

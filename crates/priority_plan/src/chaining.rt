@@ -1,18 +1,18 @@
 // A chain of rules that shows that no fewer priorities than the levels do.
-ghost use Rattle.std.specs.Prelude.{◌≡◌, ◌+◌, ◌≤◌, [], ◌∷◌, ◌++◌, reverse, length, Contains, OnOk, IfOk};
+ghost use Rattle.std.specs.Prelude.{◌≡◌, ◌+◌, ◌≤◌, [], ◌∷◌, ◌++◌, length, Contains, OnOk, IfOk};
 ghost use Rattle.maple_base.specs.declared.decision.Rule.{Rule as RuleData};
 ghost use Rattle.trace_tree.specs.TreeOf.{tree_of, branches_of};
 ghost use Rattle.trace_tree.specs.Bounds.{IsWithin, AreWithin};
-ghost use Rattle.priority_plan.specs.Rules.{level_limit, levels_of, most_levels, rules_of, MustStandBelow};
+ghost use Rattle.priority_plan.specs.Rules.{level_limit, levels_of, most_levels, with_barrier, fact, barrier_behind, rules_of, MustStandBelow};
 ghost use Rattle.priority_plan.specs.Chains.{EachBelowNext};
 ghost use Rattle.priority_plan.specs.Highest.{chain_of, chain_in};
 
-use crate::adding::{push_barrier, push_fact};
 use crate::certificate::Chain;
 use crate::counting::node_levels;
+use crate::rows::{barrier, fact};
 use maple_base::{Field, Match, NoMemory, Rule};
 use std::alloc::Global;
-use trace_tree::{Node, Tree};
+use trace_tree::{Leaf, Node, Tree};
 
 /// As many of the tree's rules as it has levels, each of which must stand below the next.
 pub fn chain(alloc: Global, tree: &Tree) -> Result<Chain, NoMemory>
@@ -42,7 +42,7 @@ fn push_chain(
     requires levels { levels ≡ levels_of (tree_of node.now) }
     requires values { IsWithin (tree_of node.now) }
     requires room { base + levels_of (tree_of node.now) ≤ level_limit }
-    ensures { OnOk result (rules.new.items ≡ rules.old.items ++ reverse (chain_of (tree_of node.now) of.now base)) }
+    ensures { OnOk result (rules.new.items ≡ rules.old.items ++ chain_of (tree_of node.now) of.now base) }
 {
     let mut node = node;
     let mut left = levels;
@@ -84,7 +84,7 @@ fn push_highest(
 ) -> Result<(), NoMemory>
     requires values { AreWithin field (branches_of children.now) }
     requires room { base + most_levels (branches_of children.now) ≤ level_limit }
-    ensures { OnOk result (rules.new.items ≡ rules.old.items ++ reverse (chain_in (branches_of children.now) most field of.now base)) }
+    ensures { OnOk result (rules.new.items ≡ rules.old.items ++ chain_in (branches_of children.now) most field of.now base) }
 {
     for child in children {
         let levels = node_levels(&child.1);
@@ -92,6 +92,26 @@ fn push_highest(
             let within = of.fixing(field, child.0);
             return push_chain(&child.1, levels, &within, base, rules);
         }
+    }
+    Ok(())
+}
+
+// Adds the rule of a trace.
+fn push_fact(leaf: &Leaf, of: &Match, base: u64, rules: &mut Vec<Rule>) -> Result<(), NoMemory>
+    requires { base + 1 ≤ level_limit }
+    ensures { OnOk result (rules.new.items ≡ rules.old.items ++ fact leaf.now of.now base ∷ []) }
+{
+    rules.push(fact(leaf, of, base))?;
+    Ok(())
+}
+
+// Adds the barrier behind a false side of so many levels, if it has any.
+fn push_barrier(below: u64, of: &Match, base: u64, rules: &mut Vec<Rule>) -> Result<(), NoMemory>
+    requires { base + with_barrier below ≤ level_limit }
+    ensures { OnOk result (rules.new.items ≡ rules.old.items ++ barrier_behind below of.now base) }
+{
+    if below > 0 {
+        rules.push(barrier(of, base + below + 1))?;
     }
     Ok(())
 }

@@ -3,8 +3,10 @@ ghost use Rattle.std.specs.Prelude.{◌≡◌, ◌^◌, ◌<◌};
 ghost use Rattle.trace_tree.specs.TreeOf.{tree_of, branches, child_trees};
 ghost use Rattle.priority_plan.specs.Rules.{levels_of, most_levels, rules_of, rules_needed};
 ghost use Rattle.priority_plan.specs.Counts.{count_of, count_in};
+ghost use Rattle.priority_plan.specs.Emptied.{emptied, emptied_in};
 ghost use Rattle.priority_plan.specs.Laws.{IsGreatest};
 
+use crate::which::{EveryLeaf, WhichLeaves};
 use trace_tree::{Node, Tree};
 
 /// How many priorities the rules of a tree take.
@@ -16,11 +18,19 @@ pub fn levels(tree: &Tree) -> u64
 }
 
 /// How many priorities the rules of a node take.
-// Down the false sides in a loop: a path has few other steps, since each of these fixes a field.
-#[cycle(levels)]
 pub fn node_levels(node: &Node) -> u64
     requires { levels_of (tree_of node.now) < 2 ^ 64 }
     ensures { result ≡ levels_of (tree_of node.now) }
+{
+    node_levels_where(node, &EveryLeaf)
+}
+
+/// How many priorities the rules of a node take whose other leaves are left out.
+// Down the false sides in a loop: a path has few other steps, since each of these fixes a field.
+#[cycle(levels)]
+pub fn node_levels_where<W: WhichLeaves>(node: &Node, which: &W) -> u64
+    requires { levels_of (emptied (W.counted which.now) (tree_of node.now)) < 2 ^ 64 }
+    ensures { result ≡ levels_of (emptied (W.counted which.now) (tree_of node.now)) }
 {
     let mut node = node;
     let mut levels: u64 = 0;
@@ -29,9 +39,15 @@ pub fn node_levels(node: &Node) -> u64
     loop {
         match node {
             Node::Empty => return levels,
-            Node::Leaf(_) => return levels + waiting + 1,
+            Node::Leaf(leaf) => {
+                return if which.counts(leaf) {
+                    levels + waiting + 1
+                } else {
+                    levels
+                };
+            }
             Node::Values { children, .. } => {
-                let most = most_levels(children);
+                let most = most_levels(children, which);
                 return if most == 0 {
                     levels
                 } else {
@@ -39,7 +55,7 @@ pub fn node_levels(node: &Node) -> u64
                 };
             }
             Node::Test { no, yes, .. } => {
-                let above = node_levels(yes);
+                let above = node_levels_where(yes, which);
                 if above == 0 {
                     waiting = waiting.saturating_add(1);
                 } else {
@@ -53,13 +69,13 @@ pub fn node_levels(node: &Node) -> u64
 }
 
 #[cycle(levels)]
-fn most_levels(children: &[(u64, Node)]) -> u64
-    requires { most_levels (branches (child_trees children.now)) < 2 ^ 64 }
-    ensures { result ≡ most_levels (branches (child_trees children.now)) }
+fn most_levels<W: WhichLeaves>(children: &[(u64, Node)], which: &W) -> u64
+    requires { most_levels (emptied_in (W.counted which.now) (branches (child_trees children.now))) < 2 ^ 64 }
+    ensures { result ≡ most_levels (emptied_in (W.counted which.now) (branches (child_trees children.now))) }
 {
     let mut most = 0;
     for child in children {
-        let levels = node_levels(&child.1);
+        let levels = node_levels_where(&child.1, which);
         if most < levels {
             most = levels;
         }

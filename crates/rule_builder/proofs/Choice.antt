@@ -1,6 +1,6 @@
 -- The chosen rule is the fact of the leaf that the key leads to.
-use Rattle.std.proofs.Common.{◌≡◌, ◌⊎◌, ℕ, zero, suc, ◌+◌, ◌<◌, ◌≤◌, true, false, cond, List, ◌++◌, Option, Some, None, refl, sym, ap, ◌∙◌, subst, inl, inr, ⊎_elim, arith}
-use Rattle.std.specs.Prelude.{◌==◌, is_some, Contains, MatchOption, IfSome}
+use Rattle.std.proofs.Common.{◌≡◌, ◌⊎◌, ℕ, ◌+◌, ◌<◌, ◌≤◌, true, false, cond, List, ◌++◌, Option, Some, None, refl, sym, ap, ◌∙◌, subst, inl, inr, ⊎_elim, arith}
+use Rattle.std.specs.Prelude.{◌==◌, Contains, MatchOption, IfSome}
 use Rattle.std.specs.Option.{option_map}
 use Rattle.std.proofs.lemmas.Bool.{eq-eqb, cases_eq, cases_lt}
 use Rattle.std.proofs.lemmas.Bool.Decides.{nat_tests}
@@ -10,409 +10,298 @@ use Rattle.maple_base.specs.declared.key.Field.{Field}
 use Rattle.maple_base.specs.declared.key.Match.{Match}
 use Rattle.maple_base.specs.declared.key.Key.{Key}
 use Rattle.maple_base.specs.declared.decision.Rule.{Rule}
-use Rattle.maple_base.specs.Keys.{field_of, match_fits, match_exact, fix, anything}
+use Rattle.maple_base.specs.Keys.{field_of, match_fits, match_exact, fix, fixed_of, anything}
+use Rattle.maple_base.specs.Questions.{meets}
+use Rattle.maple_base.specs.Choice.{stands_above, fits, MayChoose}
+use Rattle.flow_table.specs.Shielding.{IsBarrier, IsShieldedBy}
 use Rattle.trace_tree.specs.Shape.{Shape, Branches, Empty, Ends, Reads, Tests, NoBranch, Branch}
 use Rattle.trace_tree.specs.Growth.{IsOrdered, AreOrdered, search_of, search_in, found, leaf_of, scratch, AreAdmitted, AllAskOnce}
 use Rattle.trace_tree.specs.declared.node.Trace.{Trace}
 use Rattle.trace_tree.specs.declared.node.Leaf.{Leaf}
-use Rattle.maple_base.specs.Choice.{stands_above, fits, MayChoose}
-use Rattle.priority_plan.specs.Rules.{with_barrier, levels_of, fact, barrier, facts_of, facts_in, barrier_behind, barriers_of, barriers_in, fact_actions, rules_of}
-use Rattle.rule_builder.specs.Chosen.{fixed_by, IsFactOf, HoldsRules, list_of, IsFoundRule, IsFoundOrBarrier, ChoiceLaw, TableLaw}
-use Rattle.flow_table.specs.Shielding.{IsBarrier, IsShieldedBy}
-use Rattle.rule_builder.proofs.Leading.{fact_at, fact_in, IsFresh, AreFresh}
-use Rattle.rule_builder.proofs.Paths.{fact_match, match_found}
-use Rattle.rule_builder.proofs.Fresh.{grown_fresh}
 use Rattle.trace_tree.proofs.Growths.{search_scratch, grown_ordered}
-use Rattle.rule_builder.proofs.Fixes.{fixed_value, fits_fixed, pcp-fix}
-use Rattle.priority_plan.proofs.Spans.{none_in, the_one, behind_is, barrier_above, barrier_least, facts_within, barriers_within}
-use Rattle.rule_builder.proofs.Fits.{facts_fit, barriers_fit, facts_in_above, barriers_in_above}
+use Rattle.priority_plan.specs.declared.rows.Row.{Row}
+use Rattle.priority_plan.specs.declared.rows.Row.TheVariants.{Fact, Barrier}
+use Rattle.priority_plan.specs.Rules.{with_barrier, levels_of, fact, barrier, facts_of, barriers_of, fact_actions, rules_of}
+use Rattle.priority_plan.specs.Standing.{rule_of, Stands, StandsIn}
+use Rattle.priority_plan.proofs.Spans.{barrier_above, barrier_least, within}
+use Rattle.priority_plan.proofs.Listed.{fact_stands, stands_fact, barrier_stands, stands_barrier}
+use Rattle.rule_builder.specs.Chosen.{fixed_by, IsFactOf, HoldsRules, list_of, ChoosesRight, ChoiceLaw, TableLaw}
+use Rattle.rule_builder.proofs.Fixes.{IsFresh, AreFresh, scratch_fresh, own_fixed, key_has, fits_fixed, fits_wider}
+use Rattle.rule_builder.proofs.Forms.{extends, row_has, in_above, row_inexact}
+use Rattle.rule_builder.proofs.Paths.{fact_at, fact_in, IsFrom, scratch_along, key_source, found_one}
 
--- no fitting barrier stands above this priority
-abbrev pub Unshielded : List Rule → Key → ℕ → Type 0
-Unshielded bs k p = (q : Rule) → Contains bs q → fits q k ≡ true → q.priority ≤ p
-
-unequal : (u v : ℕ) → v < u → (u == v) ≡ false
+unequal : (u v : ℕ) → (u ≡ v → ⊥) → (u == v) ≡ false
 unequal u v h = grind (arith, nat_tests)
 
-bool_false : (u v : ℕ) → (u ≡ v → ⊥) → (u == v) ≡ false
-bool_false u v h = grind (arith, nat_tests)
+-- no fitting barrier among these rows stands above this priority
+abbrev Unshielded : (Row → Type 0) → Key → ℕ → Type 0
+Unshielded S k p = (q : Rule) → S (Barrier q) → fits q k ≡ true → q.priority ≤ p
+
+-- where the key has another value than a test's, or than a branch's
+past_test : (f : Field) (v : ℕ) (n y : Shape) (k : Key) (m : Match) (b : ℕ) → (field_of k f ≡ v → ⊥) → fact_at (Tests f v n y) k m b ≡ fact_at n k m b
+past_test f v n y k m b other = ap (λ x. cond x (fact_at y k (fix f v m) (b + with_barrier (levels_of n))) (fact_at n k m b)) (unequal (field_of k f) v other)
+
+at_test : (f : Field) (v : ℕ) (n y : Shape) (k : Key) (m : Match) (b : ℕ) → field_of k f ≡ v → fact_at (Tests f v n y) k m b ≡ fact_at y k (fix f v m) (b + with_barrier (levels_of n))
+at_test f v n y k m b same = ap (λ x. cond x (fact_at y k (fix f v m) (b + with_barrier (levels_of n))) (fact_at n k m b)) (eq-eqb (field_of k f) v same)
+
+past_branch : (v : ℕ) (t : Shape) (bs : Branches) (f : Field) (k : Key) (m : Match) (b : ℕ) → (field_of k f ≡ v → ⊥) → fact_in (Branch v t bs) (field_of k f) f k m b ≡ fact_in bs (field_of k f) f k m b
+past_branch v t bs f k m b other = ap (λ x. cond x (fact_at t k (fix f v m) b) (fact_in bs (field_of k f) f k m b)) (unequal (field_of k f) v other)
+
+at_branch : (v : ℕ) (t : Shape) (bs : Branches) (f : Field) (k : Key) (m : Match) (b : ℕ) → field_of k f ≡ v → fact_in (Branch v t bs) (field_of k f) f k m b ≡ fact_at t k (fix f v m) b
+at_branch v t bs f k m b same = ap (λ x. cond x (fact_at t k (fix f v m) b) (fact_in bs (field_of k f) f k m b)) (eq-eqb (field_of k f) v same)
+
+-- a row that fits has the key's value where it is fixed
+value_of : (x : Row) (k : Key) (f : Field) (v : ℕ) (t : Shape) (m : Match) (b : ℕ) → IsFresh t (fix f v m) → Stands x t (fix f v m) b → fits (rule_of x) k ≡ true → field_of k f ≡ v
+value_of x k f v t m b fresh h fit = key_has f v (rule_of x).of k (row_has x f v t m b fresh h) fit
+
+not_in_above : (x : Row) (k : Key) (f : Field) (v : ℕ) (t : Shape) (bs : Branches) (m : Match) (b : ℕ) → AreOrdered (Branch v t bs) → AreFresh bs f m → StandsIn x bs f m b → fits (rule_of x) k ≡ true → field_of k f ≡ v → ⊥
+not_in_above x k f v t bs m b o fresh h fit e = let s = in_above x bs v f m b o.0 fresh h in let u = key_has f s.value (rule_of x).of k s.fixes fit in omega (arith, e, u, s.above)
 
 module _ (k : Key) (r : Rule) (fit : fits r k ≡ true) where
   -- a barrier stands above each fact of the false side for the keys of the true side
-  false_side : (f : Field) (v : ℕ) (n y : Shape) (m : Match) (b : ℕ) → IsFresh (Tests f v n y) m → Contains (facts_of n m b) r → Unshielded (barriers_of (Tests f v n y) m b) k r.priority → field_of k f ≡ v → ⊥
-  false_side f v n y m b fresh c clear e = level_step (levels_of n) refl
-    where
-      level_step : (l : ℕ) → l ≡ levels_of n → ⊥
-      level_step zero is = let w = facts_within n m b r c in omega (arith, w.0, w.1, is)
-      level_step (suc l) is =
-          let fits_path = facts_fit k r fit n m b fresh.1 c in
-          let barrier_fits = fits_fixed f v m k fits_path e in
-          let one : Contains (barrier_behind (suc l) (fix f v m) b) (barrier (fix f v m) (b + with_barrier (suc l))) = (0, omega arith, refl) in
-          let here = subst (λ x. Contains (barrier_behind x (fix f v m) b) (barrier (fix f v m) (b + with_barrier x))) is one in
-          let there = Contains-append_right (barriers_of n m b) _ _ (Contains-append_left (barrier_behind (levels_of n) (fix f v m) b) (barriers_of y (fix f v m) (b + with_barrier (levels_of n))) _ here) in
-          let low = clear (barrier (fix f v m) (b + with_barrier (levels_of n))) there barrier_fits in
-          let w = facts_within n m b r c in
-          let up = barrier_above (levels_of n) (omega (arith, is)) in
-          omega (arith, low, w.1, up)
+  false_side : (f : Field) (v : ℕ) (n y : Shape) (m : Match) (b : ℕ) → IsFresh n m → Stands (Fact r) n m b → Unshielded (λ x. Stands x (Tests f v n y) m b) k r.priority → field_of k f ≡ v → ⊥
+  false_side f v n y m b fresh h clear e =
+      let w = within (Fact r) n m b h in
+      let some : 0 < levels_of n = omega (arith, w.0, w.1) in
+      let bar = barrier (fix f v m) (b + with_barrier (levels_of n)) in
+      let low = clear bar (inr (inl (some, refl))) (fits_fixed f v m k (fits_wider m r.of k (extends (Fact r) n m b fresh h) fit) e) in
+      let up = barrier_above (levels_of n) some in
+      omega (arith, low, w.1, up)
 
   mutual
     -- a fact that no fitting barrier stands above is that of the key's own leaf
-    pub unshielded_fact : (t : Shape) (m : Match) (b : ℕ) → IsFresh t m → IsOrdered t → Contains (facts_of t m b) r → Unshielded (barriers_of t m b) k r.priority → fact_at t k m b ≡ Some r
-    unshielded_fact Empty m b fresh o c clear = none_in _ r c
-    unshielded_fact (Ends l) m b fresh o c clear = ap Some (the_one (fact l m b) r c)
-    unshielded_fact (Reads f bs) m b fresh o c clear = unshielded_in bs f m b fresh.1 o c clear
-    unshielded_fact (Tests f v n y) m b fresh o c clear =
-        ⊎_elim
-        (λ d.
-        let other : (field_of k f == v) ≡ false = bool_false (field_of k f) v (false_side f v n y m b fresh d clear) in
-        ap (λ x. cond x (fact_at y k (fix f v m) (b + with_barrier (levels_of n))) (fact_at n k m b)) other
-        ∙ unshielded_fact n m b fresh.1 o.0 d (λ q h. clear q (Contains-append_left (barriers_of n m b) _ q h)))
-        (λ d.
-        let e = fixed_value f v m k (facts_fit k r fit y (fix f v m) (b + with_barrier (levels_of n)) fresh.2 d) in
-        ap (λ x. cond x (fact_at y k (fix f v m) (b + with_barrier (levels_of n))) (fact_at n k m b)) (eq-eqb (field_of k f) v e)
-        ∙ unshielded_fact y (fix f v m) (b + with_barrier (levels_of n)) fresh.2 o.1 d (λ q h. clear q (Contains-append_right (barriers_of n m b) _ q (Contains-append_right (barrier_behind (levels_of n) (fix f v m) b) _ q h))))
-        (Contains-append_cases (facts_of n m b) (facts_of y (fix f v m) (b + with_barrier (levels_of n))) r c)
+    unshielded : (t : Shape) (m : Match) (b : ℕ) → IsFresh t m → IsOrdered t → Stands (Fact r) t m b → Unshielded (λ x. Stands x t m b) k r.priority → fact_at t k m b ≡ Some r
+    unshielded Empty m b fresh o h clear = absurd h
+    unshielded (Ends l) m b fresh o h clear = cc
+    unshielded (Reads f bs) m b fresh o h clear = unshielded_in bs f m b fresh.1 o h clear
+    unshielded (Tests f v n y) m b fresh o (inl h) clear =
+        past_test f v n y k m b (false_side f v n y m b fresh.1 h clear) ∙ unshielded n m b fresh.1 o.0 h (λ q c. clear q (inl c))
+    unshielded (Tests f v n y) m b fresh o (inr (inl h)) clear = let e = h.1 in absurd (cc)
+    unshielded (Tests f v n y) m b fresh o (inr (inr h)) clear =
+        let c = b + with_barrier (levels_of n) in
+        at_test f v n y k m b (value_of (Fact r) k f v y m c fresh.2 h fit) ∙ unshielded y (fix f v m) c fresh.2 o.1 h (λ q c. clear q (inr (inr c)))
 
-    pub unshielded_in : (bs : Branches) (f : Field) (m : Match) (b : ℕ) → AreFresh bs f m → AreOrdered bs → Contains (facts_in bs f m b) r → Unshielded (barriers_in bs f m b) k r.priority → fact_in bs (field_of k f) f k m b ≡ Some r
-    unshielded_in NoBranch f m b fresh o c clear = none_in _ r c
-    unshielded_in (Branch v t bs) f m b fresh o c clear =
-        ⊎_elim
-        (λ d.
-        let e = fixed_value f v m k (facts_fit k r fit t (fix f v m) b fresh.0 d) in
-        ap (λ x. cond x (fact_at t k (fix f v m) b) (fact_in bs (field_of k f) f k m b)) (eq-eqb (field_of k f) v e)
-        ∙ unshielded_fact t (fix f v m) b fresh.0 o.1 d (λ q h. clear q (Contains-append_left (barriers_of t (fix f v m) b) _ q h)))
-        (λ d.
-        let above = facts_in_above k r fit bs v f m b o.0 fresh.1 d in
-        ap (λ x. cond x (fact_at t k (fix f v m) b) (fact_in bs (field_of k f) f k m b)) (unequal (field_of k f) v above)
-        ∙ unshielded_in bs f m b fresh.1 o.2 d (λ q h. clear q (Contains-append_right (barriers_of t (fix f v m) b) _ q h)))
-        (Contains-append_cases (facts_of t (fix f v m) b) (facts_in bs f m b) r c)
+    unshielded_in : (bs : Branches) (f : Field) (m : Match) (b : ℕ) → AreFresh bs f m → AreOrdered bs → StandsIn (Fact r) bs f m b → Unshielded (λ x. StandsIn x bs f m b) k r.priority → fact_in bs (field_of k f) f k m b ≡ Some r
+    unshielded_in NoBranch f m b fresh o h clear = absurd h
+    unshielded_in (Branch v t bs) f m b fresh o (inl h) clear =
+        at_branch v t bs f k m b (value_of (Fact r) k f v t m b fresh.0 h fit) ∙ unshielded t (fix f v m) b fresh.0 o.1 h (λ q c. clear q (inl c))
+    unshielded_in (Branch v t bs) f m b fresh o (inr h) clear =
+        past_branch v t bs f k m b (not_in_above (Fact r) k f v t bs m b o fresh.1 h fit) ∙ unshielded_in bs f m b fresh.1 o.2 h (λ q c. clear q (inr c))
 
-mutual
-  pub facts_pcp : (t : Shape) (m : Match) (b : ℕ) (r : Rule) → m.dl_pcp ≡ None → Contains (facts_of t m b) r → r.of.dl_pcp ≡ None
-  facts_pcp Empty m b r e c = none_in _ r c
-  facts_pcp (Ends l) m b r e c = ap (λ (x : Rule). x.of.dl_pcp) (sym (the_one (fact l m b) r c)) ∙ e
-  facts_pcp (Reads f bs) m b r e c = facts_in_pcp bs f m b r e c
-  facts_pcp (Tests f v n y) m b r e c =
-      ⊎_elim (λ d. facts_pcp n m b r e d) (λ d. facts_pcp y (fix f v m) (b + with_barrier (levels_of n)) r (pcp-fix f v m ∙ e) d)
-      (Contains-append_cases (facts_of n m b) (facts_of y (fix f v m) (b + with_barrier (levels_of n))) r c)
-
-  facts_in_pcp : (bs : Branches) (f : Field) (m : Match) (b : ℕ) (r : Rule) → m.dl_pcp ≡ None → Contains (facts_in bs f m b) r → r.of.dl_pcp ≡ None
-  facts_in_pcp NoBranch f m b r e c = none_in _ r c
-  facts_in_pcp (Branch v t bs) f m b r e c =
-      ⊎_elim (λ d. facts_pcp t (fix f v m) b r (pcp-fix f v m ∙ e) d) (λ d. facts_in_pcp bs f m b r e d)
-      (Contains-append_cases (facts_of t (fix f v m) b) (facts_in bs f m b) r c)
-
--- a match that leaves the VLAN priority open is not exact
-pub inexact : (m : Match) → m.dl_pcp ≡ None → match_exact m ≡ false
-inexact m e = let s : is_some m.dl_pcp ≡ false = ap is_some e in grind arith
-
-not_above : (q r : Rule) → match_exact r.of ≡ false → stands_above q r ≡ false → q.priority ≤ r.priority
-not_above q r e s = grind (arith, nat_tests)
-
--- a rule of these facts that fits, and stands above all fitting barriers
-record IsTop (facts barriers : List Rule) (k : Key) (r : Rule) : Type 0 where
-  there : Contains facts r
+-- a fact among these rows that fits, and stands above all fitting barriers
+record IsTop (S : Row → Type 0) (k : Key) (r : Rule) : Type 0 where
+  there : S (Fact r)
   fitting : fits r k ≡ true
-  above : (q : Rule) → Contains barriers q → fits q k ≡ true → q.priority < r.priority
+  above : (q : Rule) → S (Barrier q) → fits q k ≡ true → q.priority < r.priority
 
 module _ (k : Key) (r : Rule) where
   mutual
-    -- the fact of the key's own leaf is there, fits, and stands above all barriers
-    found_top : (t : Shape) (m : Match) (b : ℕ) → IsFresh t m → IsOrdered t → match_fits m k ≡ true → fact_at t k m b ≡ Some r → IsTop (facts_of t m b) (barriers_of t m b) k r
+    -- the fact of the key's own leaf is such a one
+    found_top : (t : Shape) (m : Match) (b : ℕ) → IsFresh t m → IsOrdered t → match_fits m k ≡ true → fact_at t k m b ≡ Some r → IsTop (λ x. Stands x t m b) k r
     found_top Empty m b fresh o fit e = absurd (cc)
     found_top (Ends l) m b fresh o fit e =
         let is : fact l m b ≡ r = cc in
-        record { there = (0, omega arith, is); fitting = ap (λ (x : Rule). match_fits x.of k) (sym is) ∙ fit; above = λ q c f. none_in _ q c }
+        record { there = ap Fact is; fitting = ap (λ (x : Rule). match_fits x.of k) (sym is) ∙ fit; above = λ q c g. absurd (cc) }
     found_top (Reads f bs) m b fresh o fit e = found_in_top bs f m b fresh.1 o fit e
     found_top (Tests f v n y) m b fresh o fit e =
         let c = b + with_barrier (levels_of n) in
         ⊎_elim
         (λ same.
-        let e' = sym (ap (λ x. cond x (fact_at y k (fix f v m) c) (fact_at n k m b)) (eq-eqb (field_of k f) v same)) ∙ e in
-        let h = found_top y (fix f v m) c fresh.2 o.1 (fits_fixed f v m k fit same) e' in
-        let w = facts_within y (fix f v m) c r h.there in
+        let h = found_top y (fix f v m) c fresh.2 o.1 (fits_fixed f v m k fit same) (sym (at_test f v n y k m b same) ∙ e) in
+        let w = within (Fact r) y (fix f v m) c h.there in
         record {
-          there = Contains-append_right (facts_of n m b) _ r h.there;
+          there = inr (inr h.there);
           fitting = h.fitting;
-          above = λ q i g. ⊎_elim
-              (λ j. let u = barriers_within n m b q j in let l = barrier_least (levels_of n) in omega (arith, u.1, w.0, l))
-              (λ j. ⊎_elim
-              (λ d. let p = ap (λ (x : Rule). x.priority) (behind_is (levels_of n) (fix f v m) b q d).1 in omega (arith, p, w.0))
-              (λ d. h.above q d g)
-              (Contains-append_cases (barrier_behind (levels_of n) (fix f v m) b) (barriers_of y (fix f v m) c) q j))
-              (Contains-append_cases (barriers_of n m b) (barrier_behind (levels_of n) (fix f v m) b ++ barriers_of y (fix f v m) c) q i);
+          above = λ q i g. ⊎_elim (λ j. let u = within (Barrier q) n m b j in let l = barrier_least (levels_of n) in omega (arith, u.1, w.0, l))
+              (⊎_elim (λ j. let p = ap (λ x. (rule_of x).priority) j.1 in omega (arith, p, w.0)) (λ j. h.above q j g)) i;
         })
         (λ other.
-        let e' = sym (ap (λ x. cond x (fact_at y k (fix f v m) c) (fact_at n k m b)) (bool_false (field_of k f) v other)) ∙ e in
-        let h = found_top n m b fresh.1 o.0 fit e' in
+        let h = found_top n m b fresh.1 o.0 fit (sym (past_test f v n y k m b other) ∙ e) in
         record {
-          there = Contains-append_left (facts_of n m b) _ r h.there;
+          there = inl h.there;
           fitting = h.fitting;
-          above = λ q i g. ⊎_elim
-              (λ j. h.above q j g)
-              (λ j. ⊎_elim
-              (λ d. absurd (other (fixed_value f v m k (ap (λ (x : Rule). match_fits x.of k) (behind_is (levels_of n) (fix f v m) b q d).1 ∙ g))))
-              (λ d. absurd (other (fixed_value f v m k (barriers_fit k q g y (fix f v m) c fresh.2 d))))
-              (Contains-append_cases (barrier_behind (levels_of n) (fix f v m) b) (barriers_of y (fix f v m) c) q j))
-              (Contains-append_cases (barriers_of n m b) (barrier_behind (levels_of n) (fix f v m) b ++ barriers_of y (fix f v m) c) q i);
+          above = λ q i g. ⊎_elim (λ j. h.above q j g)
+              (⊎_elim (λ j. absurd (other (key_has f v q.of k (ap (λ x. fixed_of (rule_of x).of f) (sym j.1) ∙ own_fixed f v m) g))) (λ j. absurd (other (value_of (Barrier q) k f v y m c fresh.2 j g)))) i;
         })
         (cases_eq (field_of k f) v)
 
-    found_in_top : (bs : Branches) (f : Field) (m : Match) (b : ℕ) → AreFresh bs f m → AreOrdered bs → match_fits m k ≡ true → fact_in bs (field_of k f) f k m b ≡ Some r → IsTop (facts_in bs f m b) (barriers_in bs f m b) k r
+    found_in_top : (bs : Branches) (f : Field) (m : Match) (b : ℕ) → AreFresh bs f m → AreOrdered bs → match_fits m k ≡ true → fact_in bs (field_of k f) f k m b ≡ Some r → IsTop (λ x. StandsIn x bs f m b) k r
     found_in_top NoBranch f m b fresh o fit e = absurd (cc)
     found_in_top (Branch v t bs) f m b fresh o fit e =
         ⊎_elim
         (λ same.
-        let e' = sym (ap (λ x. cond x (fact_at t k (fix f v m) b) (fact_in bs (field_of k f) f k m b)) (eq-eqb (field_of k f) v same)) ∙ e in
-        let h = found_top t (fix f v m) b fresh.0 o.1 (fits_fixed f v m k fit same) e' in
-        record {
-          there = Contains-append_left (facts_of t (fix f v m) b) _ r h.there;
-          fitting = h.fitting;
-          above = λ q i g. ⊎_elim (λ j. h.above q j g)
-              (λ j. let u = barriers_in_above k q g bs v f m b o.0 fresh.1 j in absurd (omega (arith, u, same)))
-              (Contains-append_cases (barriers_of t (fix f v m) b) (barriers_in bs f m b) q i);
-        })
+        let h = found_top t (fix f v m) b fresh.0 o.1 (fits_fixed f v m k fit same) (sym (at_branch v t bs f k m b same) ∙ e) in
+        record { there = inl h.there; fitting = h.fitting; above = λ q i g. ⊎_elim (λ j. h.above q j g) (λ j. absurd (not_in_above (Barrier q) k f v t bs m b o fresh.1 j g same)) i })
         (λ other.
-        let e' = sym (ap (λ x. cond x (fact_at t k (fix f v m) b) (fact_in bs (field_of k f) f k m b)) (bool_false (field_of k f) v other)) ∙ e in
-        let h = found_in_top bs f m b fresh.1 o.2 fit e' in
-        record {
-          there = Contains-append_right (facts_of t (fix f v m) b) _ r h.there;
-          fitting = h.fitting;
-          above = λ q i g. ⊎_elim
-              (λ j. absurd (other (fixed_value f v m k (barriers_fit k q g t (fix f v m) b fresh.0 j))))
-              (λ j. h.above q j g)
-              (Contains-append_cases (barriers_of t (fix f v m) b) (barriers_in bs f m b) q i);
-        })
+        let h = found_in_top bs f m b fresh.1 o.2 fit (sym (past_branch v t bs f k m b other) ∙ e) in
+        record { there = inr h.there; fitting = h.fitting; above = λ q i g. ⊎_elim (λ j. absurd (other (value_of (Barrier q) k f v t m b fresh.0 j g))) (λ j. h.above q j g) i })
         (cases_eq (field_of k f) v)
 
 mutual
-  pub barriers_pcp : (t : Shape) (m : Match) (b : ℕ) (r : Rule) → m.dl_pcp ≡ None → Contains (barriers_of t m b) r → r.of.dl_pcp ≡ None
-  barriers_pcp Empty m b r e c = none_in _ r c
-  barriers_pcp (Ends l) m b r e c = none_in _ r c
-  barriers_pcp (Reads f bs) m b r e c = barriers_in_pcp bs f m b r e c
-  barriers_pcp (Tests f v n y) m b r e c =
-      ⊎_elim (λ d. barriers_pcp n m b r e d)
-      (λ d. ⊎_elim (λ g. ap (λ (x : Rule). x.of.dl_pcp) (sym (behind_is (levels_of n) (fix f v m) b r g).1) ∙ pcp-fix f v m ∙ e)
-      (λ g. barriers_pcp y (fix f v m) (b + with_barrier (levels_of n)) r (pcp-fix f v m ∙ e) g)
-      (Contains-append_cases (barrier_behind (levels_of n) (fix f v m) b) (barriers_of y (fix f v m) (b + with_barrier (levels_of n))) r d))
-      (Contains-append_cases (barriers_of n m b) (barrier_behind (levels_of n) (fix f v m) b ++ barriers_of y (fix f v m) (b + with_barrier (levels_of n))) r c)
+  -- a key that has no fact leads to no leaf
+  no_leaf : (t : Shape) (k : Key) (m : Match) (b : ℕ) → fact_at t k m b ≡ None → search_of t k ≡ None
+  no_leaf Empty k m b e = refl
+  no_leaf (Ends l) k m b e = absurd (cc)
+  no_leaf (Reads f bs) k m b e = no_leaf_in bs (field_of k f) f k m b e
+  no_leaf (Tests f v n y) k m b e =
+      let step = elim (field_of k f == v) as (λ x. cond x (fact_at y k (fix f v m) (b + with_barrier (levels_of n))) (fact_at n k m b) ≡ None → cond x (search_of y k) (search_of n k) ≡ None)
+      [ true ↦ λ h. no_leaf y k (fix f v m) (b + with_barrier (levels_of n)) h | false ↦ λ h. no_leaf n k m b h ] in
+      step e
 
-  barriers_in_pcp : (bs : Branches) (f : Field) (m : Match) (b : ℕ) (r : Rule) → m.dl_pcp ≡ None → Contains (barriers_in bs f m b) r → r.of.dl_pcp ≡ None
-  barriers_in_pcp NoBranch f m b r e c = none_in _ r c
-  barriers_in_pcp (Branch v t bs) f m b r e c =
-      ⊎_elim (λ d. barriers_pcp t (fix f v m) b r (pcp-fix f v m ∙ e) d) (λ d. barriers_in_pcp bs f m b r e d)
-      (Contains-append_cases (barriers_of t (fix f v m) b) (barriers_in bs f m b) r c)
+  no_leaf_in : (bs : Branches) (u : ℕ) (f : Field) (k : Key) (m : Match) (b : ℕ) → fact_in bs u f k m b ≡ None → search_in bs u k ≡ None
+  no_leaf_in NoBranch u f k m b e = refl
+  no_leaf_in (Branch v t bs) u f k m b e =
+      let step = elim (u == v) as (λ x. cond x (fact_at t k (fix f v m) b) (fact_in bs u f k m b) ≡ None → cond x (search_of t k) (search_in bs u k) ≡ None)
+      [ true ↦ λ h. no_leaf t k (fix f v m) b h | false ↦ λ h. no_leaf_in bs u f k m b h ] in
+      step e
 
-abbrev actions : Rule → List ℕ
-actions r = r.actions
-
-abbrev leaf_actions : Leaf → List ℕ
-leaf_actions l = fact_actions l.decision
-
-mutual
-  -- the fact at a key has the actions of the leaf that the key finds
-  fact_search : (t : Shape) (k : Key) (m : Match) (b : ℕ) → option_map actions (fact_at t k m b) ≡ option_map leaf_actions (search_of t k)
-  fact_search Empty k m b = refl
-  fact_search (Ends l) k m b = refl
-  fact_search (Reads f bs) k m b = fact_search_in bs (field_of k f) f k m b
-  fact_search (Tests f v n y) k m b =
-      elim (field_of k f == v) as (λ x. option_map actions (cond x (fact_at y k (fix f v m) (b + with_barrier (levels_of n))) (fact_at n k m b)) ≡ option_map leaf_actions (cond x (search_of y k) (search_of n k)))
-      [ true ↦ fact_search y k (fix f v m) (b + with_barrier (levels_of n)) | false ↦ fact_search n k m b ]
-
-  fact_search_in : (bs : Branches) (u : ℕ) (f : Field) (k : Key) (m : Match) (b : ℕ) → option_map actions (fact_in bs u f k m b) ≡ option_map leaf_actions (search_in bs u k)
-  fact_search_in NoBranch u f k m b = refl
-  fact_search_in (Branch v t bs) u f k m b =
-      elim (u == v) as (λ x. option_map actions (cond x (fact_at t k (fix f v m) b) (fact_in bs u f k m b)) ≡ option_map leaf_actions (cond x (search_of t k) (search_in bs u k)))
-      [ true ↦ fact_search t k (fix f v m) b | false ↦ fact_search_in bs u f k m b ]
-
-any_fits : (k : Key) → match_fits anything k ≡ true
-any_fits k = refl
+not_above : (q r : Rule) → match_exact r.of ≡ false → stands_above q r ≡ false → q.priority ≤ r.priority
+not_above q r e s = grind (arith, nat_tests)
 
 no_higher : (q r : Rule) → match_exact q.of ≡ false → q.priority ≤ r.priority → stands_above q r ≡ false
 no_higher q r e s = grind (arith, nat_tests)
 
-abbrev match_of : Rule → Match
-match_of r = r.of
-
-abbrev trace_actions : Trace → List ℕ
-trace_actions x = fact_actions x.decision
-
-abbrev trace_match : Trace → Match
-trace_match x = fixed_by x.items anything
+-- the fact at the key is that of the trace that it finds
+record IsOwn (traces : List Trace) (k : Key) (own : Rule) : Type 0 where
+  trace : Trace
+  found : found traces k ≡ Some trace
+  fact : IsFactOf (scratch traces) trace own
 
 module _ (traces : List Trace) (k : Key) (admitted : AreAdmitted Empty traces) (once : AllAskOnce traces) where
   abbrev tree : Shape
   tree = scratch traces
 
-  abbrev facts : List Rule
-  facts = facts_of tree anything 0
+  abbrev Here : Row → Type 0
+  Here x = Stands x tree anything 0
 
-  abbrev barriers : List Rule
-  barriers = barriers_of tree anything 0
+  fresh : IsFresh tree anything
+  fresh = scratch_fresh traces admitted once
 
-  tree_fresh : IsFresh tree anything
-  tree_fresh = grown_fresh traces Empty admitted once tt
-
-  tree_ordered : IsOrdered tree
-  tree_ordered = grown_ordered traces Empty tt
+  ordered : IsOrdered tree
+  ordered = grown_ordered traces Empty tt
 
   abbrev here : Option Rule
   here = fact_at tree k anything 0
 
-  -- the fact at the key does what the found trace decided, and fixes what it fixed
-  here_does : option_map actions here ≡ option_map trace_actions (found traces k)
-  here_does = fact_search tree k anything 0 ∙ ap (option_map leaf_actions) (search_scratch traces k admitted) ∙ twice (found traces k)
-    where
-      twice : (o : Option Trace) → option_map leaf_actions (option_map leaf_of o) ≡ option_map trace_actions o
-      twice None = refl
-      twice (Some x) = refl
-
-  here_fixes : option_map match_of here ≡ option_map trace_match (found traces k)
-  here_fixes = fact_match tree k anything 0 ∙ match_found traces k anything admitted
-
-  -- what is claimed of a fact at the key
-  as_found : (r : Rule) (P : Type 0) → here ≡ Some r → Contains facts r → (o : Option Trace) → option_map actions here ≡ option_map trace_actions o → option_map match_of here ≡ option_map trace_match o → MatchOption o P (λ x. IsFactOf tree x r)
-  as_found r P e c None does fixes = let h = sym (ap (option_map actions) e) ∙ does in absurd (cc)
-  as_found r P e c (Some x) does fixes =
-      let d = sym (ap (option_map actions) e) ∙ does in
-      let f = sym (ap (option_map match_of) e) ∙ fixes in
-      record { there = c; fixes = cc; does = cc }
-
-  -- a fact that no fitting barrier stands above is that of the found trace
-  chosen_fact : (r : Rule) → fits r k ≡ true → Contains facts r → ((q : Rule) → Contains barriers q → fits q k ≡ true → stands_above q r ≡ false) → here ≡ Some r
-  chosen_fact r fit c top =
-      unshielded_fact k r fit tree anything 0 tree_fresh tree_ordered c
-      (λ q h g. not_above q r (inexact r.of (facts_pcp tree anything 0 r refl c)) (top q h g))
-
-  top_of : (r : Rule) → here ≡ Some r → IsTop facts barriers k r
-  top_of r e = found_top k r tree anything 0 tree_fresh tree_ordered (any_fits k) e
-
-  -- no barrier may be chosen beside the fact at the key
-  no_barrier : (table : List Rule) (r own : Rule) → HoldsRules tree table → MayChoose table k r → here ≡ Some own → Contains barriers r → ⊥
-  no_barrier table r own holds may e c =
-      let top = top_of own e in
-      let lower = not_above own r (inexact r.of (barriers_pcp tree anything 0 r refl c)) (may.top own (holds.all own (Contains-append_left facts _ own top.there)) top.fitting) in
-      let higher = top.above r c may.fitting in
-      omega (arith, lower, higher)
-
-  exact_choice : (table : List Rule) (r : Rule) → HoldsRules tree table → MayChoose table k r → IsFoundRule traces k r
-  exact_choice table r holds may =
-      ⊎_elim
-      (λ c. as_found r (Contains barriers r) (chosen_fact r may.fitting c (λ q h g. may.top q (holds.all q (Contains-append_right facts _ q h)) g)) c (found traces k) here_does here_fixes)
-      (λ c. as_barrier here refl (found traces k) here_does c)
-      (Contains-append_cases facts barriers r (holds.only r may.there))
-    where
-      as_barrier : (h : Option Rule) → h ≡ here → (o : Option Trace) → option_map actions here ≡ option_map trace_actions o → Contains barriers r → MatchOption o (Contains barriers r) (λ x. IsFactOf tree x r)
-      as_barrier h e None f c = c
-      as_barrier None e (Some x) f c = let g = ap (option_map actions) e ∙ f in absurd (cc)
-      as_barrier (Some r') e (Some x) f c = absurd (no_barrier table r r' holds may (sym e) c)
-
-  between_choice : (table : List Rule) (r : Rule) → IsShieldedBy (list_of tree) table → MayChoose table k r → IsFoundOrBarrier traces k r
-  between_choice table r shields may =
-      ⊎_elim (λ b. as_barrier b (found traces k))
-      (λ c. as_fact (found traces k) (as_found r (IsBarrier r) (chosen_fact r may.fitting c (λ q h g. may.top q (shields.barriers q h) g)) c (found traces k) here_does here_fixes))
-      (shields.rest r may.there)
-    where
-      as_barrier : IsBarrier r → (o : Option Trace) → MatchOption o (IsBarrier r) (λ x. IsBarrier r ⊎ IsFactOf tree x r)
-      as_barrier b None = b
-      as_barrier b (Some x) = inl b
-
-      as_fact : (o : Option Trace) → MatchOption o (IsBarrier r) (λ x. IsFactOf tree x r) → MatchOption o (IsBarrier r) (λ x. IsBarrier r ⊎ IsFactOf tree x r)
-      as_fact None h = h
-      as_fact (Some x) h = inr h
-
-  fact_choice : (table : List Rule) (r : Rule) → HoldsRules tree table → MayChoose table k r → Contains facts r → (x : Trace) × (found traces k ≡ Some x) × IsFactOf tree x r
-  fact_choice table r holds may c =
-      let e = chosen_fact r may.fitting c (λ q h g. may.top q (holds.all q (Contains-append_right facts _ q h)) g) in
-      pick (found traces k) refl (as_found r ⊥ e c (found traces k) here_does here_fixes)
-    where
-      pick : (o : Option Trace) → found traces k ≡ o → MatchOption o ⊥ (λ x. IsFactOf tree x r) → (x : Trace) × (found traces k ≡ Some x) × IsFactOf tree x r
-      pick None e h = absurd h
-      pick (Some x) e h = (x, e, h)
-
-  barrier_choice : (table : List Rule) (r : Rule) → HoldsRules tree table → MayChoose table k r → Contains barriers r → found traces k ≡ None
-  barrier_choice table r holds may c = pick here refl (found traces k) refl here_does
-    where
-      pick : (h : Option Rule) → h ≡ here → (o : Option Trace) → found traces k ≡ o → option_map actions here ≡ option_map trace_actions o → found traces k ≡ None
-      pick h e None f g = f
-      pick None e (Some x) f g = let i = ap (option_map actions) e ∙ g in absurd (cc)
-      pick (Some own) e (Some x) f g = absurd (no_barrier table r own holds may (sym e) c)
-
-  -- where a trace is found nothing but the fact at the key may be chosen
-  chosen_here : (table : List Rule) (r : Rule) → HoldsRules tree table → MayChoose table k r → IfSome (found traces k) (λ _. here ≡ Some r)
-  chosen_here table r holds may =
-      ⊎_elim (λ c. any_some (found traces k) (chosen_fact r may.fitting c (λ q h g. may.top q (holds.all q (Contains-append_right facts _ q h)) g)))
-      (λ c. as_barrier here refl (found traces k) here_does c)
-      (Contains-append_cases facts barriers r (holds.only r may.there))
-    where
-      any_some : (o : Option Trace) → here ≡ Some r → IfSome o (λ _. here ≡ Some r)
-      any_some None e = tt
-      any_some (Some x) e = e
-
-      as_barrier : (h : Option Rule) → h ≡ here → (o : Option Trace) → option_map actions here ≡ option_map trace_actions o → Contains barriers r → IfSome o (λ _. here ≡ Some r)
-      as_barrier h e None f c = tt
-      as_barrier None e (Some x) f c = let g = ap (option_map actions) e ∙ f in absurd (cc)
-      as_barrier (Some r') e (Some x) f c = absurd (no_barrier table r r' holds may (sym e) c)
-
-  one_choice : (table : List Rule) (r q : Rule) → HoldsRules tree table → MayChoose table k r → MayChoose table k q → IfSome (found traces k) (λ _. r ≡ q)
-  one_choice table r q holds a b = join (found traces k) (chosen_here table r holds a) (chosen_here table q holds b)
-    where
-      join : (o : Option Trace) → IfSome o (λ _. here ≡ Some r) → IfSome o (λ _. here ≡ Some q) → IfSome o (λ _. r ≡ q)
-      join None e f = tt
-      join (Some x) e f = let g : Some r ≡ Some q = sym e ∙ f in cc
-
-  -- the fact at the key may be chosen
-  own_choice : (table : List Rule) (r : Rule) → HoldsRules tree table → here ≡ Some r → MayChoose table k r
-  own_choice table r holds e =
+  own_of : (r : Rule) → here ≡ Some r → IsOwn traces k r
+  own_of r e =
+      let s = key_source k r tree anything 0 (IsFrom traces) (scratch_along traces admitted) e in
+      let x = s.holds.1.trace in
+      let top = found_top k r tree anything 0 fresh ordered refl e in
       record {
-        there = holds.all r (Contains-append_left facts _ r top.there);
-        fitting = top.fitting;
-        top = λ q c g. ⊎_elim
-            (λ d. no_higher q r (inexact q.of (facts_pcp tree anything 0 q refl d)) (fact_below q d g))
-            (λ d. no_higher q r (inexact q.of (barriers_pcp tree anything 0 q refl d)) (let u = top.above q d g in omega (arith, u)))
-            (Contains-append_cases facts barriers q (holds.only q c));
+        trace = x;
+        found = found_one k x traces admitted s.holds.1.there (ap (meets k) s.holds.1.items ∙ s.holds.0);
+        fact = record {
+          there = stands_fact r tree anything 0 top.there;
+          fixes = s.fixes ∙ ap (λ is. fixed_by is anything) (sym s.holds.1.items);
+          does = s.does ∙ ap (λ (l : Leaf). fact_actions l.decision) (sym s.holds.1.leaf);
+        };
       }
-    where
-      top : IsTop facts barriers k r
-      top = top_of r e
 
-      fact_below : (q : Rule) → Contains facts q → fits q k ≡ true → q.priority ≤ r.priority
-      fact_below q d g =
-          ⊎_elim
-          (λ lt.
-          let own = unshielded_fact k q g tree anything 0 tree_fresh tree_ordered d (λ b h i. let u = top.above b h i in omega (arith, u, lt)) in
-          let same : Some q ≡ Some r = sym own ∙ e in
-          let p : q.priority ≡ r.priority = cc in
-          absurd (omega (arith, p, lt)))
-          (λ le. le)
-          (cases_lt r.priority q.priority)
-
-  some_choice : (table : List Rule) → HoldsRules tree table → IfSome (found traces k) (λ _. (r : Rule) × MayChoose table k r)
-  some_choice table holds = pick here refl (found traces k) here_does
+  none_found : here ≡ None → found traces k ≡ None
+  none_found e = missing (found traces k) (sym (search_scratch traces k admitted) ∙ no_leaf tree k anything 0 e)
     where
-      pick : (h : Option Rule) → h ≡ here → (o : Option Trace) → option_map actions here ≡ option_map trace_actions o → IfSome o (λ _. (r : Rule) × MayChoose table k r)
-      pick h e None f = tt
-      pick None e (Some x) f = let g = ap (option_map actions) e ∙ f in absurd (cc)
-      pick (Some r) e (Some x) f = (r, own_choice table r holds (sym e))
+      missing : (o : Option Trace) → option_map leaf_of o ≡ None → o ≡ None
+      missing None h = refl
+      missing (Some x) h = absurd (cc)
 
-  none_fits : (table : List Rule) → HoldsRules tree table → ((r : Rule) → Contains table r → fits r k ≡ false) → found traces k ≡ None
-  none_fits table holds unfit = pick (found traces k) (some_choice table holds)
+  -- a fact that no fitting barrier stands above is the one at the key
+  chosen_fact : (r : Rule) → fits r k ≡ true → Here (Fact r) → ((q : Rule) → Here (Barrier q) → fits q k ≡ true → stands_above q r ≡ false) → here ≡ Some r
+  chosen_fact r fit h top = unshielded k r fit tree anything 0 fresh ordered h (λ q c g. not_above q r (row_inexact (Fact r) tree h) (top q c g))
+
+  module _ (table : List Rule) (holds : HoldsRules tree table) where
+    fact_there : (r : Rule) → Here (Fact r) → Contains table r
+    fact_there r h = holds.all r (Contains-append_left _ _ r (stands_fact r tree anything 0 h))
+
+    barrier_there : (r : Rule) → Here (Barrier r) → Contains table r
+    barrier_there r h = holds.all r (Contains-append_right (facts_of tree anything 0) _ r (stands_barrier r tree anything 0 h))
+
+    which : (r : Rule) → Contains table r → Here (Fact r) ⊎ Here (Barrier r)
+    which r c = ⊎_elim (λ d. inl (fact_stands r tree anything 0 d)) (λ d. inr (barrier_stands r tree anything 0 d)) (Contains-append_cases (facts_of tree anything 0) _ r (holds.only r c))
+
+    fact_here : (r : Rule) → MayChoose table k r → Here (Fact r) → here ≡ Some r
+    fact_here r may h = chosen_fact r may.fitting h (λ q c g. may.top q (barrier_there q c) g)
+
+    -- no barrier may be chosen beside the fact at the key
+    no_barrier : (r own : Rule) → MayChoose table k r → here ≡ Some own → Here (Barrier r) → ⊥
+    no_barrier r own may e h =
+        let top = found_top k own tree anything 0 fresh ordered refl e in
+        let lower = not_above own r (row_inexact (Barrier r) tree h) (may.top own (fact_there own top.there) top.fitting) in
+        let higher = top.above r h may.fitting in
+        omega (arith, lower, higher)
+
+    one_here : (r own : Rule) → MayChoose table k r → here ≡ Some own → own ≡ r
+    one_here r own may e = let same = λ (h : Here (Fact r)). sym e ∙ fact_here r may h in ⊎_elim (λ h. let s : Some own ≡ Some r = same h in cc) (λ h. absurd (no_barrier r own may e h)) (which r may.there)
+
+    -- the fact at the key may be chosen
+    own_may : (own : Rule) → here ≡ Some own → MayChoose table k own
+    own_may own e =
+        let top = found_top k own tree anything 0 fresh ordered refl e in
+        let facts = λ (q : Rule) (h : Here (Fact q)) (g : fits q k ≡ true). ⊎_elim
+        (λ lt.
+        let s : Some q ≡ Some own = sym (unshielded k q g tree anything 0 fresh ordered h (λ b c i. let u = top.above b c i in omega (arith, u, lt))) ∙ e in
+        let p : q.priority ≡ own.priority = cc in
+        absurd (omega (arith, p, lt)))
+        (λ le. no_higher q own (row_inexact (Fact q) tree h) le)
+        (cases_lt own.priority q.priority) in
+        record {
+          there = fact_there own top.there;
+          fitting = top.fitting;
+          top = λ q c g. ⊎_elim (λ h. facts q h g) (λ h. no_higher q own (row_inexact (Barrier q) tree h) (let u = top.above q h g in omega (arith, u))) (which q c);
+        }
+
+  between_fact : (table : List Rule) (r : Rule) → IsShieldedBy (list_of tree) table → MayChoose table k r → Contains (facts_of tree anything 0) r → here ≡ Some r
+  between_fact table r shields may c = chosen_fact r may.fitting (fact_stands r tree anything 0 c) (λ q h g. may.top q (shields.barriers q (stands_barrier q tree anything 0 h)) g)
+
+  abbrev Exact : Rule → Option Trace → Type 0
+  Exact r o = MatchOption o (Contains (barriers_of tree anything 0) r) (λ x. IsFactOf tree x r)
+
+  abbrev Between : Rule → Option Trace → Type 0
+  Between r o = MatchOption o (IsBarrier r) (λ x. IsBarrier r ⊎ IsFactOf tree x r)
+
+  abbrev Chosen : List Rule → Option Trace → Type 0
+  Chosen table o = IfSome o (λ _. (r : Rule) × MayChoose table k r)
+
+  -- where there is no fact at the key
+  without : here ≡ None → ChoosesRight traces k
+  without none =
+      let e = none_found none in
+      let never = λ (r : Rule) (h : here ≡ Some r). let s : Some r ≡ None = sym h ∙ none in absurd {A = ⊥} (cc) in
+      record {
+        exact = λ table r holds may. subst (Exact r) (sym e) (⊎_elim (λ h. absurd (never r (fact_here table holds r may h))) (λ h. stands_barrier r tree anything 0 h) (which table holds r may.there));
+        between = λ table r shields may. subst (Between r) (sym e) (⊎_elim (λ b. b) (λ c. absurd (never r (between_fact table r shields may c))) (shields.rest r may.there));
+        some = λ table holds. subst (Chosen table) (sym e) tt;
+        one = λ table r q holds a b. subst (λ o. IfSome o (λ _. r ≡ q)) (sym e) tt;
+        fact = λ table r holds may c. absurd (never r (fact_here table holds r may (fact_stands r tree anything 0 c)));
+        barrier = λ table r holds may c. e;
+        unfit = λ table holds none. e;
+      }
+
+  -- and where there is
+  with_own : (own : Rule) → here ≡ Some own → ChoosesRight traces k
+  with_own own is =
+      let o = own_of own is in
+      let e = o.found in
+      let right = λ (r : Rule) (h : here ≡ Some r). let s : Some own ≡ Some r = sym is ∙ h in let t : own ≡ r = cc in subst (IsFactOf tree o.trace) t o.fact in
+      record {
+        exact = λ table r holds may. subst (Exact r) (sym e) (subst (IsFactOf tree o.trace) (one_here table holds r own may is) o.fact);
+        between = λ table r shields may. subst (Between r) (sym e) (⊎_elim (λ b. inl b) (λ c. inr (right r (between_fact table r shields may c))) (shields.rest r may.there));
+        some = λ table holds. subst (Chosen table) (sym e) (own, own_may table holds own is);
+        one = λ table r q holds a b. subst (λ o. IfSome o (λ _. r ≡ q)) (sym e) (sym (one_here table holds r own a is) ∙ one_here table holds q own b is);
+        fact = λ table r holds may c. (o.trace, e, subst (IsFactOf tree o.trace) (one_here table holds r own may is) o.fact);
+        barrier = λ table r holds may c. absurd (no_barrier table holds r own may is (barrier_stands r tree anything 0 c));
+        unfit = λ table holds none. let may = own_may table holds own is in let f = sym may.fitting ∙ none own may.there in absurd (cc);
+      }
+
+  chooses : ChoosesRight traces k
+  chooses = pick here refl
     where
-      pick : (o : Option Trace) → IfSome o (λ _. (r : Rule) × MayChoose table k r) → o ≡ None
-      pick None h = refl
-      pick (Some x) h = let p = sym h.1.fitting ∙ unfit h.0 h.1.there in absurd (cc)
+      pick : (h : Option Rule) → here ≡ h → ChoosesRight traces k
+      pick None e = without e
+      pick (Some own) e = with_own own e
 
 pub choice_law : ChoiceLaw
-choice_law traces k a o =
-    record {
-      exact = exact_choice traces k a o;
-      between = between_choice traces k a o;
-      some = some_choice traces k a o;
-      one = one_choice traces k a o;
-      fact = fact_choice traces k a o;
-      barrier = barrier_choice traces k a o;
-      unfit = none_fits traces k a o;
-    }
+choice_law traces k a o = chooses traces k a o
 
 pub table_law : TableLaw
 table_law t facts barriers f b =

@@ -1,13 +1,7 @@
 pub mod Brings
 pub mod Choice
 pub mod Distinct
-pub mod Exact
-pub mod Fits
 pub mod Fixes
-pub mod Fresh
-pub mod InDomains
-pub mod Leading
-pub mod Moves
+pub mod Forms
 pub mod Normal
 pub mod Paths
-pub mod Steps

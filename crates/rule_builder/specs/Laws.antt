@@ -1,15 +1,17 @@
 -- What holds of the rules of a tree.
-use Rattle.std.specs.Prelude.{◌≡◌, true, false, List, Contains}
+use Rattle.std.specs.Prelude.{◌≡◌, false, true, List, [], ◌∷◌, Contains}
 use Rattle.std.specs.List.{AllPairs}
 use Rattle.std.specs.List.Sorted.{IsPermutation}
+use Rattle.maple_base.specs.Ports.{controller_port}
 use Rattle.maple_base.specs.declared.decision.Rule.{Rule}
 use Rattle.maple_base.specs.Choice.{Differ}
-use Rattle.maple_base.specs.Keys.{match_exact, match_normal}
+use Rattle.maple_base.specs.Keys.{match_exact, match_normal, anything}
+use Rattle.flow_table.specs.Shielding.{IsBarrier}
 use Rattle.trace_tree.specs.declared.node.Trace.{Trace}
 use Rattle.trace_tree.specs.Shape.{Shape, Empty}
 use Rattle.trace_tree.specs.Bounds.{IsWithin}
 use Rattle.trace_tree.specs.Growth.{scratch, AreAdmitted, AllAskOnce}
-use Rattle.priority_plan.specs.Rules.{rules_of}
+use Rattle.priority_plan.specs.Rules.{facts_of, barriers_of, fact_actions, rules_of}
 use Rattle.rule_builder.specs.Orderly.{AllOrderly}
 
 -- no rule is exact
@@ -28,3 +30,16 @@ DomainLaw = (traces : List Trace) → AreAdmitted Empty traces → AllOrderly tr
 -- and each match is normal
 abbrev pub NormalLaw : Type 0
 NormalLaw = (traces : List Trace) (r : Rule) → AreAdmitted Empty traces → AllAskOnce traces → AllOrderly traces → Contains (rules_of (scratch traces)) r → match_normal r.of ≡ true
+
+-- a trace decides the controller's port alone (OpenFlow Switch Specification 1.0.0, 5.2.1, OFPP_CONTROLLER)
+abbrev pub IsToController : Trace → Type 0
+IsToController x = fact_actions x.decision ≡ controller_port ∷ []
+
+-- where no trace does, no fact is a barrier
+abbrev pub FactLaw : Type 0
+FactLaw =
+    (traces : List Trace) (r : Rule) → AreAdmitted Empty traces → ((x : Trace) → Contains traces x → IsToController x → ⊥) → Contains (facts_of (scratch traces) anything 0) r → IsBarrier r → ⊥
+
+-- each barrier is one, and the switch keeps it whatever it does not see
+abbrev pub BarrierLaw : Type 0
+BarrierLaw = (t : Shape) (r : Rule) → Contains (barriers_of t anything 0) r → IsBarrier r × (r.cookie ≡ 0) × (r.idle ≡ 0)

@@ -35,7 +35,7 @@ drop_alone = scratch (asks_ssh true Drop ∷ [])
 
 -- port 22 is dropped above what goes out of port 2, with a barrier between
 pub record RowsOfTwo : Type 0 where
-  pub facts : facts_of two_traces anything 0 ≡ row 1 tcp (2 ∷ []) ∷ row 3 ssh [] ∷ []
+  pub facts : facts_of two_traces anything 0 ≡ row 3 ssh [] ∷ row 1 tcp (2 ∷ []) ∷ []
   pub barriers : barriers_of two_traces anything 0 ≡ row 2 ssh (controller_port ∷ []) ∷ []
   pub levels : levels_of two_traces ≡ 3
   pub needed : rules_needed two_traces ≡ 3

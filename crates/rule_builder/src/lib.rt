@@ -2,5 +2,10 @@
 #![tactic(auto)]
 
 pub mod building;
+mod current;
+pub mod laws;
+pub mod needed;
 
-pub use building::{choice_law, rules, rules_law, rules_needed_with, rules_rows};
+pub use building::{rules, rules_where};
+pub use laws::{choice_law, rules_law, rules_rows};
+pub use needed::rules_needed_with;

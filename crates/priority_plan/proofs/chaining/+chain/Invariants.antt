@@ -1,5 +1,4 @@
 use Rattle.std.proofs.Common.{◌≡◌, ◌≤◌, ◌+◌, ◌*◌, ◌++◌, drop}
-use Rattle.std.specs.Prelude.{reverse}
 use Rattle.trace_tree.specs.TreeOf.{tree_of, branches, child_trees}
 use Rattle.trace_tree.specs.Bounds.{IsWithin, AreWithin}
 use Rattle.trace_tree.specs.Growth.{nodes_of, nodes_in}
@@ -17,7 +16,7 @@ invariant-push_chain-loop-node l =
       fewer : levels_of here ≤ levels_of whole;
       nodes : nodes_of here ≤ nodes_of whole;
       values : IsWithin here;
-      rules : l.rules.items ++ reverse (chain_of here l.of l.base) ≡ l.fn.rules.items ++ reverse (chain_of whole l.of l.base);
+      rules : l.rules.items ++ chain_of here l.of l.base ≡ l.fn.rules.items ++ chain_of whole l.of l.base;
     }
 
 -- it is none of those that were passed

@@ -1,7 +1,7 @@
 use Rattle.std.proofs.Common.{◌<◌, ◌^◌, sym, ap, ◌∙◌, subst}
 use Rattle.priority_plan.specs.Rules.{levels_of, rules_of}
 use Rattle.priority_plan.specs.Laws.{IsGreatest}
-use Rattle.priority_plan.proofs.Few.{few_priorities}
+use Rattle.priority_plan.proofs.Grows.{few_priorities}
 use Rattle.priority_plan.proofs.Places.{levels_law}
 use Rattle.priority_plan.proofs.counting.levels.Goals as goal
 

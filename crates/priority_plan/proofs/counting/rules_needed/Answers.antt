@@ -1,7 +1,7 @@
 use Rattle.std.proofs.Common.{◌<◌, ◌^◌, sym, ◌∙◌, ap, subst}
 use Rattle.priority_plan.specs.Counts.{count_of}
 use Rattle.priority_plan.proofs.Counted.{needed_count}
-use Rattle.priority_plan.proofs.Few.{few_rules}
+use Rattle.priority_plan.proofs.Grows.{few_rules}
 use Rattle.priority_plan.proofs.counting.rules_needed.Goals as goal
 
 pub node_rules-requires : goal.node_rules-requires
