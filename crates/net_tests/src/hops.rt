@@ -118,6 +118,12 @@ const SCRIPTS: &[&str] = &[
     // a scene keeps up with its links, and a refused one changes nothing
     "1 4 each switch #; link 1 1 2 2; link 2 1 3 2; link 1 7 3 7; cell? 1 3 = 3 7; link 1 0 3 7 = PortRange;
          cell? 1 3 = 3 7; nolink 1 7; cell? 1 3 = 2 1; nolink 2 1; cell? 1 3 = nothing",
+    // links from 1 to 2 beside the one by port 5, by a greater and by a lesser port; then the lesser one goes, and the greater one leads elsewhere
+    "1 4 each switch #; link 1 5 2 1; link 2 4 3 1; link 1 7 2 2; cell? 1 2 = 2 5; cell? 1 3 = 2 5; link 1 3 2 3; cell? 1 2 = 2 3;
+         cell? 1 3 = 2 3; hop? 1 3 = 2 3; nolink 1 3; cell? 1 2 = 2 5; cell? 1 3 = 2 5; link 1 7 3 2; cell? 1 3 = 3 7; cell? 1 2 = 2 5",
+    // of two links beside each other the greater one goes, then the lesser one, then both are there again
+    "1 3 each switch #; link 1 5 2 1; link 1 7 2 2; nolink 1 7; cell? 1 2 = 2 5; nolink 1 5; cell? 1 2 = nothing;
+         link 1 7 2 2; cell? 1 2 = 2 7; link 1 5 2 1; cell? 1 2 = 2 5; nolink 1 5; cell? 1 2 = 2 7",
 ];
 
 #[test]

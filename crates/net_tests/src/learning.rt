@@ -9,9 +9,9 @@ ghost use Rattle.trace_tree.specs.Bounds.{items_within};
 ghost use Rattle.priority_plan.specs.Rules.{rules_needed};
 
 use crate::packets::item_of;
-use maple_base::{Cells, Decision, Field, Item, Items, Key, NoMemory, RuleList};
+use maple_base::{Cells, Decision, EnvNow, Field, Item, Items, Key, NoMemory, RuleList};
 use priority_plan::{Chain, chain, levels, rules_needed};
-use rule_builder::{rules, rules_needed_with};
+use rule_builder::{rules, rules_needed_with, rules_where};
 use std::alloc::{AllocError, Global};
 use std::marker::Model;
 use std::mem;
@@ -80,6 +80,16 @@ impl Learned {
 
     /// Puts the trace into the tree and the list.
     pub fn add(&mut self, number: u64, decision: Decision) -> Result<(), Fail> {
+        self.add_recorded(number, Cells::new(Vec::new(self.alloc)), decision)
+    }
+
+    /// The same, with what was recorded of the environment.
+    pub fn add_recorded(
+        &mut self,
+        number: u64,
+        cells: Cells,
+        decision: Decision,
+    ) -> Result<(), Fail> {
         if self.bound > MOST_RULES {
             return Err(Fail::from("too many traces"));
         }
@@ -89,7 +99,7 @@ impl Learned {
         let trace = Trace {
             number,
             items: Items::new(items),
-            cells: Cells::new(Vec::new(self.alloc)),
+            cells,
             decision,
         };
         self.bound += 262_145;
@@ -171,6 +181,15 @@ impl Learned {
             Err(Fail::from("too many rules"))
         }
     }
+
+    /// The rules that the tree has once the traces are gone of which a cell has changed.
+    pub fn rules_where<E: EnvNow>(&self, env: &E) -> Result<RuleList, Fail> {
+        if self.bound <= MOST_RULES {
+            rules_where_in(self.alloc, &self.tree, env)
+        } else {
+            Err(Fail::from("too many rules"))
+        }
+    }
 }
 
 fn chain_in(alloc: Global, tree: &Tree) -> Result<Chain, Fail> {
@@ -184,6 +203,14 @@ fn chain_in(alloc: Global, tree: &Tree) -> Result<Chain, Fail> {
 fn rules_in(alloc: Global, tree: &Tree) -> Result<RuleList, Fail> {
     if levels(tree) <= 65_000 {
         Ok(rules(alloc, tree)?)
+    } else {
+        Err(Fail::from("too many levels"))
+    }
+}
+
+fn rules_where_in<E: EnvNow>(alloc: Global, tree: &Tree, env: &E) -> Result<RuleList, Fail> {
+    if levels(tree) <= 65_000 {
+        Ok(rules_where(alloc, tree, env)?)
     } else {
         Err(Fail::from("too many levels"))
     }
@@ -226,8 +253,8 @@ fn needed_with(tree: &Tree, items: &Items) -> u64
     rules_needed_with(tree, items)
 }
 
-// Puts a trace into a tree; where memory runs out at the first try, at the second.
-fn put(alloc: Global, tree: &mut Tree, trace: Trace) -> Result<(), Fail>
+/// Puts a trace into a tree; where memory runs out at the first try, at the second.
+pub fn put(alloc: Global, tree: &mut Tree, trace: Trace) -> Result<(), Fail>
     ensures { rules_needed tree.new ≤ rules_needed tree.old + 262145 }
 {
     if !is_trace_for(alloc, tree, &trace.items)? || tree.leaves() >= 1_000 {

@@ -2,6 +2,8 @@
 #![tactic(auto)]
 
 #[cfg(test)]
+mod cells_recorded;
+#[cfg(test)]
 mod environments;
 #[cfg(test)]
 mod flow_tables;
@@ -11,6 +13,8 @@ mod hops;
 mod learning;
 #[cfg(test)]
 mod packets;
+#[cfg(test)]
+mod pruned;
 #[cfg(test)]
 mod random_links;
 #[cfg(test)]

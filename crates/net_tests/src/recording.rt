@@ -3,7 +3,6 @@ use crate::packets::{item_of, key_of};
 use maple_base::{Blank, Decision, Item, Key, Outcome};
 use policy_eval::eval;
 use policy_lang::Policy;
-use policy_lang::plain::is_plain;
 use policy_text::read_policy;
 use std::alloc::{AllocError, Global};
 use std::test::Fail;
@@ -45,10 +44,10 @@ fn spelled_out(alloc: Global, ports: &[u16]) -> Result<String, AllocError> {
 
 // A trace of a policy with number 3, at switch 7.
 fn trace_of(alloc: Global, policy: &Policy, budget: u32, key: &Key) -> Result<Run, Fail> {
-    if is_plain(policy) && key.valid() && 1 <= budget && budget <= 65_536 {
+    if key.valid() && 1 <= budget && budget <= 65_536 {
         Ok(record(alloc, policy, 3, budget, 7, key, &mut Blank)?)
     } else {
-        Err(Fail::from("no plain policy, no valid key or no budget"))
+        Err(Fail::from("no valid key or no budget"))
     }
 }
 
@@ -378,6 +377,43 @@ const NOT_SETTLED: &[Row] = &[
         15,
         "ospf",
         "dl_type=0x0800 nw_proto=1?no nw_proto=6?no nw_proto=17?no then out 7",
+    ),
+    (
+        "let x = pkt.in_port; if pkt.in_port == x { drop; } out 2;",
+        9,
+        "tp_dst=80",
+        "in_port=1 then drop",
+    ),
+    (
+        "let x = pkt.in_port; if pkt.in_port is 9 { drop; } out 2;",
+        9,
+        "tp_dst=80",
+        "in_port=1 then out 2",
+    ),
+    (
+        "if pkt.in_port is 1 { out pkt.in_port; } out 2;",
+        9,
+        "tp_dst=80",
+        "in_port=1?yes then out 1",
+    ),
+    (
+        "if pkt.in_port is 9 { drop; } out pkt.in_port;",
+        9,
+        "tp_dst=80",
+        "in_port=9?no in_port=1 then out 1",
+    ),
+    (
+        "if pkt.nw_proto is 1 { drop; } if pkt.nw_proto is 6 { drop; } if pkt.nw_proto is 17 { drop; } out pkt.tp_dst, 5;",
+        15,
+        "ospf",
+        "dl_type=0x0800 nw_proto=1?no nw_proto=6?no nw_proto=17?no then out 5",
+    ),
+    ("out pkt.tp_dst, 5;", 9, "arp", "dl_type=0x0806 then out 5"),
+    (
+        "out pkt.tp_dst, pkt.tp_dst;",
+        9,
+        "tp_dst=80",
+        "dl_type=0x0800 nw_proto=6 tp_dst=80 then out 80",
     ),
 ];
 

@@ -5,9 +5,10 @@ use crate::learning::Learned;
 use crate::packets::{WEB, key_of, push_rule};
 use crate::scripts::{Subject, follow, number};
 use crate::updates::{spelled_number, spelled_word};
-use maple_base::{Actions, Decision, Key, Rule};
+use maple_base::{Actions, Cell, Cells, Decision, Key, Name, Rule, Value};
 use std::alloc::{AllocError, Global};
 use std::test::Fail;
+use topo_paths::Scene;
 
 impl Subject for Learned {
     fn answer(&mut self, alloc: Global, command: &[&str]) -> Result<String, Fail> {
@@ -119,10 +120,16 @@ const SCRIPTS: &[&str] = &[
     "ask tp_dst=22?no; rules_with? = 2; add 1 2; ask tp_dst=22?yes; rules_with? = 3; add 2; leaves? = 2; rules? = 3;
          levels? = 3; facts? = any 1 2, tp_dst=22 3; barriers? = tp_dst=22 2 65533;
          chain? = any 1 2, tp_dst=22 2 65533, tp_dst=22 3",
+    "ask nw_proto=6; add 1 5; ask nw_proto=17 tp_dst=53; add 2 6; ask nw_proto=1; add 3; levels? = 1;
+         facts? = nw_proto=17,tp_dst=53 1 6, nw_proto=1 1, nw_proto=6 1 5; rules? = 3",
+    "many 1023; rules_with? = 1024; add 1 1; rules? = 1024; levels? = 1024",
+    "many 1024; rules_with? = 1025; add 1 1; rules? = 1025; levels? = 1025",
 ];
 
 // The first two rows have paths that part at the last item: of 22,000 items, and of as many as a path
-// may have. In the third what does not go to port 22 leaves by port 2, and the rest is dropped.
+// may have. In the third what does not go to port 22 leaves by port 2, and the rest is dropped. In the
+// fourth all priorities are equal: a match that fixes a port too is written in lesser bytes, since it has
+// fewer wildcards; of the other two the lesser protocol stands first. The last have 1,024 rules, and one more.
 #[test]
 fn paths_and_rules(rt: HostRuntime) -> Result<(), Fail> {
     for script in scripts() {
@@ -192,6 +199,35 @@ fn the_rules_of_a_long_path(rt: HostRuntime) -> Result<(), Fail> {
     }
     assert_eq!(rt; priority, 22_002);
     Ok(())
+}
+
+// The table sends port 1 to 2, and now to 3; port 2 it sends to 5 as before.
+#[test]
+fn the_rules_of_current_traces(rt: HostRuntime) -> Result<(), Fail> {
+    let alloc = rt.alloc();
+    let mut scene = Scene::new(alloc)?;
+    follow(alloc, &mut scene, "tables t; set t 1 3; set t 2 5")?;
+    let mut learned = Learned::new(alloc);
+    learn_entry(alloc, &mut learned, 1, 2)?;
+    learn_entry(alloc, &mut learned, 2, 5)?;
+    follow(alloc, &mut learned, "facts? = in_port=1 1 2, in_port=2 1 5")?;
+    let list = learned.rules_where(&scene)?;
+    assert_eq!(rt;
+        spelled_rules(alloc, list.facts())?.as_str(),
+        "in_port=2 1 5"
+    );
+    assert!(rt; list.barriers().is_empty());
+    Ok(())
+}
+
+// What a policy asks that sends a packet where its table has an entry for the port.
+fn learn_entry(alloc: Global, learned: &mut Learned, port: u64, to: u16) -> Result<(), Fail> {
+    let asked = format!(in alloc; "ask in_port={port}")?;
+    follow(alloc, learned, asked.as_str())?;
+    let table = Name::new(b"t").ok_or("a name")?;
+    let mut cells = Vec::new(alloc);
+    cells.push((Cell::Num { table, key: port }, Value::Number(u64::from(to))))?;
+    learned.add_recorded(port, Cells::new(cells), Decision::Out(Actions::new(&[to])))
 }
 
 fn packet(turn: u64) -> Key

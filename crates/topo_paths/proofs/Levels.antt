@@ -17,7 +17,7 @@ use Rattle.topo_paths.proofs.Distances.{leads_in-none, leads_in-zero, leads_in-m
 use Rattle.topo_paths.proofs.Nearness.{distance_where}
 use Rattle.topo_paths.proofs.LeastHops.{least_is_first, find_agrees}
 
-same_tests : (a b : Bool) → (a ≡ true → b ≡ true) → (b ≡ true → a ≡ true) → a ≡ b
+pub same_tests : (a b : Bool) → (a ≡ true → b ≡ true) → (b ≡ true → a ≡ true) → a ≡ b
 same_tests a b f g = same_from_decides {P = a ≡ true} a b (λ x. x, λ x. x) (g, f)
 
 pub next_hop-at : (links : List Link) (from to : ℕ) (o : Option ℕ) → distance links from to ≡ o → next_hop links from to ≡ hop_at links from to o
@@ -114,22 +114,14 @@ find_none test (link ∷ links) =
     ]
 
 pub or_none : (b : Bool) → b ≡ (b || false)
-or_none true = refl
-or_none false = refl
+or_none b = grind arith
 
 or_or : (a b c : Bool) → ((a || b) || c) ≡ (a || (b || c))
-or_or true b c = refl
-or_or false b c = refl
+or_or a b c = grind arith
 
 -- the hop of a place after a link was joined
 joined_hop : (e b n : Bool) (link : Link) (found : Option Link) (next : Option Place) → cond (e && (b && not (n || is_some found))) (Some (hop_over link)) (cond n next (hop_by found)) ≡ cond n next (hop_by (option_or found (cond (e && b) (Some link) None)))
-joined_hop false b n link None next = refl
-joined_hop false b n link (Some x) next = refl
-joined_hop true false n link None next = refl
-joined_hop true false n link (Some x) next = refl
-joined_hop true true true link found next = refl
-joined_hop true true false link None next = refl
-joined_hop true true false link (Some x) next = refl
+joined_hop e b n link found next = grind arith
 
 -- the hop of a place after all links were joined
 grown_hop : (a b : Bool) (found : Option Link) (next : Option Place) → b ≡ (a || is_some found) → (a ≡ false → b ≡ true → next ≡ hop_by found) → cond a next (hop_by found) ≡ cond b next None

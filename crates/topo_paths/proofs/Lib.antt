@@ -1,5 +1,5 @@
+pub mod Beside
 pub mod Distances
-pub mod Graphs
 pub mod Hopping
 pub mod LeastHops
 pub mod Levels
@@ -7,5 +7,4 @@ pub mod Masks
 pub mod Moved
 pub mod Naming
 pub mod Nearness
-pub mod Shown
 pub mod Ways

@@ -1,5 +1,5 @@
 -- Masks of places, bit by bit.
-use Rattle.std.proofs.Common.{◌≡◌, ℕ, ◌-◌, ◌*◌, ◌^◌, ◌%◌, ◌<◌, Bool, true, false, not, cond, eqb, ◌&&◌, ◌||◌, min, max, List, [], length, get_or, set, Option, Some, None, refl, sym, ap, ◌∙◌, subst, ⊎_elim, arith}
+use Rattle.std.proofs.Common.{◌≡◌, ℕ, ◌-◌, ◌*◌, ◌^◌, ◌%◌, ◌<◌, Bool, true, false, not, cond, eqb, ◌&&◌, ◌||◌, min, max, List, [], length, get_or, set, Option, Some, None, sym, ap, ◌∙◌, subst, ⊎_elim, arith}
 use Rattle.std.specs.Prelude.{bit_and, bit_or}
 use Rattle.std.specs.Int.{bit_at, bit_not, w64, trailing_zeros}
 use Rattle.std.proofs.lemmas.Bool.{cases_eq, cases_lt, cases_Bool, both_ways, eq-eqb, eqb-true, ne_eqb, and_left, and_right}
@@ -83,8 +83,7 @@ module _ (rows : List (List (Option Place))) (from : ℕ) (hop : Place) (left re
   here at = (λ i. cond (eqb from at && t.gone i) (Some hop) (cell_set at i)) ∙ go (eqb from at) ∙ sym (λ i. cond (eqb from at && t.had i) (Some hop) (cell_at rows place at))
     where
       go : (b : Bool) → cond (b && false) (Some hop) (cond b (Some hop) (cell_at rows place at)) ≡ cond (b && true) (Some hop) (cell_at rows place at)
-      go true = refl
-      go false = refl
+      go b = grind arith
 
   pub written_more : (to at : ℕ) → to < 64 → Same to at
   written_more to at lt =
@@ -113,10 +112,7 @@ module _ (e : Ends) (hop : Place) (before masks : List ℕ) (rows : List (List (
       nothing from to lt = sym (at_from from to lt) ∙ and_right (eqb e.from from) (has fresh to) (ap (λ x. has x to) none ∙ has_none to)
 
       absorb : (a b c : Bool) → (a && (b && not c)) ≡ false → (c || (a && b)) ≡ c
-      absorb a b true h = refl
-      absorb true true false h = h
-      absorb true false false h = refl
-      absorb false b false h = refl
+      absorb a b c h = grind arith
 
   pub joined_some : (rows' : List (List (Option Place))) → length masks ≡ 64 → e.from < 64 → ((to at : ℕ) → to < 64 → at < 64 → cell_at rows' to at ≡ cond (eqb e.from at && has fresh to) (Some hop) (cell_at rows to at)) → IsJoined e hop before masks rows (set masks e.from (bit_or (get_or masks e.from 0) fresh)) rows'
   joined_some rows' long within written' =
@@ -126,9 +122,7 @@ module _ (e : Ends) (hop : Place) (before masks : List ℕ) (rows : List (List (
       }
     where
       grow : (m b : Bool) → (m || (b && not m)) ≡ (m || b)
-      grow true b = refl
-      grow false true = refl
-      grow false false = refl
+      grow m b = grind arith
 
       here : (from to : ℕ) → to < 64 → from ≡ e.from → reaches (set masks e.from (bit_or (get_or masks e.from 0) fresh)) from to ≡ (reaches masks from to || (eqb e.from from && reaches before e.to to))
       here from to lt same =

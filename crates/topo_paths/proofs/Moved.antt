@@ -1,84 +1,107 @@
--- Links in another order have the same next hops.
-use Rattle.std.proofs.Common.{◌≡◌, ℕ, zero, suc, Bool, true, ◌==◌, ◌&&◌, List, length, get_or, Option, Some, None, Contains, refl, sym, ap, ◌∙◌, subst, ⊎_elim, arith}
+-- Links among others have the same next hops where each of the others has one of them beside it.
+use Rattle.std.proofs.Common.{◌≡◌, ℕ, zero, suc, true, ◌==◌, ◌&&◌, ◌≤◌, List, get_or, Option, Some, None, Contains, refl, sym, ap, ◌∙◌, subst, ⊎_elim, arith}
 use Rattle.std.proofs.lemmas.Bool.{both_ways, cases_order, eqb-true, and_parts}
-use Rattle.std.proofs.lemmas.Bool.Decides.{same_from_decides}
 use Rattle.std.specs.List.Sorted.{IsPermutation}
 use Rattle.std.proofs.lemmas.List.{get_or_default}
-use Rattle.std.proofs.lemmas.List.Sorted.{length_permutation, Contains-permutation}
+use Rattle.std.proofs.lemmas.List.Sorted.{IsPermutation-sym, Contains-permutation}
+use Rattle.std.proofs.lemmas.Option.{none-some}
 use Rattle.maple_base.specs.declared.cells.Place.{Place}
 use Rattle.env_cells.specs.Lists.{StartApart}
 use Rattle.topo_paths.specs.Walks.{Link}
 use Rattle.topo_paths.specs.NextHops.{leads_in, leads_on, distance, hop_over, hop_at, next_hop}
-use Rattle.topo_paths.proofs.Distances.{leads_in-none, leads_in-zero, leads_in-more, leads_in-first, distance_some, distance_is}
-use Rattle.topo_paths.proofs.Levels.{next_hop-at}
+use Rattle.topo_paths.proofs.Distances.{leads_in-none, leads_in-zero, leads_in-more, leads_in-first, distance_some}
+use Rattle.topo_paths.proofs.Nearness.{distance_where}
+use Rattle.topo_paths.proofs.Levels.{same_tests, next_hop-at}
 use Rattle.topo_paths.proofs.LeastHops.{IsLeast, least_is}
 
--- each link of the one list is in the other, which is as long
-pub record AreIn (links others : List Link) : Type 0 where
-  pub long : length others ≡ length links
-  pub all : (link : Link) → Contains links link → Contains others link
+-- a link leads between the same two switches as another, by a port that is no greater
+pub record IsBeside (other link : Link) : Type 0 where
+  pub begins : other.0.switch ≡ link.0.switch
+  pub ends : other.1.switch ≡ link.1.switch
+  pub port : other.0.port ≤ link.0.port
 
-leads_kept : (links others : List Link) → AreIn links others → (n from to : ℕ) → leads_in links n from to ≡ true → leads_in others n from to ≡ true
+pub itself : (link : Link) → IsBeside link link
+itself link = record { begins = refl; ends = refl; port = omega arith }
+
+-- each link has one of the others beside it
+abbrev AreBeside : List Link → List Link → Type 0
+AreBeside links others = (link : Link) → Contains links link → (other : Link) × Contains others other × IsBeside other link
+
+-- links among others, each of which has one of them beside it; no two of the others begin at one place
+pub record AreAmong (links others : List Link) : Type 0 where
+  pub all : (link : Link) → Contains links link → Contains others link
+  pub beside : AreBeside others links
+  pub one : (a b : Link) → Contains others a → Contains others b → a.0 ≡ b.0 → a ≡ b
+
+leads_kept : (links others : List Link) → AreBeside links others → (n from to : ℕ) → leads_in links n from to ≡ true → leads_in others n from to ≡ true
 leads_kept links others are zero from to h = leads_in-none others from to (leads_in-zero links from to h)
 leads_kept links others are (suc n) from to h =
     let (k, link, lt, at, begins, rest) = leads_in-first links n from to h in
-    let (j, lj, is) = are.all link (k, lt, at) in
-    leads_in-more others n j from to link lj (ap (λ (x : Link). x.0.switch) is ∙ begins) (subst (λ (x : Link). leads_in others n x.1.switch to ≡ true) (sym is) (leads_kept links others are n link.1.switch to rest))
-
-leads_same : (links others : List Link) → AreIn links others → AreIn others links → (n from to : ℕ) → leads_in links n from to ≡ leads_in others n from to
-leads_same links others are back n from to = same_from_decides {P = leads_in links n from to ≡ true} _ _ (λ x. x, λ x. x) (leads_kept others links back n from to, leads_kept links others are n from to)
+    let (other, (j, lj, is), b) = are link (k, lt, at) in
+    leads_in-more others n j from to other lj (ap (λ (x : Link). x.0.switch) is ∙ b.begins ∙ begins)
+    (subst (λ s. leads_in others n s to ≡ true) (sym b.ends ∙ sym (ap (λ (x : Link). x.1.switch) is)) (leads_kept links others are n link.1.switch to rest))
 
 pub place_same : (p q : Place) → p.switch ≡ q.switch → p.port ≡ q.port → p ≡ q
 place_same p q s t = λ i. record { switch = s i; port = t i }
 
+module _ (links others : List Link) (a : AreAmong links others) where
+  leads_same : (n from to : ℕ) → leads_in links n from to ≡ leads_in others n from to
+  leads_same n from to = same_tests _ _ (leads_kept links others (λ link c. (link, a.all link c, itself link)) n from to) (leads_kept others links a.beside n from to)
+
+  -- the one leads on over the links where the other does over the others
+  on_same : (m from to : ℕ) (other link : Link) → IsBeside other link → leads_on links m from to other ≡ leads_on others m from to link
+  on_same m from to other link b = λ i. b.begins i == from && (leads_same m other.1.switch to ∙ ap (λ s. leads_in others m s to) b.ends) i
+
+  least_same : (m from to : ℕ) (r s : Option Place) → IsLeast (leads_on links m from to) links r → IsLeast (leads_on others m from to) others s → r ≡ s
+  least_same m from to None None none none' = refl
+  least_same m from to None (Some hop) none ((two, c, passes, is), least) = let (other, there, b) = a.beside two c in absurd (both_ways _ (none other there) (on_same m from to other two b ∙ passes))
+  least_same m from to (Some hop) None ((one, c, passes, is), least) none = absurd (both_ways _ (none one (a.all one c)) (sym (on_same m from to one one (itself one)) ∙ passes))
+  least_same m from to (Some hop) (Some hop') ((one, c, passes, is), least) ((two, c', passes', is'), least') =
+      let (other, there, b) = a.beside two c' in
+      let on' : leads_on others m from to one ≡ true = sym (on_same m from to one one (itself one)) ∙ passes in
+      let le = least other there (on_same m from to other two b ∙ passes') in
+      let ge = least' one (a.all one c) on' in
+      let port : one.0.port ≡ two.0.port = omega (arith, le, ge, b.port, ap (λ (x : Place). x.port) is, ap (λ (x : Place). x.port) is') in
+      let begins : one.0.switch ≡ two.0.switch = from_there one on' ∙ sym (from_there two passes') in
+      ap Some (is ∙ ap hop_over (a.one one two (a.all one c) c' (place_same one.0 two.0 begins port)) ∙ sym is')
+    where
+      from_there : (link : Link) → leads_on others m from to link ≡ true → link.0.switch ≡ from
+      from_there link p = eqb-true _ _ (and_parts (link.0.switch == from) (leads_in others m link.1.switch to) p).0
+
+  distance_same : (from to : ℕ) → distance links from to ≡ distance others from to
+  distance_same from to = go (distance links from to) (distance others from to) refl refl
+    where
+      go : (o p : Option ℕ) → distance links from to ≡ o → distance others from to ≡ p → o ≡ p
+      go None None e f = refl
+      go None (Some n) e f = let (m, is) = distance_where links to n from (leads_same n from to ∙ (distance_some others from to n f).leads) in absurd (none-some m (sym e ∙ is))
+      go (Some m) None e f = let (n, is) = distance_where others to m from (sym (leads_same m from to) ∙ (distance_some links from to m e).leads) in absurd (none-some n (sym f ∙ is))
+      go (Some m) (Some n) e f =
+          let d = distance_some links from to m e in
+          let d' = distance_some others from to n f in
+          ap Some (omega (arith, d.least n (leads_same n from to ∙ d'.leads), d'.least m (sym (leads_same m from to) ∙ d.leads)))
+
+  hop_same : (from to : ℕ) (o : Option ℕ) → hop_at links from to o ≡ hop_at others from to o
+  hop_same from to None = refl
+  hop_same from to (Some zero) = refl
+  hop_same from to (Some (suc m)) = least_same m from to _ _ (least_is (leads_on links m from to) links) (least_is (leads_on others m from to) others)
+
+  pub next_hop_same : (from to : ℕ) → next_hop links from to ≡ next_hop others from to
+  next_hop_same from to = next_hop-at links from to _ (distance_same from to) ∙ hop_same from to (distance others from to) ∙ sym (next_hop-at others from to _ refl)
+
 -- links that begin at one place are one
-one_link : (links : List Link) → StartApart links → (a b : Link) → Contains links a → Contains links b → a.0.switch ≡ b.0.switch → a.0.port ≡ b.0.port → a ≡ b
-one_link links apart a b (j, lj, at) (k, lk, at') s p =
+pub one_link : (links : List Link) → StartApart links → (a b : Link) → Contains links a → Contains links b → a.0 ≡ b.0 → a ≡ b
+one_link links apart a b (j, lj, at) (k, lk, at') e =
     let there : get_or links k a ≡ b = get_or_default links k a b lk ∙ at' in
-    let starts : (get_or links j a).0 ≡ (get_or links k a).0 = ap (λ (x : Link). x.0) at ∙ place_same a.0 b.0 s p ∙ sym (ap (λ (x : Link). x.0) there) in
+    let starts : (get_or links j a).0 ≡ (get_or links k a).0 = ap (λ (x : Link). x.0) at ∙ e ∙ sym (ap (λ (x : Link). x.0) there) in
     ⊎_elim
     (λ e. sym at ∙ ap (λ i. get_or links i a) e ∙ there)
     (λ o. ⊎_elim (λ less. absurd (apart j k a less lk starts)) (λ more. absurd (apart k j a more lj (sym starts))) o)
     (cases_order j k)
 
-module _ (links others : List Link) (are : AreIn links others) (back : AreIn others links) where
-  least_same : (test other : Link → Bool) (from : ℕ) → StartApart others → ((link : Link) → test link ≡ other link) → ((link : Link) → other link ≡ true → link.0.switch ≡ from) → (r s : Option Place) → IsLeast test links r → IsLeast other others s → r ≡ s
-  least_same test other from apart agree begins None None none none' = refl
-  least_same test other from apart agree begins None (Some hop) none ((one, c, passes, is), least) = absurd (both_ways _ (none one (back.all one c)) (agree one ∙ passes))
-  least_same test other from apart agree begins (Some hop) None ((one, c, passes, is), least) none = absurd (both_ways _ (none one (are.all one c)) (sym (agree one) ∙ passes))
-  least_same test other from apart agree begins (Some hop) (Some hop') ((one, c, passes, is), least) ((two, c', passes', is'), least') =
-      let le = least two (back.all two c') (agree two ∙ passes') in
-      let ge = least' one (are.all one c) (sym (agree one) ∙ passes) in
-      let port : one.0.port ≡ two.0.port = omega (arith, le, ge, ap (λ (x : Place). x.port) is, ap (λ (x : Place). x.port) is') in
-      let same = one_link others apart one two (are.all one c) c' (begins one (sym (agree one) ∙ passes) ∙ sym (begins two passes')) port in
-      ap Some (is ∙ ap hop_over same ∙ sym is')
-
-  distance_kept : (from to m : ℕ) → distance links from to ≡ Some m → distance others from to ≡ Some m
-  distance_kept from to m h =
-      let d = distance_some links from to m h in
-      distance_is others from to m (record {
-        leads = leads_kept links others are m from to d.leads;
-        short = omega (arith, d.short, are.long);
-        least = λ n leads. d.least n (leads_kept others links back n from to leads);
-      })
-
-  hop_same : (from to : ℕ) → StartApart others → (o : Option ℕ) → hop_at links from to o ≡ hop_at others from to o
-  hop_same from to apart None = refl
-  hop_same from to apart (Some zero) = refl
-  hop_same from to apart (Some (suc m)) =
-      least_same (leads_on links m from to) (leads_on others m from to) from apart
-      (λ link i. link.0.switch == from && leads_same links others are back m link.1.switch to i)
-      (λ link p. eqb-true _ _ (and_parts (link.0.switch == from) (leads_in others m link.1.switch to) p).0)
-      _ _ (least_is (leads_on links m from to) links) (least_is (leads_on others m from to) others)
-
-pub next_hop_moved : (links others : List Link) → AreIn links others → AreIn others links → StartApart others → (from to : ℕ) → next_hop links from to ≡ next_hop others from to
-next_hop_moved links others are back apart from to = go (distance links from to) (distance others from to) refl refl
-  where
-    go : (o p : Option ℕ) → distance links from to ≡ o → distance others from to ≡ p → next_hop links from to ≡ next_hop others from to
-    go None None e f = next_hop-at links from to None e ∙ sym (next_hop-at others from to None f)
-    go None (Some m) e f = let h = distance_kept others links back are from to m f in cc
-    go (Some m) p e f = next_hop-at links from to (Some m) e ∙ hop_same links others are back from to apart (Some m) ∙ sym (next_hop-at others from to (Some m) (distance_kept links others are back from to m e))
-
 -- a list in another order
-pub moved_in : (links others : List Link) → IsPermutation links others → AreIn links others
-moved_in links others p = record { long = length_permutation links others p; all = λ link c. Contains-permutation links others link p c }
+pub moved_among : (links others : List Link) → IsPermutation links others → StartApart others → AreAmong links others
+moved_among links others p apart = record {
+  all = λ link c. Contains-permutation links others link p c;
+  beside = λ link c. (link, Contains-permutation others links link (IsPermutation-sym links others p) c, itself link);
+  one = one_link others apart;
+}

@@ -1,11 +1,11 @@
 -- A table of next hops between the switches that links name.
-use Rattle.std.specs.Prelude.{◌≡◌, ℕ, ◌≤◌, List, length, All}
+use Rattle.std.specs.Prelude.{◌≡◌, ℕ, ◌≤◌, List, length, None, Contains}
 use Rattle.std.specs.Vec.{vec_capacity}
 use Rattle.topo_paths.specs.Walks.{Link}
 use Rattle.topo_paths.specs.declared.hop_table.HopTable.{HopTable}
 use Rattle.env_cells.specs.Most.{most_switches}
-use Rattle.env_cells.specs.Lists.{IsAmong}
 use Rattle.topo_paths.specs.Graphs.{IsGraph}
+use Rattle.topo_paths.specs.NextHops.{next_hop}
 use Rattle.topo_paths.specs.Rows.{HaveHops}
 
 -- a table has a row for each of 64 places, and room for 64 switches and so many links
@@ -19,11 +19,11 @@ pub record IsSquare (table : HopTable) : Type 0 where
   pub few : length table.switches.items ≤ most_switches
   pub rows : length table.rows.items ≡ most_switches
 
--- a table has the next hops of these links
+-- a table has the next hops of these links, and there are none between other switches
 pub record IsTableOf (links : List Link) (table : HopTable) : Type 0 where
-  pub named : All (IsAmong table.switches.items) links
   pub square : IsSquare table
   pub hops : HaveHops links table.switches.items table.rows.items
+  pub others : (from to : ℕ) → (Contains table.switches.items from × Contains table.switches.items to → ⊥) → next_hop links from to ≡ None
 
 -- links that have next hops, and the table of these
 pub record HasTable (links : List Link) (table : HopTable) : Type 0 where

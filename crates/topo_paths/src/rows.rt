@@ -115,6 +115,7 @@ fn join(
 }
 
 /// The places of a mask that another doesn't have.
+#[tactic(auto, using(crate::proofs::Masks::has_and_not))]
 fn without(mask: u64, other: u64) -> u64
     ensures { (place : ℕ) → place < most_switches → has result place ≡ (has mask place && not (has other place)) }
 {

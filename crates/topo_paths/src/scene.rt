@@ -1,8 +1,10 @@
 // The environment with next hops.
-ghost use Rattle.std.specs.Prelude.{◌≡◌, ◌≤◌, false, length, None, Some, Err, IsTrue, IfOk, OnOk, OnErr};
+ghost use Rattle.std.specs.Prelude.{◌≡◌, ◌≤◌, true, false, length, None, Some, Err, IsTrue, IfOk, OnOk, OnErr};
+ghost use Rattle.std.specs.List.{list_any};
 ghost use Rattle.maple_base.specs.Kinds.{of_kind};
 ghost use Rattle.maple_base.specs.declared.update_refused.UpdateRefused.{UpdateRefused};
 ghost use Rattle.env_cells.specs.declared.updates.UpdateError.TheVariants.{Refused};
+ghost use Rattle.env_cells.specs.declared.updates.Update.TheVariants as updates;
 ghost use Rattle.env_cells.specs.Environment.{nothing_known, knows};
 ghost use Rattle.env_cells.specs.Changes.{applied};
 ghost use Rattle.env_cells.specs.Refusals.{refusal_of, HasRoomForTables};
@@ -10,6 +12,7 @@ ghost use Rattle.env_cells.specs.Most.{most_links};
 ghost use Rattle.env_cells.specs.Lists.{NamesFewSwitches};
 ghost use Rattle.env_cells.specs.Limits.{IsWithinLimits};
 ghost use Rattle.env_cells.specs.Values.{at_or_nothing};
+ghost use Rattle.topo_paths.specs.Beside.{KeepsHops, is_beside};
 ghost use Rattle.topo_paths.specs.Graphs.{IsGraph, RisePorts};
 ghost use Rattle.topo_paths.specs.Scenes.{links_in, cell_in, HopIsShown};
 
@@ -58,6 +61,7 @@ impl Scene {
 
     /// Makes an update, as the environment does. `Tables` declares at most 16 tables. An update that
     /// is refused, or that memory doesn't suffice for, changes nothing.
+    #[tactic(auto, using(crate::proofs::Beside::table_kept))]
     pub fn apply(&mut self, update: &Update) -> Result<(), UpdateError>
         requires tables { HasRoomForTables update.now }
         ensures accepted { OnOk result (refusal_of self.old update.now ≡ None) }
@@ -65,26 +69,46 @@ impl Scene {
         ensures refused { (r : UpdateRefused) → result ≡ Err (Refused r) → refusal_of self.old update.now ≡ Some r }
         ensures unchanged { OnErr result (self.new ≡ self.old) }
     {
-        let moved = self.moves_links(update);
+        let changed = self.changes_hops(update);
         self.env.apply(update)?;
-        if moved {
-            self.table.rebuild(links_of(&self.env));
+        let links = links_of(&self.env);
+        if changed {
+            self.table.rebuild(links);
         }
         Ok(())
     }
 
-    /// Whether the links are others after an update.
-    #[tactic(auto, using(crate::proofs::Graphs::link_there, crate::proofs::Graphs::link_gone))]
-    fn moves_links(&self, update: &Update) -> bool
-        ensures { result ≡ false → links_in (applied self.now update.now) ≡ links_in self.now }
+    /// Whether next hops may be others after an update.
+    #[tactic(auto, using(crate::proofs::Beside::keeps_same))]
+    fn changes_hops(&self, update: &Update) -> bool
+        ensures { result ≡ false → KeepsHops (links_in self.now) (links_in (applied self.now update.now)) }
     {
         match update {
-            Update::Link { from, to } => match self.env.link(*from) {
-                Some(place) => place != *to,
-                None => true,
-            },
-            Update::NoLink { from } => self.env.link(*from).is_some(),
+            Update::Link { from, to } => self.link_changes_hops(*from, *to),
+            Update::NoLink { from } => self.removal_changes_hops(*from),
             _ => false,
+        }
+    }
+
+    /// Whether next hops may be others with a link from the one place to the other.
+    #[tactic(auto, using(crate::proofs::Beside::link_there, crate::proofs::Beside::link_beside))]
+    fn link_changes_hops(&self, from: Place, to: Place) -> bool
+        ensures { result ≡ false → KeepsHops (links_in self.now) (links_in (applied self.now (updates.Link from to))) }
+    {
+        match self.env.link(from) {
+            Some(place) => place != to,
+            None => !has_beside(self.links(), from, to),
+        }
+    }
+
+    /// Whether next hops may be others without the link from a place.
+    #[tactic(auto, using(crate::proofs::Beside::link_gone, crate::proofs::Beside::beside_stays))]
+    fn removal_changes_hops(&self, from: Place) -> bool
+        ensures { result ≡ false → KeepsHops (links_in self.now) (links_in (applied self.now (updates.NoLink from))) }
+    {
+        match self.env.link(from) {
+            Some(to) => !has_beside(self.links(), from, to),
+            None => false,
         }
     }
 
@@ -140,8 +164,32 @@ fn at_or_nothing(place: Option<Place>) -> Value
     }
 }
 
+/// Whether some link leads from the switch of the one place, by a lesser port, to that of the other.
+fn has_beside(links: &[(Place, Place)], from: Place, to: Place) -> bool
+    ensures { result ≡ true → list_any (is_beside from to) links.now ≡ true }
+{
+    let first = links.partition_point(|link| link.0.switch < from.switch);
+    for place in first..links.len() {
+        let link = &links[place];
+        if link.0.switch != from.switch {
+            return false;
+        }
+        if is_beside(link, from, to) {
+            return true;
+        }
+    }
+    false
+}
+
+/// Whether a link leads from the switch of the one place, by a lesser port, to that of the other.
+fn is_beside(link: &(Place, Place), from: Place, to: Place) -> bool
+    ensures { result ≡ is_beside from to link.now }
+{
+    link.0.switch == from.switch && link.0.port < from.port && link.1.switch == to.switch
+}
+
 /// The links of an environment, which rise by port.
-#[tactic(auto, using(crate::proofs::Graphs::rise_by_port))]
+#[tactic(auto, using(crate::proofs::Beside::rise_by_port))]
 fn links_of(env: &Env) -> &[(Place, Place)]
     ensures links { result.now ≡ links_in env.now }
     ensures many { length result.now ≤ most_links }

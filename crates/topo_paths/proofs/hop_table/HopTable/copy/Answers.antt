@@ -1,5 +1,4 @@
-use Rattle.std.proofs.Common.{◌≡◌, ◌++◌, List, ℕ, Option, length, All, sym, ap, ◌∙◌, subst, arith}
-use Rattle.env_cells.specs.Lists.{IsAmong}
+use Rattle.std.proofs.Common.{◌≡◌, ◌++◌, List, ℕ, Option, length, Contains, sym, ap, ◌∙◌, subst, arith}
 use Rattle.maple_base.specs.declared.cells.Place.{Place}
 use Rattle.topo_paths.specs.Rows.{HaveHops}
 use Rattle.topo_paths.proofs.hop_table.HopTable.copy.Goals as goal
@@ -22,7 +21,7 @@ returns-clause-room c =
 pub returns-clause-table : goal.returns-clause-table
 returns-clause-table c = λ list t.
     record {
-      named = subst (λ (x : List ℕ). All (IsAmong x) list) (sym (same_switches c)) t.named;
       square = record { few = omega (arith, t.square.few, ap length (same_switches c)); rows = ap length (same_rows c) ∙ t.square.rows };
       hops = subst (λ (x : List ℕ). HaveHops list x c.in_ok-from_slice.field-0.items) (sym (same_switches c)) (subst (λ (x : List (List (Option Place))). HaveHops list c.args.self.now.switches.items x) (sym (same_rows c)) t.hops);
+      others = λ from to out. t.others from to (λ named. out (subst (λ (x : List ℕ). Contains x from × Contains x to) (sym (same_switches c)) named));
     }

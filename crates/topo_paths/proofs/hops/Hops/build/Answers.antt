@@ -5,7 +5,7 @@ use Rattle.env_cells.specs.Lists.{IsAmong, NamesFewSwitches}
 use Rattle.topo_paths.specs.Walks.{Link}
 use Rattle.topo_paths.specs.Graphs.{RisePorts}
 use Rattle.topo_paths.specs.Tables.{HasTable}
-use Rattle.topo_paths.proofs.Moved.{next_hop_moved, moved_in}
+use Rattle.topo_paths.proofs.Moved.{moved_among, next_hop_same}
 use Rattle.topo_paths.proofs.hops.Hops.build.Goals as goal
 
 pub rebuild-requires-clause-few : goal.rebuild-requires-clause-few
@@ -23,12 +23,13 @@ invariant_of-result c =
     let moved = subst (λ (x : List Link). IsPermutation links x) (sym c.deref.ensures.value) c.in_ok-rising.ensures.moved in
     let back = IsPermutation-sym links lent moved in
     let t = c.rebuild.ensures.table in
+    let same = next_hop_same lent links (moved_among lent links back c.requires.apart) in
     subst (λ (x : List Link). HasTable x c.rebuild.new.self) (sym c.in_ok-links.ensures.items)
     (record {
       graph = c.requires;
       hops = record {
-        named = All-permutation (IsAmong c.rebuild.new.self.switches.items) lent links back t.named;
         square = t.square;
-        hops = λ from to lf lt. t.hops from to lf lt ∙ next_hop_moved lent links (moved_in lent links back) (moved_in links lent moved) c.requires.apart _ _;
+        hops = λ from to lf lt. t.hops from to lf lt ∙ same _ _;
+        others = λ from to out. sym (same from to) ∙ t.others from to out;
       };
     })

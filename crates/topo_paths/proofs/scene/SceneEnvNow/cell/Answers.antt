@@ -6,7 +6,7 @@ use Rattle.env_cells.specs.Values.{at_or_nothing}
 use Rattle.topo_paths.specs.Graphs.{IsGraph}
 use Rattle.topo_paths.specs.NextHops.{next_hop}
 use Rattle.topo_paths.specs.Scenes.{links_in, cell_in, HopIsShown}
-use Rattle.topo_paths.proofs.Shown.{shown}
+use Rattle.topo_paths.proofs.Hopping.{shown}
 use Rattle.topo_paths.proofs.scene.SceneEnvNow.cell.Goals as goal
 
 pub returns-in-Hop : goal.returns-in-Hop
