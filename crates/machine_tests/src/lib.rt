@@ -2,8 +2,12 @@
 #![tactic(auto)]
 
 #[cfg(test)]
+mod hexadecimal;
+#[cfg(test)]
 mod plans;
 #[cfg(test)]
 mod rules;
+#[cfg(test)]
+mod sessions;
 #[cfg(test)]
 mod targets;

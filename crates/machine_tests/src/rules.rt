@@ -69,7 +69,8 @@ fn actions_of(text: &str) -> Result<Actions, Fail> {
     }
 }
 
-fn number(word: &str) -> Result<u16, Fail> {
+/// A number of 16 bits.
+pub fn number(word: &str) -> Result<u16, Fail> {
     match value_of(word.as_bytes()) {
         Some(number) => Ok(u16::try_from(number)?),
         None => Err(Fail::from(word)),

@@ -1,10 +1,15 @@
 // Lists of rules that a plan may lead from and to.
 ghost use Rattle.std.specs.Prelude.{◌≡◌, IfOk};
+ghost use Rattle.std.specs.List.{list_all};
+ghost use Rattle.maple_base.specs.declared.decision.Rule.{Rule};
+ghost use Rattle.maple_base.specs.Keys.{match_normal};
+ghost use Rattle.switch_session.specs.Parts.{IsList};
 ghost use Rattle.flow_table.specs.Effects.{is_at, has_at};
-ghost use Rattle.update_plan.specs.Batches.{IsTarget};
+ghost use Rattle.update_plan.specs.Batches.{IsTarget, rules_of};
 ghost use Rattle.update_plan.specs.Lookups.{is_barrier};
 ghost use Rattle.machine_tests.specs.Targets.{are_distinct, are_facts, is_plain_barrier, are_barriers, is_target};
 
+use crate::rules::list_of;
 use maple_base::{CONTROLLER_PORT, Match, Rule, RuleList};
 use std::alloc::{AllocError, Global};
 use std::test::Fail;
@@ -84,4 +89,30 @@ fn is_barrier(rule: &Rule) -> bool
     ensures { result ≡ is_barrier rule.now }
 {
     rule.actions.items() == [CONTROLLER_PORT].as_slice()
+}
+
+/// The list of these rules, where a session for a switch with room for so many may be led to it.
+pub fn session_list(alloc: Global, text: &str, capacity: u32) -> Result<RuleList, Fail>
+    ensures { IfOk result (λ list. IsList capacity list) }
+{
+    let list = list_of(alloc, text, capacity)?;
+    if is_normal(alloc, &list)? {
+        Ok(list)
+    } else {
+        Err(Fail::from("a match that isn't normal"))
+    }
+}
+
+fn is_normal(alloc: Global, list: &RuleList) -> Result<bool, AllocError>
+    ensures { IfOk result (λ answer. answer ≡ list_all (λ (r : Rule). match_normal r.of) (rules_of list.now)) }
+{
+    let mut all = Vec::from_slice(alloc, list.facts())?;
+    all.extend_from_slice(list.barriers())?;
+    Ok(are_normal(&all))
+}
+
+fn are_normal(rules: &[Rule]) -> bool
+    ensures { result ≡ list_all (λ (r : Rule). match_normal r.of) rules.now }
+{
+    rules.iter().all(|rule| rule.of.is_normal())
 }

@@ -1,0 +1,3 @@
+pub mod Echoes
+pub mod Planned
+pub mod Walks
