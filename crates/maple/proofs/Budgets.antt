@@ -1,45 +1,117 @@
--- The budget of a command is within its limits.
-use Rattle.std.proofs.Common.{◌≡◌, ℕ, true, false, cond, List, [], ◌∷◌, length, Option, Some, None, sym, ◌∙◌, subst, ⊎_elim, arith}
-use Rattle.std.specs.Prelude.{◌&&◌, nat_le, IfSome, codes}
+-- The settings of a command are in their ranges.
+use Rattle.std.proofs.Common.{◌≡◌, ℕ, ◌≤◌, true, false, cond, Bool, List, [], ◌∷◌, length, Option, Some, None, refl, sym, ◌∙◌, subst, ⊎_elim, arith}
+use Rattle.std.specs.Prelude.{◌&&◌, nat_le, IfSome, unwrap_or, codes}
 use Rattle.std.specs.Option.{option_and_then, option_map}
 use Rattle.std.specs.Str.{bytes_eq}
 use Rattle.std.proofs.lemmas.Bool.{cases_Bool}
 use Rattle.std.proofs.lemmas.Bool.Decides.{nat_tests}
-use Rattle.policy_lang.proofs.Courses.{both as both_true}
 use Rattle.maple_text.specs.Numbers.{number_of}
-use Rattle.policy_eval.specs.Answers.{IsBudget}
 use Rattle.maple.specs.declared.words.Command.{Command}
 use Rattle.maple.specs.declared.words.Command.TheVariants.{Sim, Check}
+use Rattle.maple.specs.declared.words.Setting.{Setting}
+use Rattle.maple.specs.declared.words.Setting.TheVariants.{Budget, Capacity, Levels}
+use Rattle.maple.specs.declared.words.Chosen.{Chosen}
 use Rattle.maple.specs.Due.{AreWords}
-use Rattle.maple.specs.Words.{within_budget, budget_value, behind_text, options_budget, check_alone, command_of, IsCommand}
+use Rattle.maple.specs.Words.{within, value_of, once, with_setting, setting_given, setting_named, options, option_last, option_first, none_chosen, settings_of, check_alone, command_of, IsCommand}
 
-within : (n : ℕ) → IfSome (within_budget n) IsBudget
-within n =
+both_true : (a b : Bool) → (a && b) ≡ true → (a ≡ true) × (b ≡ true)
+both_true true b h = (refl, h)
+both_true false b h = absurd (cc)
+
+-- a number from 1 to this
+record InRange (most n : ℕ) : Type 0 where
+  some : 1 ≤ n
+  few : n ≤ most
+
+abbrev IsIn : ℕ → Option ℕ → Type 0
+IsIn most o = IfSome o (λ n. InRange most n)
+
+-- what was chosen is in its range
+record AreIn (c : Chosen) : Type 0 where
+  budget : IsIn 65536 c.budget
+  capacity : IsIn 65535 c.capacity
+  levels : IsIn 65000 c.levels
+
+in_within : (most n : ℕ) → IsIn most (within most n)
+in_within most n =
     ⊎_elim
-    (λ t. let b = both_true (nat_le 1 n) (nat_le n 65536) t in subst (λ v. IfSome (cond v (Some n) None) IsBudget) (sym t) (record { some = let h = b.0 in grind (arith, nat_tests); few = let h = b.1 in grind (arith, nat_tests) }))
-    (λ f. subst (λ v. IfSome (cond v (Some n) None) IsBudget) (sym f) tt)
-    (cases_Bool (nat_le 1 n && nat_le n 65536))
+    (λ t. let b = both_true (nat_le 1 n) (nat_le n most) t in subst (λ v. IsIn most (cond v (Some n) None)) (sym t) (record { some = let h = b.0 in grind (arith, nat_tests); few = let h = b.1 in grind (arith, nat_tests) }))
+    (λ f. subst (λ v. IsIn most (cond v (Some n) None)) (sym f) tt)
+    (cases_Bool (nat_le 1 n && nat_le n most))
 
-of_number : (o : Option ℕ) → IfSome (option_and_then within_budget o) IsBudget
-of_number None = tt
-of_number (Some n) = within n
+of_number : (most : ℕ) (o : Option ℕ) → IsIn most (option_and_then (within most) o)
+of_number most None = tt
+of_number most (Some n) = in_within most n
 
-of_value : (word : List ℕ) → IfSome (budget_value word) IsBudget
-of_value word = elim (nat_le (length word) 20) as (λ v. IfSome (cond v (option_and_then within_budget (number_of word)) None) IsBudget) [ true ↦ of_number (number_of word) | false ↦ tt ]
+of_value : (most : ℕ) (word : List ℕ) → IsIn most (value_of most word)
+of_value most word = elim (nat_le (length word) 20) as (λ v. IsIn most (cond v (option_and_then (within most) (number_of word)) None)) [ true ↦ of_number most (number_of word) | false ↦ tt ]
 
-of_rest : (o : Option (List ℕ)) → IfSome (option_and_then budget_value o) IsBudget
-of_rest None = tt
-of_rest (Some word) = of_value word
+of_once : (most : ℕ) (old new : Option ℕ) → IsIn most new → IsIn most (once old new)
+of_once most None new h = h
+of_once most (Some n) new h = tt
 
-of_options : (ws : List (List ℕ)) → IfSome (options_budget ws) IsBudget
-of_options [] = record { some = omega arith; few = omega arith }
-of_options (w ∷ []) = of_rest (behind_text (codes "--budget=") w)
-of_options (w ∷ value ∷ []) = elim (bytes_eq w (codes "--budget")) as (λ v. IfSome (cond v (budget_value value) None) IsBudget) [ true ↦ of_value value | false ↦ tt ]
-of_options (w ∷ value ∷ v ∷ ws) = tt
+of_setting : (s : Setting) (value : List ℕ) (c : Chosen) → AreIn c → IfSome (with_setting s value c) AreIn
+of_setting Budget value c h = put (once c.budget (value_of 65536 value)) (of_once 65536 c.budget (value_of 65536 value) (of_value 65536 value))
+  where
+    put : (o : Option ℕ) → IsIn 65536 o → IfSome (option_map (λ n. record { budget = Some n; capacity = c.capacity; levels = c.levels }) o) AreIn
+    put None i = tt
+    put (Some n) i = record { budget = i; capacity = h.capacity; levels = h.levels }
+of_setting Capacity value c h = put (once c.capacity (value_of 65535 value)) (of_once 65535 c.capacity (value_of 65535 value) (of_value 65535 value))
+  where
+    put : (o : Option ℕ) → IsIn 65535 o → IfSome (option_map (λ n. record { budget = c.budget; capacity = Some n; levels = c.levels }) o) AreIn
+    put None i = tt
+    put (Some n) i = record { budget = h.budget; capacity = i; levels = h.levels }
+of_setting Levels value c h = put (once c.levels (value_of 65000 value)) (of_once 65000 c.levels (value_of 65000 value) (of_value 65000 value))
+  where
+    put : (o : Option ℕ) → IsIn 65000 o → IfSome (option_map (λ n. record { budget = c.budget; capacity = c.capacity; levels = Some n }) o) AreIn
+    put None i = tt
+    put (Some n) i = record { budget = h.budget; capacity = h.capacity; levels = i }
 
-of_sim : (o : Option ℕ) → IfSome o IsBudget → IfSome (option_map Sim o) IsCommand
+then_in : (o : Option Chosen) (next : Chosen → Option Chosen) → IfSome o AreIn → ((d : Chosen) → AreIn d → IfSome (next d) AreIn) → IfSome (option_and_then next o) AreIn
+then_in None next h f = tt
+then_in (Some d) next h f = f d h
+
+of_last : (o : Option (Setting × List ℕ)) (c : Chosen) → AreIn c → IfSome (option_last o c) AreIn
+of_last (Some (s, value)) c h = of_setting s value c h
+of_last None c h = tt
+
+of_first : (o : Option (Setting × List ℕ)) (name : Option Setting) (word : List ℕ) (c : Chosen) (one two : Chosen → Option Chosen) → ((d : Chosen) → AreIn d → IfSome (one d) AreIn) → ((d : Chosen) → AreIn d → IfSome (two d) AreIn) → AreIn c → IfSome (option_first o name word c one two) AreIn
+of_first (Some (s, value)) name word c one two f g h = then_in (with_setting s value c) one (of_setting s value c h) f
+of_first None (Some s) word c one two f g h = then_in (with_setting s word c) two (of_setting s word c h) g
+of_first None None word c one two f g h = tt
+
+of_options : (ws : List (List ℕ)) (c : Chosen) → AreIn c → IfSome (options ws c) AreIn
+of_options [] c h = h
+of_options (w ∷ []) c h = of_last (setting_given w) c h
+of_options (w ∷ v ∷ ws) c h = of_first (setting_given w) (setting_named w) v c (options (v ∷ ws)) (options ws) (λ d i. of_options (v ∷ ws) d i) (λ d i. of_options ws d i) h
+
+of_chosen : (c : Chosen) → AreIn c → IsCommand (Sim (settings_of c))
+of_chosen c h =
+    record {
+      budget = record { some = budget_some c.budget h.budget; few = budget_few c.budget h.budget };
+      capacity = capacity_few c.capacity h.capacity;
+      levels = levels_few c.levels h.levels;
+    }
+  where
+    budget_some : (o : Option ℕ) → IsIn 65536 o → 1 ≤ unwrap_or o 4096
+    budget_some None h = omega arith
+    budget_some (Some n) h = h.some
+
+    budget_few : (o : Option ℕ) → IsIn 65536 o → unwrap_or o 4096 ≤ 65536
+    budget_few None h = omega arith
+    budget_few (Some n) h = h.few
+
+    capacity_few : (o : Option ℕ) → IsIn 65535 o → unwrap_or o 1024 ≤ 65535
+    capacity_few None h = omega arith
+    capacity_few (Some n) h = h.few
+
+    levels_few : (o : Option ℕ) → IsIn 65000 o → unwrap_or o 32768 ≤ 65000
+    levels_few None h = omega arith
+    levels_few (Some n) h = h.few
+
+of_sim : (o : Option Chosen) → IfSome o AreIn → IfSome (option_map (λ c. Sim (settings_of c)) o) IsCommand
 of_sim None h = tt
-of_sim (Some n) h = h
+of_sim (Some c) h = of_chosen c h
 
 of_check : (ws : List (List ℕ)) → IfSome (check_alone ws) IsCommand
 of_check [] = tt
@@ -48,8 +120,8 @@ of_check (w ∷ ws) = tt
 of_words : (ws : List (List ℕ)) → IfSome (command_of ws) IsCommand
 of_words [] = tt
 of_words (w ∷ ws) =
-    elim (bytes_eq w (codes "sim")) as (λ v. IfSome (cond v (option_map Sim (options_budget ws)) (cond (bytes_eq w (codes "check")) (check_alone ws) None)) IsCommand) [
-      | true ↦ of_sim (options_budget ws) (of_options ws)
+    elim (bytes_eq w (codes "sim")) as (λ v. IfSome (cond v (option_map (λ c. Sim (settings_of c)) (options ws none_chosen)) (cond (bytes_eq w (codes "check")) (check_alone ws) None)) IsCommand) [
+      | true ↦ of_sim (options ws none_chosen) (of_options ws none_chosen (record { budget = tt; capacity = tt; levels = tt }))
       | false ↦ elim (bytes_eq w (codes "check")) as (λ v. IfSome (cond v (check_alone ws) None) IsCommand) [ true ↦ of_check ws | false ↦ tt ]
     ]
 

@@ -1,11 +1,10 @@
 pub mod Budgets
-pub mod Choosings
 pub mod Commands
 pub mod Endings
 pub mod FirstLines
 pub mod Known
-pub mod Learnings
 pub mod Marks
+pub mod OptionWords
 pub mod Pieces
 pub mod Prefixes
 pub mod Runs

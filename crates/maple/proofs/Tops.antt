@@ -31,9 +31,9 @@ given_is old new due text TooLong h e = e
 
 -- what a run of a text that ended with its own status is due and wrote
 abbrev pub RanAs : List (List ℕ) → Command → SinkView → SinkView → List ℕ → Status → Type 0
-RanAs words command old new input PolicyRefused = HasNone command input × Refuses words old new input
-RanAs words command old new input Script = ((policy : Policy) × HasPolicy command policy input) × Reports words old new input × IsNoScript command input
-RanAs words command old new input Done = ((policy : Policy) × HasPolicy command policy input) × Reports words old new input × IsScript command input
+RanAs words command old new input PolicyRefused = HasNone input × Refuses words old new input
+RanAs words command old new input Script = ((policy : Policy) × HasPolicy policy input) × Reports words old new input × IsNoScript command input
+RanAs words command old new input Done = ((policy : Policy) × HasPolicy policy input) × Reports words old new input × IsScript command input
 RanAs words command old new input s = ⊥
 
 pub ran_as : (words : List (List ℕ)) (command : Command) → HasCommand command words → (old new : SinkView) (input : List ℕ) (s : Status) → IsGiven s → RunsText old new command input s → RanAs words command old new input s
@@ -125,8 +125,8 @@ module _ (before after : SourceView) (old new : SinkView) (words : List (List �
   one_command : (c d : Command) → HasCommand c words → HasCommand d words → c ≡ d
   one_command c d h g = let both = sym h ∙ g in cc
 
-  none_has : (c d : Command) (bytes : List ℕ) → HasCommand c words → HasCommand d words → HasNone c bytes → (policy : Policy) → HasPolicy d policy bytes → ⊥
-  none_has c d bytes h g n policy has = n policy (subst (λ k. HasPolicy k policy bytes) (one_command d c g h) has)
+  none_has : (c d : Command) (bytes : List ℕ) → HasCommand c words → HasCommand d words → HasNone bytes → (policy : Policy) → HasPolicy policy bytes → ⊥
+  none_has c d bytes h g n policy has = n policy has
 
   one_script : (c d : Command) (bytes : List ℕ) → HasCommand c words → HasCommand d words → IsScript c bytes → IsNoScript d bytes → ⊥
   one_script c d bytes h g none (r, some) = let both = sym (subst (λ k. refused k bytes ≡ None) (one_command c d h g) none) ∙ some in cc
@@ -181,7 +181,7 @@ module _ (before after : SourceView) (old new : SinkView) (words : List (List �
   in_front : (bytes : List ℕ) (status : Status) (text : List ℕ) → IsText (ReadFailed before after) status words bytes text → WroteFront old new text → WritesSome (ReadFailed before after) words bytes old new
   in_front bytes status text t (front, is, a) = (front, (status, text, t, is), a)
 
-  report_written : (bytes : List ℕ) (policy : Policy) (command : Command) → HasCommand command words → IsFit bytes → HasPolicy command policy bytes
+  report_written : (bytes : List ℕ) (policy : Policy) (command : Command) → HasCommand command words → IsFit bytes → HasPolicy policy bytes
       → (o : Option (ℕ × ScriptRefusal)) → refused command bytes ≡ o → IsText (ReadFailed before after) (due_of o) words bytes (report_text policy command bytes)
   report_written bytes policy command w f h None e = ((f, command, w, (policy, h), e), (command, w, policy, h, refl))
   report_written bytes policy command w f h (Some r) e = ((f, command, w, (policy, h), (r, e)), (command, w, policy, h, refl))

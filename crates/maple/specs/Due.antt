@@ -3,7 +3,7 @@ use Rattle.std.specs.Prelude.{◌≡◌, ◌⊎◌, ℕ, ◌<◌, ◌≤◌, tru
 use Rattle.maple_io.specs.Views.{SourceView, SinkView, ReadFailed, NoReadFailed, Gave, Wrote}
 use Rattle.policy_lang.specs.declared.Policy.{Policy}
 use Rattle.policy_lang.specs.PolicyTree.{policy_tree}
-use Rattle.policy_text.specs.Basic.{is_basic}
+use Rattle.plain_world.specs.Bounding.{bounds_of}
 use Rattle.maple.specs.declared.status.Status.{Status}
 use Rattle.maple.specs.declared.status.Status.TheVariants.{Done, Usage, Policy as PolicyRefused, Script, ReadFault, WriteFault, NoMemory, TooLong}
 use Rattle.maple.specs.declared.words.Command.{Command}
@@ -17,7 +17,7 @@ use Rattle.report_text.specs.declared.line.Line.{Line}
 use Rattle.report_text.specs.declared.line.ScriptRefusal.{ScriptRefusal}
 use Rattle.report_text.specs.Report.{spelled}
 use Rattle.maple.specs.Refusals.{IsRefusal}
-use Rattle.maple.specs.Running.{told_of}
+use Rattle.maple.specs.Running.{told_of_run}
 use Rattle.maple.specs.Statuses.{last_line}
 use Rattle.maple.specs.Steps.{refused_from}
 use Rattle.maple.specs.Words.{command_of}
@@ -46,22 +46,17 @@ ReadOver before after = (bytes : List ℕ) × (most_bytes < length bytes) × Gav
 abbrev pub IsFit : List ℕ → Type 0
 IsFit input = length input ≤ most_bytes
 
--- the command takes this policy: `check` each, and `sim` each that is basic
-abbrev pub Takes : Command → Policy → Type 0
-Takes (Sim budget) policy = is_basic (policy_tree policy) ≡ true
-Takes Check policy = Unit {0}
+-- the input begins with the text of this policy
+abbrev pub HasPolicy : Policy → List ℕ → Type 0
+HasPolicy policy input = IsTextOf policy (policy_part input)
 
--- the input begins with the text of this policy, which the command takes
-abbrev pub HasPolicy : Command → Policy → List ℕ → Type 0
-HasPolicy command policy input = IsTextOf policy (policy_part input) × Takes command policy
-
--- the command finds no policy in the input
-abbrev pub HasNone : Command → List ℕ → Type 0
-HasNone command input = (policy : Policy) → ¬ (HasPolicy command policy input)
+-- it begins with the text of none
+abbrev pub HasNone : List ℕ → Type 0
+HasNone input = (policy : Policy) → ¬ (HasPolicy policy input)
 
 -- the number of the first refused line of the script among the lines of the input, and why it is refused; `check` looks at no script
 abbrev pub refused : Command → List ℕ → Option (ℕ × ScriptRefusal)
-refused (Sim budget) input = refused_from (first_number input) (script_lines input)
+refused (Sim settings) input = refused_from (first_number input) (script_lines input)
 refused Check input = None
 
 -- no line of the script is refused
@@ -72,18 +67,18 @@ IsScript command input = refused command input ≡ None
 abbrev pub IsNoScript : Command → List ℕ → Type 0
 IsNoScript command input = (r : ℕ × ScriptRefusal) × (refused command input ≡ Some r)
 
--- what a command writes of a policy. `sim`: the report of the script ahead of its first refused line, in at most so many steps a packet, and the last line, that of the refusal or of a run that is done. `check`: the policy's printed form
+-- what a command writes of a policy. `sim`: the report of the script ahead of its first refused line, within these settings, and the last line, that of the refusal or of a run that is done. `check`: the policy's printed form
 abbrev pub report_text : Policy → Command → List ℕ → List ℕ
-report_text policy (Sim budget) input = told_of policy budget [] (first_number input) (script_lines input)
+report_text policy (Sim settings) input = told_of_run (policy_tree policy) (bounds_of settings) (first_number input) (script_lines input)
 report_text policy Check input = policy_text policy
 
 -- the status that these words and this input are due where no device fails and memory is left: words first, then length, policy and script
 abbrev pub IsDue : Status → List (List ℕ) → List ℕ → Type 0
 IsDue Usage words input = ¬ (AreWords words)
 IsDue TooLong words input = AreWords words × (most_bytes < length input)
-IsDue PolicyRefused words input = IsFit input × (command : Command) × HasCommand command words × HasNone command input
-IsDue Script words input = IsFit input × (command : Command) × HasCommand command words × ((policy : Policy) × HasPolicy command policy input) × IsNoScript command input
-IsDue Done words input = IsFit input × (command : Command) × HasCommand command words × ((policy : Policy) × HasPolicy command policy input) × IsScript command input
+IsDue PolicyRefused words input = IsFit input × (command : Command) × HasCommand command words × HasNone input
+IsDue Script words input = IsFit input × (command : Command) × HasCommand command words × ((policy : Policy) × HasPolicy policy input) × IsNoScript command input
+IsDue Done words input = IsFit input × (command : Command) × HasCommand command words × ((policy : Policy) × HasPolicy policy input) × IsScript command input
 IsDue ReadFault words input = ⊥
 IsDue WriteFault words input = ⊥
 IsDue NoMemory words input = ⊥
@@ -98,11 +93,11 @@ IsOrUnwritten status result = (result ≡ status) ⊎ ((result ≡ WriteFault) �
 
 -- the text is what the words' command writes of the input's policy
 abbrev pub IsReport : List (List ℕ) → List ℕ → List ℕ → Type 0
-IsReport words input text = (command : Command) × HasCommand command words × (policy : Policy) × HasPolicy command policy input × (text ≡ report_text policy command input)
+IsReport words input text = (command : Command) × HasCommand command words × (policy : Policy) × HasPolicy policy input × (text ≡ report_text policy command input)
 
 -- the text is the line by which the words' command refuses the input's policy
 abbrev pub IsRefusalText : List (List ℕ) → List ℕ → List ℕ → Type 0
-IsRefusalText words input text = (command : Command) × HasCommand command words × (l : Line) × IsRefusal command (policy_part input) l × (text ≡ spelled l)
+IsRefusalText words input text = (command : Command) × HasCommand command words × (l : Line) × IsRefusal (policy_part input) l × (text ≡ spelled l)
 
 -- what is written by a run that ends with this status, where `unread` says that a read failed
 abbrev pub IsText : Type 0 → Status → List (List ℕ) → List ℕ → List ℕ → Type 0

@@ -1,36 +1,25 @@
 -- The ways in which a run of the program goes.
-use Rattle.std.specs.Prelude.{◌≡◌, ◌⊎◌, ℕ, ◌<◌, true, false, List, [], length, Option, IfSome}
+use Rattle.std.specs.Prelude.{◌≡◌, ◌⊎◌, ℕ, ◌<◌, List, [], length, Option, IfSome}
 use Rattle.std.specs.Io.KnownBytes.{IsAtEnd}
 use Rattle.maple_io.specs.Views.{SourceView, SinkView, ReadFailed, Wrote}
 use Rattle.policy_lang.specs.declared.Policy.{Policy}
-use Rattle.policy_lang.specs.PolicyTree.{policy_tree}
-use Rattle.policy_text.specs.Basic.{is_basic}
 use Rattle.maple.specs.declared.status.Status.{Status}
 use Rattle.maple.specs.declared.status.Status.TheVariants.{Usage, Policy as PolicyRefused, ReadFault, NoMemory, TooLong}
 use Rattle.maple.specs.declared.words.Command.{Command}
 use Rattle.report_text.specs.declared.line.Line.{Line}
-use Rattle.report_text.specs.declared.line.Line.TheVariants.{RefusedPolicy}
-use Rattle.report_text.specs.declared.line.PolicyRefusal.TheVariants.{Later}
 use Rattle.report_text.specs.Report.{spelled}
 use Rattle.maple.specs.Due.{HasCommand, AreWords, most_bytes, IsFit, HasPolicy, HasNone, refused, report_text}
 use Rattle.maple.specs.Ends.{Ends}
 use Rattle.maple.specs.Lines.{policy_part}
 use Rattle.maple.specs.Refusals.{IsRefusal}
-use Rattle.maple.specs.Running.{due_of, told_of}
-use Rattle.maple.specs.Steps.{refused_from}
+use Rattle.maple.specs.Running.{due_of}
 use Rattle.maple.specs.Statuses.{last_line}
 
--- a script, whose first line has this number, runs under a basic policy, and another policy is refused
-abbrev pub Sims : SinkView → SinkView → Policy → ℕ → ℕ → List (List ℕ) → Status → Type 0
-Sims old new policy budget first lines result =
-    ((is_basic (policy_tree policy) ≡ true) × Ends old new (due_of (refused_from first lines)) (told_of policy budget [] first lines) result)
-    ⊎ ((is_basic (policy_tree policy) ≡ false) × Ends old new PolicyRefused (spelled (RefusedPolicy 1 1 Later)) result)
-
--- an input that was read runs by its policy, has none that the command takes, or finds no memory for it
+-- an input that was read runs by its policy, has none, or finds no memory for it
 abbrev pub RunsText : SinkView → SinkView → Command → List ℕ → Status → Type 0
 RunsText old new command input result =
-    ((policy : Policy) × HasPolicy command policy input × Ends old new (due_of (refused command input)) (report_text policy command input) result)
-    ⊎ ((HasNone command input × (l : Line) × IsRefusal command (policy_part input) l × Ends old new PolicyRefused (spelled l) result) ⊎ ((result ≡ NoMemory) × Wrote old new []))
+    ((policy : Policy) × HasPolicy policy input × Ends old new (due_of (refused command input)) (report_text policy command input) result)
+    ⊎ ((HasNone input × (l : Line) × IsRefusal (policy_part input) l × Ends old new PolicyRefused (spelled l) result) ⊎ ((result ≡ NoMemory) × Wrote old new []))
 
 -- a run whose words are refused, whose input can't be read, is too long or finds no memory, or which runs the input that was read
 pub data IsRunOf (before after : SourceView) (old new : SinkView) (words : List (List ℕ)) (result : Status) : Type 0 where

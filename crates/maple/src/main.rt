@@ -1,9 +1,12 @@
 //! Maple, an SDN controller for OpenFlow 1.0 switches.
 #![tactic(auto)]
 
-pub mod choosing;
+#[cfg(test)]
+mod change_rows;
 #[cfg(test)]
 mod example_rows;
+#[cfg(test)]
+mod fault_rows;
 pub mod finish;
 pub mod input;
 pub mod lines;
@@ -18,7 +21,6 @@ pub mod step;
 mod tests;
 pub mod top;
 pub mod words;
-pub mod world;
 
 use maple_base::{Bytes, NoMemory, Words};
 use maple_io::{ReadSource, WriteSink};

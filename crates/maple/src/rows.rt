@@ -26,8 +26,6 @@ pub enum Row {
     Decision(&'static str, &'static str),
     /// A policy that `sim` and `check` refuse, and where and why.
     Refused(&'static str, &'static str),
-    /// A policy that `sim` doesn't run yet, and what `check` prints of it.
-    Later(&'static str, &'static str),
     /// A policy, and what `check` prints of it, and of what it printed.
     Form(&'static str, &'static str),
     /// The same of a condition of an `if`.
@@ -44,6 +42,10 @@ pub enum Row {
     Malformed(&'static str, u8),
     /// So many tests that are all false, and the output of two packets.
     FalseTests(u32, &'static str),
+    /// So many rounds of an update and ten packets.
+    Rounds(u32),
+    /// One link more than may be known.
+    Links,
     /// An input whose second part comes so many times, the output and the status.
     Repeated(&'static str, &'static str, u32, &'static str, &'static str, u8),
     /// An input without an end.
@@ -82,17 +84,22 @@ pub fn whole_runs() -> &'static [Row] {
 
 const COMMAND_LINES: &[Row] = &[
     // A miss, an answer and hits.
-    Row::Run(&["sim"], "policy { drop; }", "end\n", DONE),
+    Row::Run(
+        &["sim"],
+        "policy { drop; }",
+        "state 1 pruned 0\nend\n",
+        DONE,
+    ),
     Row::Run(
         &["sim"],
         "policy { out 2; }\n%%\npacket 1 1\npacket 1 1\n",
-        "miss c1 1 0\nanswer s1 1 out 2 learned\nhit c1 1 out 2\nend\n",
+        "state 1 pruned 0\nmiss c1 1 0\nanswer s1 1 out 2 learned\nhit c1 1 out 2\nend\n",
         DONE,
     ),
     Row::Run(
         &["sim"],
         "policy { drop; }\n%%\npacket 1 007 tp_dst=80\npacket 1 65535 dl_type=2054",
-        "miss c1 7 0\nanswer s1 7 drop learned\nhit c1 65535 drop\nend\n",
+        "state 1 pruned 0\nmiss c1 7 0\nanswer s1 7 drop learned\nhit c1 65535 drop\nend\n",
         DONE,
     ),
     Row::Run(&["sim"], "", "refused policy 1:1 Syntax\n", POLICY),
@@ -127,6 +134,21 @@ const COMMAND_LINES: &[Row] = &[
     Row::Usage(&["sim", "-budget", "4"]),
     Row::Usage(&["sim", "4"]),
     Row::Usage(&["--budget", "4", "sim"]),
+    Row::Usage(&["sim", "--budget=4", "--budget=4"]),
+    Row::Usage(&["sim", "--budget=4", "--budget", "4"]),
+    Row::Usage(&["sim", "--capacity"]),
+    Row::Usage(&["sim", "--capacity="]),
+    Row::Usage(&["sim", "--capacity", "0"]),
+    Row::Usage(&["sim", "--capacity=65536"]),
+    Row::Usage(&["sim", "--capacity", "4", "--capacity=4"]),
+    Row::Usage(&["sim", "--levels"]),
+    Row::Usage(&["sim", "--levels", "--capacity=4"]),
+    Row::Usage(&["sim", "--levels=0"]),
+    Row::Usage(&["sim", "--levels", "65001"]),
+    Row::Usage(&["sim", "--levels=4", "--capacity=4", "--levels=4"]),
+    Row::Usage(&["sim", "--level=4"]),
+    Row::Usage(&["check", "--levels=4"]),
+    Row::Usage(&["--capacity=4", "sim"]),
     // Budgets: a packet to port 80 takes 5 steps, and one to port 22 takes 4.
     Row::Run(&["sim", "--budget", "4"], TO_PORT_80, SPENT, DONE),
     Row::Run(&["sim", "--budget=4"], TO_PORT_80, SPENT, DONE),
@@ -153,7 +175,8 @@ packet 1 1 tp_dst=22
 packet 1 9 tp_dst=80
 packet 1 1 tp_dst=22
 ",
-        "miss c1 1 0
+        "state 1 pruned 0
+miss c1 1 0
 spent s1 1
 miss c1 1 0
 spent s1 1
@@ -201,36 +224,36 @@ const SCRIPT_LINES: &[Row] = &[
     Row::Line("unplug 2", "Later"),
     Row::Line("turn 1 1", "Later"),
     Row::Line("settle", "Later"),
-    Row::Line("host 1 1 1", "Later"),
-    Row::Line("nohost 1", "Later"),
-    Row::Line("link 1 1 2 1", "Later"),
-    Row::Line("nolink 1 1", "Later"),
-    Row::Line("set t 1 2", "Later"),
-    Row::Line("unset t 1", "Later"),
     Row::Line("newpolicy", "Later"),
     Row::Line("rules 1", "Later"),
-    Row::Line("quit", "Later"),
     // A line of 8,192 bytes, and one of a byte more.
-    Row::Repeated("policy { drop; }\n%%\n#", "x", 8191, "\n", "end\n", DONE),
+    Row::Repeated(
+        "policy { drop; }\n%%\n#",
+        "x",
+        8191,
+        "\n",
+        "state 1 pruned 0\nend\n",
+        DONE,
+    ),
     Row::Repeated(
         "policy { out 2; }\n%%\npacket 1 1\n#",
         "x",
         8192,
         "\npacket 1 1\n",
-        "miss c1 1 0\nanswer s1 1 out 2 learned\nrefused script 4 TooLong\n",
+        "state 1 pruned 0\nmiss c1 1 0\nanswer s1 1 out 2 learned\nrefused script 4 TooLong\n",
         SCRIPT,
     ),
     // The lines of the policy, its end, empty lines and comments have numbers too.
     Row::Run(
         &["sim"],
         "policy {\n out 2;\n}\n%%\n\n# a comment\npacket 1 1\nfly 1\nfly 2",
-        "miss c1 1 0\nanswer s1 1 out 2 learned\nrefused script 8 Grammar\n",
+        "state 1 pruned 0\nmiss c1 1 0\nanswer s1 1 out 2 learned\nrefused script 8 Grammar\n",
         SCRIPT,
     ),
     Row::Run(
         &["sim"],
         "policy { drop; }\n%%\nfly 1",
-        "refused script 3 Grammar\n",
+        "state 1 pruned 0\nrefused script 3 Grammar\n",
         SCRIPT,
     ),
     // A first fragment of a TCP packet to port 22, which has no ports, and the same packet whole.
@@ -240,7 +263,7 @@ const SCRIPT_LINES: &[Row] = &[
 %%
 frame 1 1 02000000000202000000000108004500002800002000400600000a0000010a00000204d20016
 ",
-        "miss c1 1 0\nanswer s1 1 out 2 learned\nend\n",
+        "state 1 pruned 0\nmiss c1 1 0\nanswer s1 1 out 2 learned\nend\n",
         DONE,
     ),
     Row::Run(
@@ -250,7 +273,7 @@ frame 1 1 02000000000202000000000108004500002800002000400600000a0000010a00000204
 frame 1 1 02000000000202000000000108004500002800000000400600000a0000010a00000204d20016
 packet 1 1 dl_dst=02:00:00:00:00:02 tp_dst=22
 ",
-        "miss c1 1 0\nanswer s1 1 drop learned\nhit c1 1 drop\nend\n",
+        "state 1 pruned 0\nmiss c1 1 0\nanswer s1 1 drop learned\nhit c1 1 drop\nend\n",
         DONE,
     ),
     // A frame cut short in each header.
@@ -301,37 +324,47 @@ const POLICIES: &[Row] = &[
     Row::Refused("# policy { drop; }", "1:19 Syntax"),
     Row::Refused("%%\npolicy { drop; }", "1:1 Syntax"),
     Row::Refused("table t;\ntable t;\npolicy { drop; }", "2:7 Twice"),
-    Row::Later(
+    Row::Decision(
+        "policy { if pkt.tp_dst is 22 { drop; } else { out 2; } }",
+        "out 2",
+    ),
+    Row::Decision("policy { if pkt.tp_dst == 22 { drop; } }", "drop"),
+    Row::Decision("policy { out 1, 2; }", "out 1,2"),
+    Row::Decision("policy { flood; }", "flood"),
+    Row::Decision("policy { let x = 1; out x; }", "out 1"),
+    Row::Decision("policy { route at(1, 2); }", "path s1:2"),
+    Row::Decision("table t; policy { drop; }", "drop"),
+    // Printed forms.
+    Row::Form(
         "policy { if pkt.tp_dst is 22 { drop; } else { out 2; } }",
         "policy {\n  if pkt.tp_dst is 22 {\n    drop;\n  } else {\n    out 2;\n  }\n}\n",
     ),
-    Row::Later(
+    Row::Form(
         "policy { if pkt.tp_dst == 22 { drop; } }",
         "policy {\n  if pkt.tp_dst == 22 {\n    drop;\n  }\n}\n",
     ),
-    Row::Later("policy { out 1, 2; }", "policy {\n  out 1, 2;\n}\n"),
-    Row::Later("policy { flood; }", "policy {\n  flood;\n}\n"),
-    Row::Later(
+    Row::Form("policy { out 1, 2; }", "policy {\n  out 1, 2;\n}\n"),
+    Row::Form("policy { flood; }", "policy {\n  flood;\n}\n"),
+    Row::Form(
         "policy { let x = 1; out x; }",
         "policy {\n  let x = 1;\n  out x;\n}\n",
     ),
-    Row::Later(
+    Row::Form(
         "policy { route at(1, 2); }",
         "policy {\n  route at(1, 2);\n}\n",
     ),
-    Row::Later(
+    Row::Form(
         "policy { while up(1, 2) { } }",
         "policy {\n  while up(1, 2) {\n  }\n}\n",
     ),
-    Row::Later(
+    Row::Form(
         "policy learning { drop; }",
         "policy learning {\n  drop;\n}\n",
     ),
-    Row::Later(
+    Row::Form(
         "table t; policy { drop; }",
         "table t;\npolicy {\n  drop;\n}\n",
     ),
-    // Printed forms.
     Row::Form(
         "policy{if pkt.tp_dst is 0x16{drop;}out 2;}",
         "policy {\n  if pkt.tp_dst is 22 {\n    drop;\n  }\n  out 2;\n}\n",
@@ -462,7 +495,14 @@ const EXPRESSIONS: &[Row] = &[
 
 const LIMITS: &[Row] = &[
     // Limits of a policy: 4,096 nodes and one more, 65,536 bytes and one more, and of its form.
-    Row::Repeated("policy {", " out 1;", 2048, " }", "end\n", DONE),
+    Row::Repeated(
+        "policy {",
+        " out 1;",
+        2048,
+        " }",
+        "state 1 pruned 0\nend\n",
+        DONE,
+    ),
     Row::Repeated(
         "policy {",
         " out 1;",
@@ -471,7 +511,14 @@ const LIMITS: &[Row] = &[
         "refused policy 1:14346 Nodes\n",
         POLICY,
     ),
-    Row::Repeated("policy { drop; }", " ", 65_520, "", "end\n", DONE),
+    Row::Repeated(
+        "policy { drop; }",
+        " ",
+        65_520,
+        "",
+        "state 1 pruned 0\nend\n",
+        DONE,
+    ),
     Row::Repeated(
         "policy { drop; }",
         " ",
@@ -484,11 +531,11 @@ const LIMITS: &[Row] = &[
     // A tree that needs 1,024 rules, and one that needs one more.
     Row::FalseTests(
         1023,
-        "miss c1 1 0\nanswer s1 1 out 2 learned\nhit c1 1 out 2\nend\n",
+        "state 1 pruned 0\nmiss c1 1 0\nanswer s1 1 out 2 learned\nhit c1 1 out 2\nend\n",
     ),
     Row::FalseTests(
         1024,
-        "miss c1 1 0\nanswer s1 1 out 2 unlearned rows 1025 1024\nmiss c1 1 0\nanswer s1 1 out 2 unlearned rows 1025 1024\nend\n",
+        "state 1 pruned 0\nmiss c1 1 0\nanswer s1 1 out 2 unlearned rows 1025 1024\nmiss c1 1 0\nanswer s1 1 out 2 unlearned rows 1025 1024\nend\n",
     ),
 ];
 
@@ -549,7 +596,8 @@ packet 1 1 nw_proto=17 nw_src=1 nw_dst=2
 packet 1 1 nw_proto=17 nw_src=1 nw_dst=3
 packet 1 1 dl_type=34525
 ",
-        "miss c1 1 0
+        "state 1 pruned 0
+miss c1 1 0
 answer s1 1 out 2 learned
 hit c1 1 out 2
 miss c1 9 1
@@ -616,7 +664,8 @@ packet 1 3 tp_dst=443
 packet 1 3 tp_dst=22
 packet 1 3 tp_dst=80
 ",
-        "miss c1 1 0
+        "state 1 pruned 0
+miss c1 1 0
 answer s1 1 out 2 learned
 hit c1 1 out 2
 miss c1 3 0
@@ -639,7 +688,8 @@ frame 1 1 02000000000202000000000108004500002800000000400600000a0000010a00000204
 frame 1 1 02000000000202000000000108004500002800000000400600000a0000010a0000
 packet 1 1 tp_dst=22
 ",
-        "miss c1 1 0
+        "state 1 pruned 0
+miss c1 1 0
 answer s1 1 out 2 learned
 miss c1 1 1
 answer s1 1 drop learned
@@ -685,99 +735,6 @@ policy learning {
 const TO_PORT_80: &str =
     "policy { if pkt.tp_dst is 22 { drop; } out 2; }\n%%\npacket 1 1 tp_dst=80\n";
 
-const SPENT: &str = "miss c1 1 0\nspent s1 1\nend\n";
+const SPENT: &str = "state 1 pruned 0\nmiss c1 1 0\nspent s1 1\nend\n";
 
-const ANSWERED: &str = "miss c1 1 0\nanswer s1 1 out 2 learned\nend\n";
-
-/// A run whose device fails.
-pub struct Fault {
-    pub words: &'static [&'static str],
-    pub input: &'static str,
-    /// The numbers of the reads that fail.
-    pub reads: &'static [u64],
-    /// The numbers of the writes that fail.
-    pub writes: &'static [u64],
-    pub output: &'static str,
-    pub status: u8,
-}
-
-pub fn faults() -> &'static [Fault] {
-    FAULTS
-}
-
-const FAULTS: &[Fault] = &[
-    Fault {
-        words: &["sim"],
-        input: HIT,
-        reads: &[1],
-        writes: &[],
-        output: "refused read\n",
-        status: READ_FAULT,
-    },
-    Fault {
-        words: &["sim"],
-        input: HIT,
-        reads: &[2],
-        writes: &[],
-        output: "refused read\n",
-        status: READ_FAULT,
-    },
-    Fault {
-        words: &["sim"],
-        input: HIT,
-        reads: &[1],
-        writes: &[1],
-        output: "",
-        status: WRITE_FAULT,
-    },
-    Fault {
-        words: &["sim"],
-        input: HIT,
-        reads: &[2],
-        writes: &[1],
-        output: "",
-        status: WRITE_FAULT,
-    },
-    Fault {
-        words: &["sim"],
-        input: "policy { drop; }",
-        reads: &[],
-        writes: &[1],
-        output: "",
-        status: WRITE_FAULT,
-    },
-    Fault {
-        words: &["sim"],
-        input: HIT,
-        reads: &[],
-        writes: &[1],
-        output: "",
-        status: WRITE_FAULT,
-    },
-    Fault {
-        words: &["sim"],
-        input: HIT,
-        reads: &[],
-        writes: &[2],
-        output: "miss c1 1 0\nanswer s1 1 out 2 learned\n",
-        status: WRITE_FAULT,
-    },
-    Fault {
-        words: &["sim"],
-        input: HIT,
-        reads: &[],
-        writes: &[3],
-        output: "miss c1 1 0\nanswer s1 1 out 2 learned\nhit c1 1 out 2\n",
-        status: WRITE_FAULT,
-    },
-    Fault {
-        words: &["check"],
-        input: "policy { drop; }",
-        reads: &[],
-        writes: &[1],
-        output: "",
-        status: WRITE_FAULT,
-    },
-];
-
-const HIT: &str = "policy { out 2; }\n%%\npacket 1 1\npacket 1 1\n";
+const ANSWERED: &str = "state 1 pruned 0\nmiss c1 1 0\nanswer s1 1 out 2 learned\nend\n";

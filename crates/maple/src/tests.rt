@@ -1,9 +1,10 @@
 // Runs of the top call over memory, as the rows of `rows` tell them.
 ghost use Rattle.std.specs.Prelude.{None};
 
-use crate::example_rows;
-use crate::rows::{self, DONE, Fault, POLICY, Row, SCRIPT, TOO_LONG, USAGE};
+use crate::fault_rows::{Fault, faults};
+use crate::rows::{self, DONE, POLICY, Row, SCRIPT, TOO_LONG, USAGE};
 use crate::top::maple;
+use crate::{change_rows, example_rows};
 use maple_base::{Bytes, Words};
 use maple_io::{Got, MemSink, MemSource, Source};
 use std::alloc::{AllocError, Global};
@@ -24,6 +25,16 @@ fn runs(rt: HostRuntime) -> Result<(), Fail> {
     Ok(())
 }
 
+#[test]
+fn runs_over_a_network_that_changes(rt: HostRuntime) -> Result<(), Fail> {
+    let alloc = rt.alloc();
+    check_all(&rt, alloc, change_rows::language())?;
+    check_all(&rt, alloc, change_rows::settings())?;
+    check_all(&rt, alloc, change_rows::changes())?;
+    check_all(&rt, alloc, change_rows::learning())?;
+    Ok(())
+}
+
 fn check_all(rt: &impl Abort, alloc: Global, group: &[Row]) -> Result<(), AllocError> {
     for row in group {
         check(rt, alloc, row)?;
@@ -33,7 +44,7 @@ fn check_all(rt: &impl Abort, alloc: Global, group: &[Row]) -> Result<(), AllocE
 
 #[test]
 fn runs_with_failing_devices(rt: HostRuntime) -> Result<(), Fail> {
-    for fault in rows::faults() {
+    for fault in faults() {
         check_fault(&rt, rt.alloc(), fault)?;
     }
     Ok(())
@@ -90,7 +101,6 @@ fn check(rt: &impl Abort, alloc: Global, row: &Row) -> Result<(), AllocError> {
         Row::Usage(words) => check_usage(rt, alloc, words),
         Row::Decision(policy, decision) => check_decision(rt, alloc, policy, decision),
         Row::Refused(policy, why) => check_refused(rt, alloc, policy, why),
-        Row::Later(policy, form) => check_later(rt, alloc, policy, form),
         Row::Form(policy, form) => check_form(rt, alloc, policy, form),
         Row::Condition(expr, form) => check_condition(rt, alloc, expr, form),
         Row::Value(expr, form) => check_value(rt, alloc, expr, form),
@@ -99,6 +109,8 @@ fn check(rt: &impl Abort, alloc: Global, row: &Row) -> Result<(), AllocError> {
         Row::Line(line, kind) => check_line(rt, alloc, line, kind),
         Row::Malformed(frame, kind) => check_malformed(rt, alloc, frame, kind),
         Row::FalseTests(count, output) => check_false_tests(rt, alloc, count, output),
+        Row::Rounds(count) => check_rounds(rt, alloc, count),
+        Row::Links => check_links(rt, alloc),
         Row::Repeated(ahead, part, count, behind, output, status) => {
             let input = repeated(alloc, ahead, part, count, behind)?;
             run(rt, alloc, &["sim"], &input, output, status)
@@ -138,18 +150,6 @@ fn check_usage(rt: &impl Abort, alloc: Global, words: &[&str]) -> Result<(), All
     )
 }
 
-fn check_later(rt: &impl Abort, alloc: Global, policy: &str, form: &str) -> Result<(), AllocError> {
-    run(
-        rt,
-        alloc,
-        &["sim"],
-        policy,
-        "refused policy 1:1 Later\n",
-        POLICY,
-    )?;
-    check_form(rt, alloc, policy, form)
-}
-
 fn check_decision(
     rt: &impl Abort,
     alloc: Global,
@@ -157,7 +157,9 @@ fn check_decision(
     decision: &str,
 ) -> Result<(), AllocError> {
     let input = format!(in alloc; "{policy}\n%%\npacket 1 1\n")?;
-    let output = format!(in alloc; "miss c1 1 0\nanswer s1 1 {decision} learned\nend\n")?;
+    let output = format!(in alloc;
+        "state 1 pruned 0\nmiss c1 1 0\nanswer s1 1 {decision} learned\nend\n"
+    )?;
     run(rt, alloc, &["sim"], &input, &output, DONE)
 }
 
@@ -232,14 +234,14 @@ fn push_line(form: &mut String, blocks: u32, line: &str) -> Result<(), AllocErro
 
 fn check_packet(rt: &impl Abort, alloc: Global, line: &str) -> Result<(), AllocError> {
     let input = format!(in alloc; "policy {{ out 2; }}\n%%\n{line}\n")?;
-    let output = "miss c1 1 0\nanswer s1 1 out 2 learned\nend\n";
+    let output = "state 1 pruned 0\nmiss c1 1 0\nanswer s1 1 out 2 learned\nend\n";
     run(rt, alloc, &["sim"], &input, output, DONE)
 }
 
 fn check_line(rt: &impl Abort, alloc: Global, line: &str, kind: &str) -> Result<(), AllocError> {
     let input = format!(in alloc; "policy {{ out 2; }}\n%%\npacket 1 1\n{line}\npacket 1 1\n")?;
     let output = format!(in alloc;
-        "miss c1 1 0\nanswer s1 1 out 2 learned\nrefused script 4 {kind}\n"
+        "state 1 pruned 0\nmiss c1 1 0\nanswer s1 1 out 2 learned\nrefused script 4 {kind}\n"
     )?;
     run(rt, alloc, &["sim"], &input, &output, SCRIPT)
 }
@@ -252,7 +254,7 @@ fn check_malformed(
 ) -> Result<(), AllocError> {
     let input = format!(in alloc; "policy {{ drop; }}\n%%\nframe 1 9 {frame}\nframe 1 9 {frame}")?;
     let output = format!(in alloc;
-        "miss c1 9 0\nmalformed c1 {kind}\nmiss c1 9 0\nmalformed c1 {kind}\nend\n"
+        "state 1 pruned 0\nmiss c1 9 0\nmalformed c1 {kind}\nmiss c1 9 0\nmalformed c1 {kind}\nend\n"
     )?;
     run(rt, alloc, &["sim"], &input, &output, DONE)
 }
@@ -270,6 +272,61 @@ fn check_false_tests(
     }
     input.push_str(" out 2; }\n%%\npacket 1 1 dl_src=9999\npacket 1 1 dl_src=9999\n")?;
     run(rt, alloc, &["sim"], &input, output, DONE)
+}
+
+// In each round a number changes: the first packet of its address is answered, and the next eight
+// are hits. A packet of an address without a number is answered in the first round alone.
+fn check_rounds(rt: &impl Abort, alloc: Global, count: u32) -> Result<(), AllocError> {
+    let policy = "table t; policy { if t[pkt.dl_src] as v { out v; } drop; }\n%%\n";
+    let mut input = String::from_str(alloc, policy)?;
+    let mut output = String::from_str(alloc, "state 1 pruned 0\n")?;
+    for round in 0..count {
+        push_round(&mut input, &mut output, round)?;
+    }
+    output.push_str("end\n")?;
+    run(rt, alloc, &["sim"], &input, &output, DONE)
+}
+
+fn push_round(input: &mut String, output: &mut String, round: u32) -> Result<(), AllocError> {
+    let port = round as u64 + 1;
+    let state = round as u64 + 2;
+    write!(input, "set t 1 {port}\npacket 1 1 dl_src=1\n")?;
+    if round == 0 {
+        write!(output, "state {state} pruned 0\n")?;
+    } else {
+        write!(output, "state {state} pruned 1\n")?;
+    }
+    write!(output, "miss c1 1 0\nanswer s1 1 out {port} learned\n")?;
+    for _ in 0..8 {
+        input.push_str("packet 1 1 dl_src=1\n")?;
+        write!(output, "hit c1 1 out {port}\n")?;
+    }
+    input.push_str("packet 1 1 dl_src=2\n")?;
+    if round == 0 {
+        output.push_str("miss c1 1 0\nanswer s1 1 drop learned\n")
+    } else {
+        output.push_str("hit c1 1 drop\n")
+    }
+}
+
+// 4,096 links, and one more, which is refused.
+fn check_links(rt: &impl Abort, alloc: Global) -> Result<(), AllocError> {
+    let mut input = String::from_str(alloc, "policy { drop; }\n%%\n")?;
+    let mut output = String::from_str(alloc, "state 1 pruned 0\n")?;
+    for number in 0..4096 {
+        push_link(&mut input, &mut output, number)?;
+    }
+    input.push_str("link 1 5000 1 1\n")?;
+    output.push_str("refused update Full 4097 4096\nend\n")?;
+    run(rt, alloc, &["sim"], &input, &output, DONE)
+}
+
+// A link from the next port, and its state.
+fn push_link(input: &mut String, output: &mut String, number: u32) -> Result<(), AllocError> {
+    let port = number as u64 + 1;
+    let state = number as u64 + 2;
+    write!(input, "link 1 {port} 1 1\n")?;
+    write!(output, "state {state} pruned 0\n")
 }
 
 // A text whose second part comes so many times.

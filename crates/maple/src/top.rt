@@ -1,12 +1,10 @@
 // The top call.
-ghost use Rattle.std.specs.Prelude.{◌≡◌, ◌≢◌, ◌+◌, ◌^◌, ◌<◌, ◌≤◌, IfSome, length, map};
+ghost use Rattle.std.specs.Prelude.{◌≡◌, ◌≢◌, ◌≤◌, IfSome, map};
 ghost use Rattle.std.specs.Io.KnownBytes.{IsAtEnd};
 ghost use Rattle.maple_io.specs.Views.{NoReadFailed, NoWriteFailed, ReadFailed, WriteFailed, Wrote};
-ghost use Rattle.policy_eval.specs.Answers.{IsBudget};
 ghost use Rattle.maple.specs.declared.status.Status.{Status as StatusOf};
 ghost use Rattle.maple.specs.Ends.{IsOfWhole, IsUnhindered, WroteFront};
-ghost use Rattle.maple.specs.Lines.{lines_of};
-ghost use Rattle.maple.specs.Runs.{IsRunOf, RunsText, Sims};
+ghost use Rattle.maple.specs.Runs.{IsRunOf, RunsText};
 ghost use Rattle.maple.specs.Due.{AreWords, BeginsReport, IsDue, IsFit, IsOrFails, IsOrUnwritten, ReadOver, ReadSome, StopsAtRead, WritesRefusal, WritesReport};
 ghost use Rattle.maple.specs.Statuses.{last_line};
 ghost use Rattle.maple.specs.Words.{IsCommand};
@@ -20,18 +18,18 @@ use crate::status::Status;
 use crate::words::{Command, command_of};
 use maple_base::{PolicyFault, Words};
 use maple_io::{Sink, Source};
-use policy_lang::Policy;
-use policy_text::{ReadError, is_basic, one_policy, read_policy};
+use policy_text::{ReadError, read_policy};
 use report_text::PolicyRefusal;
 use std::alloc::Global;
 
 /// Runs Maple with the words of a command line.
 ///
 /// Both commands read the input to its end: a policy, a line `%%`, and a script. The word `sim`
-/// writes what a switch and its controller do with each frame that the script brings, and then a
-/// last line. The option `--budget N`, or `--budget=N`, bounds the steps that the policy may take for
-/// a packet: 1 to 65,536, and 4,096 without it. The word `check`, alone, writes the printed form of
-/// the policy, and looks at no script. Where the policy is refused both write where and why.
+/// writes what a switch and its controller do with each frame that the script brings and each change
+/// of the network, and then a last line. Its options bound the steps that the policy may take for a
+/// packet (`--budget`), the rules of the switch (`--capacity`) and the levels of their priorities
+/// (`--levels`). The word `check`, alone, writes the printed form of the policy, and looks at no
+/// script. Where the policy is refused both write where and why.
 pub fn maple<R, I: Source, O: Sink>(
     _rt: &R,
     alloc: Global,
@@ -111,7 +109,7 @@ fn run_words<I: Source, O: Sink>(
 
 // Runs an input that was read to its end.
 fn run_text<O: Sink>(alloc: Global, command: Command, text: &[u8], output: &mut O) -> Status
-    requires budget { IsCommand command }
+    requires ranges { IsCommand command }
     requires fit { IsFit text.now }
     ensures run { RunsText (O.tells output.old) (O.tells output.new) command text.now result }
     ensures spared { result ≢ Status.WriteFault → NoWriteFailed (O.tells output.old) (O.tells output.new) }
@@ -120,11 +118,9 @@ fn run_text<O: Sink>(alloc: Global, command: Command, text: &[u8], output: &mut 
     match read_policy(alloc, text) {
         Ok(policy) => match command {
             Command::Check => put_policy(alloc, &policy, output),
-            Command::Sim(budget) => {
-                // No other policy of the text is basic where this one isn't.
-                one_policy();
+            Command::Sim(settings) => {
                 let first = line_count(text) as u32 + 2;
-                sim(alloc, &policy, budget, first, script, output)
+                run_script(alloc, policy, settings, first, script, output)
             }
         },
         Err(ReadError::Refused { line, column, kind }) => match PolicyFault::numbered(kind) {
@@ -133,26 +129,5 @@ fn run_text<O: Sink>(alloc: Global, command: Command, text: &[u8], output: &mut 
             None => unreachable!(),
         },
         Err(ReadError::NoMemory) => Status::NoMemory,
-    }
-}
-
-// Runs a script, whose first line has this number, under a policy. One that is not basic is refused.
-fn sim<O: Sink>(
-    alloc: Global,
-    policy: &Policy,
-    budget: u32,
-    first: u32,
-    script: &[u8],
-    output: &mut O,
-) -> Status
-    requires budget { IsBudget budget }
-    requires numbers { first + length script.now < 2 ^ 32 }
-    ensures sims { Sims (O.tells output.old) (O.tells output.new) policy.now budget first (lines_of script.now) result }
-    ensures spared { result ≢ Status.WriteFault → NoWriteFailed (O.tells output.old) (O.tells output.new) }
-{
-    if is_basic(policy) {
-        run_script(alloc, policy, budget, first, script, output)
-    } else {
-        refuse_policy(alloc, output, 1, 1, PolicyRefusal::Later)
     }
 }

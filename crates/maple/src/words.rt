@@ -1,37 +1,66 @@
 // The words of a command line.
 ghost use Rattle.std.specs.Prelude.{◌≡◌};
-ghost use Rattle.std.specs.Option.{option_copied};
-ghost use Rattle.maple.specs.Words.{behind_text, budget_value, check_alone, command_of, options_budget, within_budget};
+ghost use Rattle.std.specs.Option.{option_copied, option_map};
+ghost use Rattle.maple.specs.Words.{behind_text, check_alone, command_of, once, options, setting_given, setting_named, settings_of, value_of, with_setting, within};
+ghost use Rattle.maple.specs.WordViews.{given_of};
 
 use maple_base::{Bytes, MOST_BUDGET, Words};
 use maple_text::number_of;
+use plain_world::Settings;
 
-// The steps that the policy may take for a packet where the words give no budget.
-const DEFAULT: u32 = 4_096;
+/// The most rules of a switch, and of its levels.
+const MOST_CAPACITY: u32 = 65_535;
 
-// The digits of a budget's longest spelling.
+const MOST_LEVELS: u32 = 65_000;
+
+// The digits of a value's longest spelling.
 const DIGITS: usize = 20;
 
 /// What the words of a command line ask for.
 #[derive(Clone, Copy, Debug, PartialEq, Eq)]
 pub enum Command {
-    /// Run the script of the input under its policy, which may take so many steps for a packet.
-    Sim(u32),
+    /// Run the script of the input under its policy, within these settings.
+    Sim(Settings),
     /// Print the policy of the input.
     Check,
 }
 
-/// The command that these words give: `sim`, and behind it `--budget N`, `--budget=N` or nothing,
-/// which gives a budget of 4,096; or `check` alone. N has 1 to 20 decimal digits, and is 1 to
-/// 65,536. `None` exactly where the words are others.
+/// A setting that an option chooses.
+#[derive(Clone, Copy, Debug, PartialEq, Eq)]
+pub enum Setting {
+    /// `--budget`: the most steps that the policy may take for a packet.
+    Budget,
+    /// `--capacity`: the most rules of a switch.
+    Capacity,
+    /// `--levels`: the most levels of priorities of its rules.
+    Levels,
+}
+
+/// The settings that options chose.
+#[derive(Clone, Copy, Debug, PartialEq, Eq)]
+pub struct Chosen {
+    pub budget: Option<u32>,
+    pub capacity: Option<u32>,
+    pub levels: Option<u32>,
+}
+
+/// The command that these words give: `sim` with its options, or `check` alone. The options are
+/// `--budget` (1 to 65,536, and 4,096 without it), `--capacity` (1 to 65,535, and 1,024 without it) and
+/// `--levels` (1 to 65,000, and 32,768 without it), each at most once, with its value as the next word
+/// or behind `=`. A value has 1 to 20 decimal digits. `None` exactly where the words are others.
 pub fn command_of(words: &Words) -> Option<Command>
     ensures { result ≡ command_of words.now }
 {
     match words.items() {
-        [first, options @ ..] if first.items() == b"sim".as_slice() => {
-            Some(Command::Sim(options_budget(options)?))
+        [first, words @ ..] if first.items() == b"sim".as_slice() => {
+            let none = Chosen {
+                budget: None,
+                capacity: None,
+                levels: None,
+            };
+            Some(Command::Sim(settings_of(options(words, none)?)))
         }
-        [first, options @ ..] if first.items() == b"check".as_slice() => check_alone(options),
+        [first, words @ ..] if first.items() == b"check".as_slice() => check_alone(words),
         _ => None,
     }
 }
@@ -46,15 +75,108 @@ fn check_alone(options: &[Bytes]) -> Option<Command>
     }
 }
 
-fn options_budget(options: &[Bytes]) -> Option<u32>
-    ensures { result ≡ options_budget options.now }
+fn settings_of(chosen: Chosen) -> Settings
+    ensures { result ≡ settings_of chosen }
 {
-    match options {
-        [] => Some(DEFAULT),
-        [option] => budget_value(behind_text(b"--budget=", option.items())?),
-        [option, value] if option.items() == b"--budget".as_slice() => budget_value(value.items()),
-        _ => None,
+    Settings {
+        budget: chosen.budget.unwrap_or(4_096),
+        capacity: chosen.capacity.unwrap_or(1_024),
+        levels: chosen.levels.unwrap_or(32_768),
     }
+}
+
+// The settings that these words choose behind those that were chosen before.
+fn options(words: &[Bytes], chosen: Chosen) -> Option<Chosen>
+    ensures { result ≡ options words.now chosen }
+{
+    match words {
+        [] => Some(chosen),
+        [word] => {
+            let (setting, value) = setting_given(word.items())?;
+            with_setting(setting, value, chosen)
+        }
+        [word, next, ..] => match setting_given(word.items()) {
+            Some((setting, value)) => options(&words[1..], with_setting(setting, value, chosen)?),
+            None => {
+                let setting = setting_named(word.items())?;
+                options(&words[2..], with_setting(setting, next.items(), chosen)?)
+            }
+        },
+    }
+}
+
+fn with_setting(setting: Setting, value: &[u8], chosen: Chosen) -> Option<Chosen>
+    ensures { result ≡ with_setting setting value.now chosen }
+{
+    let Chosen {
+        budget,
+        capacity,
+        levels,
+    } = chosen;
+    match setting {
+        Setting::Budget => {
+            let budget = Some(once(budget, value_of(MOST_BUDGET, value))?);
+            Some(Chosen {
+                budget,
+                capacity,
+                levels,
+            })
+        }
+        Setting::Capacity => {
+            let capacity = Some(once(capacity, value_of(MOST_CAPACITY, value))?);
+            Some(Chosen {
+                budget,
+                capacity,
+                levels,
+            })
+        }
+        Setting::Levels => {
+            let levels = Some(once(levels, value_of(MOST_LEVELS, value))?);
+            Some(Chosen {
+                budget,
+                capacity,
+                levels,
+            })
+        }
+    }
+}
+
+fn once(before: Option<u32>, value: Option<u32>) -> Option<u32>
+    ensures { result ≡ once before value }
+{
+    match before {
+        None => value,
+        Some(_) => None,
+    }
+}
+
+// The setting that a word names.
+fn setting_named(word: &[u8]) -> Option<Setting>
+    ensures { result ≡ setting_named word.now }
+{
+    if word == b"--budget".as_slice() {
+        Some(Setting::Budget)
+    } else if word == b"--capacity".as_slice() {
+        Some(Setting::Capacity)
+    } else if word == b"--levels".as_slice() {
+        Some(Setting::Levels)
+    } else {
+        None
+    }
+}
+
+// The setting that a word names, with the value behind `=`.
+fn setting_given(word: &[u8]) -> Option<(Setting, &[u8])>
+    ensures { given_of result ≡ setting_given word.now }
+{
+    if let Some(value) = behind_text(b"--budget=", word) {
+        return Some((Setting::Budget, value));
+    }
+    if let Some(value) = behind_text(b"--capacity=", word) {
+        return Some((Setting::Capacity, value));
+    }
+    let value = behind_text(b"--levels=", word)?;
+    Some((Setting::Levels, value))
 }
 
 // What a word has behind this text, where it begins with it.
@@ -64,19 +186,19 @@ fn behind_text<'a>(text: &[u8], word: &'a [u8]) -> Option<&'a [u8]>
     word.strip_prefix(text)
 }
 
-fn budget_value(word: &[u8]) -> Option<u32>
-    ensures { result ≡ budget_value word.now }
+fn value_of(most: u32, word: &[u8]) -> Option<u32>
+    ensures { result ≡ value_of most word.now }
 {
     if word.len() > DIGITS {
         return None;
     }
-    within_budget(number_of(word)?)
+    within(most, number_of(word)?)
 }
 
-fn within_budget(number: u64) -> Option<u32>
-    ensures { result ≡ within_budget number }
+fn within(most: u32, number: u64) -> Option<u32>
+    ensures { result ≡ within most number }
 {
-    if 1 <= number && number <= MOST_BUDGET as u64 {
+    if 1 <= number && number <= most as u64 {
         Some(number as u32)
     } else {
         None

@@ -1,69 +1,28 @@
-use Rattle.std.proofs.Common.{◌≡◌, ◌++◌, [], refl, ap, ◌∙◌, subst, rules, arith, length, length-append}
-use Rattle.std.specs.Prelude.{map, Ok, Err}
-use Rattle.maple_io.specs.Views.{Wrote}
-use Rattle.std.proofs.lemmas.List.{nil_from_length}
-use Rattle.std.proofs.KnownBytes.{Appends-nil}
-use Rattle.maple.specs.Lines.{ended_lines, without_end}
-use Rattle.maple.specs.Report.{step_said, text_of}
-use Rattle.maple.specs.Steps.{step_of}
-use Rattle.maple.proofs.Runs.{ends_after, ends_at_refused, stands_further, ends_within}
+use Rattle.std.proofs.Common.{◌≡◌, ◌++◌, ap, ◌∙◌, subst}
+use Rattle.policy_lang.specs.PolicyTree.{policy_tree}
+use Rattle.plain_world.specs.Bounding.{bounds_of}
+use Rattle.plain_world.specs.Now.{opening}
+use Rattle.plain_world.specs.Report.{text_of}
+use Rattle.maple.specs.Report.{beginning}
+use Rattle.maple.specs.Lines.{lines_of}
+use Rattle.maple.specs.Running.{told_of, due_of}
+use Rattle.maple.specs.Steps.{refused_from}
+use Rattle.maple.proofs.Runs.{ends_run, cut_short}
 use Rattle.maple.proofs.sim.run_script.Goals as goal
 
-pub loop-rest-init : goal.loop-rest-init
-loop-rest-init g c = record {
-  stands = ([], [], record { known = c.new-world.ensures c.args.policy.now c.args.budget c.requires.plain c.requires.budget; refused = refl; told = refl; appended = Appends-nil (g.O.Sink.tells c.args.output.now).taken; spared = refl });
-  numbers = omega arith;
-}
+pub run_lines-requires-clause-known : goal.run_lines-requires-clause-known
+run_lines-requires-clause-known g c = ((beginning (policy_tree c.args.policy)).next, (c.in-Ok-plug_in.ensures (opening (policy_tree c.args.policy)) c.in-Ok.ensures).1)
 
-pub returns-in-Err-Refused-clause-runs : goal.returns-in-Err-Refused-clause-runs
-returns-in-Err-Refused-clause-runs g c =
-    let traces = c.loop-rest.invariant.stands.0 in
-    let s = rw (ap (map without_end) c.cut_line.ensures.lines) at c.loop-rest.invariant.stands.2 in
-    let stop = rw c.in-Err-Refused.field-0-is at c.in-Err-Refused.ensures.stop in
-    let bad : step_of (without_end c.cut_line.result.0.now) ≡ Err c.in-Err-Refused.kind = rw c.without_end.ensures at stop in
-    ends_at_refused _ _ _ _ _ _ _ _ _ traces _ (without_end c.cut_line.result.0.now) (map without_end (ended_lines c.cut_line.result.1.now)) s c.refuse.result c.in-Err-Refused.kind bad (rw c.in-Err-Refused.field-0-is at c.refuse.ensures.ends)
-
-pub loop-rest-preserved : goal.loop-rest-preserved
-loop-rest-preserved g c =
-    let traces = c.loop-rest.invariant.stands.0 in
-    let s = rw (ap (map without_end) c.cut_line.ensures.lines) at c.loop-rest.invariant.stands.2 in
-    let good : step_of (without_end c.cut_line.result.0.now) ≡ Ok c.in-Ok.step = rw c.without_end.ensures at c.in-Ok.ensures.step in
-    let p = c.in-Ok-step.ensures traces s.known in
-    let piece = text_of (step_said c.args.policy.now c.args.budget traces c.in-Ok.step) in
-    let text : c.deref.result.now ≡ piece = c.deref.ensures.value ∙ p.0 ∙ ap (λ b. b ++ piece) c.new-text.ensures.items in
-    let whole = ap length c.cut_line.ensures.whole in
-    record {
-      stands = (
-        _,
-        _,
-        stands_further _ _ _ _ _ _ _ _ _ traces _ (without_end c.cut_line.result.0.now) (map without_end (ended_lines c.cut_line.result.1.now)) s c.in-Ok.step good _ p.1
-            (subst (Wrote (g.O.Sink.tells c.loop-rest.output) (g.O.Sink.tells c.put_text.new.output)) text c.in-Done.ensures.ends.1) (c.in-Done.ensures.spared (λ e. cc)),
-      );
-      numbers = omega (arith, whole, length-append c.cut_line.result.0.now c.cut_line.result.1.now, c.cut_line.ensures.some, c.loop-rest.invariant.numbers);
-    }
+pub returns-in-Done-clause-runs : goal.returns-in-Done-clause-runs
+returns-in-Done-clause-runs g c =
+    let p = c.in-Ok-plug_in.ensures (opening (policy_tree c.args.policy)) c.in-Ok.ensures in
+    let first = text_of (beginning (policy_tree c.args.policy)).lines in
+    let text : c.deref.result.now ≡ first = c.deref.ensures.value ∙ p.0 ∙ ap (λ b. b ++ first) c.new-text.ensures.items in
+    ends_run (g.O.Sink.tells c.args.output.now) (g.O.Sink.tells c.put_text.new.output) (g.O.Sink.tells c.run_lines.new.output) (policy_tree c.args.policy) (bounds_of c.args.settings) c.args.first (lines_of c.args.script.now) c.deref.result.now c.run_lines.result text (c.in-Done.ensures.spared (λ e. cc)) c.in-Done.ensures.ends.1 (c.run_lines.ensures.runs (beginning (policy_tree c.args.policy)).next p.1)
 
 pub returns-in_default-put_text-clause-runs : goal.returns-in_default-put_text-clause-runs
 returns-in_default-put_text-clause-runs g c =
-    let traces = c.loop-rest.invariant.stands.0 in
-    let s = rw (ap (map without_end) c.cut_line.ensures.lines) at c.loop-rest.invariant.stands.2 in
-    let good : step_of (without_end c.cut_line.result.0.now) ≡ Ok c.in-Ok.step = rw c.without_end.ensures at c.in-Ok.ensures.step in
-    let p = c.in-Ok-step.ensures traces s.known in
-    let piece = text_of (step_said c.args.policy.now c.args.budget traces c.in-Ok.step) in
-    let text : c.deref.result.now ≡ piece = c.deref.ensures.value ∙ p.0 ∙ ap (λ b. b ++ piece) c.new-text.ensures.items in
-    ends_within _ _ _ _ _ _ _ _ _ traces _ (without_end c.cut_line.result.0.now) (map without_end (ended_lines c.cut_line.result.1.now)) s c.in-Ok.step good c.put_text.result c.in_default-put_text.not-Done
-    (rw text at c.put_text.ensures.ends)
-
-pub returns-clause-runs : goal.returns-clause-runs
-returns-clause-runs g c =
-    let ended : c.loop-rest.rest.now ≡ [] = nil_from_length c.loop-rest.rest.now (search rules) in
-    let s = rw ended at c.loop-rest.invariant.stands.2 in
-    ends_after _ _ _ _ _ _ _ _ _ c.loop-rest.invariant.stands.0 _ s c.finish.result c.finish.ensures.ends
-
-pub returns-in-Err-Refused-clause-spared : goal.returns-in-Err-Refused-clause-spared
-returns-in-Err-Refused-clause-spared g c = λ n. c.refuse.ensures.spared n ∙ c.loop-rest.invariant.stands.2.spared
-
-pub returns-in_default-put_text-clause-spared : goal.returns-in_default-put_text-clause-spared
-returns-in_default-put_text-clause-spared g c = λ n. c.put_text.ensures.spared n ∙ c.loop-rest.invariant.stands.2.spared
-
-pub returns-clause-spared : goal.returns-clause-spared
-returns-clause-spared g c = λ n. c.finish.ensures.spared n ∙ c.loop-rest.invariant.stands.2.spared
+    let p = c.in-Ok-plug_in.ensures (opening (policy_tree c.args.policy)) c.in-Ok.ensures in
+    let first = text_of (beginning (policy_tree c.args.policy)).lines in
+    let text : c.deref.result.now ≡ first = c.deref.ensures.value ∙ p.0 ∙ ap (λ b. b ++ first) c.new-text.ensures.items in
+    cut_short (g.O.Sink.tells c.args.output.now) (g.O.Sink.tells c.put_text.new.output) first (told_of (bounds_of c.args.settings) (beginning (policy_tree c.args.policy)).next c.args.first (lines_of c.args.script.now)) (due_of (refused_from c.args.first (lines_of c.args.script.now))) c.put_text.result c.in_default-put_text.not-Done (rw text at c.put_text.ensures.ends)

@@ -7,12 +7,12 @@ pub returns-in-Check-clause-run : goal.returns-in-Check-clause-run
 returns-in-Check-clause-run g c =
     ran_check (g.O.Sink.tells c.args.output.now) (g.O.Sink.tells c.put_policy.new.output) c.args.text.now c.put_policy.result c.args.command c.in-Ok.policy c.in-Check.is (rw c.split_input.ensures.policy at c.in-Ok.ensures.policy) c.put_policy.ensures.ends
 
-pub returns-in-Ok-clause-run : goal.returns-in-Ok-clause-run
-returns-in-Ok-clause-run g c =
+pub returns-in-Sim-clause-run : goal.returns-in-Sim-clause-run
+returns-in-Sim-clause-run g c =
     let count : c.line_count.result ≡ length (ended_lines (policy_part c.args.text.now)) = c.line_count.ensures.count ∙ ap (λ t. length (ended_lines t)) c.split_input.ensures.policy in
     let number : c.line_count.result + 2 ≡ first_number c.args.text.now = ap (λ n. n + 2) count in
-    ran_sim (g.O.Sink.tells c.args.output.now) (g.O.Sink.tells c.sim.new.output) c.args.text.now c.sim.result c.one_policy.ensures c.args.command c.in-Ok.policy c.in-Sim.budget (c.line_count.result + 2) _ c.in-Sim.is (rw c.split_input.ensures.policy at c.in-Ok.ensures.policy) number
-    c.split_input.ensures.script c.sim.ensures.sims
+    ran_sim (g.O.Sink.tells c.args.output.now) (g.O.Sink.tells c.run_script.new.output) c.args.text.now c.run_script.result c.args.command c.in-Ok.policy c.in-Sim.settings (c.line_count.result + 2) _ c.in-Sim.is (rw c.split_input.ensures.policy at c.in-Ok.ensures.policy) number
+    c.split_input.ensures.script c.run_script.ensures.runs
 
 pub returns-in-Some-clause-run : goal.returns-in-Some-clause-run
 returns-in-Some-clause-run g c =

@@ -1,0 +1,9 @@
+//! One switch and its controller, simulated: packets, updates of the environment, new policies.
+#![tactic(auto)]
+
+pub mod choosing;
+pub mod settings;
+pub mod world;
+
+pub use settings::Settings;
+pub use world::World;
