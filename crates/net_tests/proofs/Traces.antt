@@ -1,5 +1,5 @@
 -- What a trace has to be to be put into a tree.
-use Rattle.std.proofs.Common.{◌≡◌, ℕ, zero, suc, Bool, subst, ◌+◌, ◌≤◌, ◌<◌, true, false, List, [], ◌∷◌, length, get_or, drop, refl, sym, ap, ◌∙◌, arith}
+use Rattle.std.proofs.Common.{◌≡◌, ℕ, ◌+◌, ◌<◌, true, false, List, [], ◌∷◌, length, get_or, drop, refl, sym, ap, ◌∙◌}
 use Rattle.std.specs.Prelude.{◌&&◌, ◌||◌, not}
 use Rattle.std.specs.List.{list_all, list_any}
 use Rattle.maple_base.specs.declared.key.Field.{Field}
@@ -7,16 +7,9 @@ use Rattle.maple_base.specs.declared.items.Item.{Item}
 use Rattle.maple_base.specs.declared.items.Item.TheVariants.{Read, Test}
 use Rattle.maple_base.specs.Keys.{in_domain}
 use Rattle.maple_base.specs.Questions.{among, asks_once, same_field, within_domain}
-use Rattle.trace_tree.specs.declared.node.Leaf.{Leaf}
-use Rattle.trace_tree.specs.Shape.{Shape}
-use Rattle.trace_tree.specs.Growth.{admits, insert}
 use Rattle.trace_tree.specs.Bounds.{items_within}
-use Rattle.trace_tree.specs.Kept.{kept, IsKept}
 use Rattle.trace_tree.proofs.Growths.{both}
 use Rattle.trace_tree.proofs.Admits.{item_here}
-use Rattle.priority_plan.specs.Rules.{rules_needed}
-use Rattle.priority_plan.proofs.Grows.{few_more}
-use Rattle.priority_plan.proofs.Shrinks.{kept_no_more, answered_no_more}
 use Rattle.net_tests.specs.Fixed.{is_new, fixed_behind}
 
 pub all_within : (is : List Item) → list_all within_domain is ≡ true → items_within is ≡ true
@@ -41,12 +34,3 @@ asks_further items n d seen fixed new lt seen_is first new_is before h =
     let here = item_here items n d item lt refl in
     let unseen = ap (λ f. is_new f item) (sym seen_is) ∙ sym first in
     before (ap (asks_once fixed) here ∙ asks_step fixed item rest unseen (ap (λ f. asks_once f rest) (sym new_is) ∙ h))
-
-pub few_further : (items : List Item) (leaf : Leaf) (t : Shape) → admits items t ≡ true → length items ≤ 262144 → rules_needed (insert items leaf t) ≤ rules_needed t + 262145
-few_further items leaf t a h = omega (arith, few_more items leaf t a, h)
-
-pub fewer_kept : (A : Leaf → Bool → Type 0) (t u : Shape) → IsKept A t u → rules_needed u ≤ rules_needed t
-fewer_kept A t u k = (answered_no_more A t u k).rules
-
-pub fewer_without : (p : Leaf → Bool) (t : Shape) → rules_needed (kept p t) ≤ rules_needed t
-fewer_without p t = (kept_no_more p t).rules

@@ -1,24 +1,21 @@
 // A tree of traces beside a plain list of them, and what a trace has to be to be put into a tree.
-ghost use Rattle.std.specs.Prelude.{◌≡◌, ◌+◌, ◌^◌, ◌≤◌, ◌<◌, [], length, IsTrue, IfOk, IfErr, OnOk, OnErr, MatchResult};
+ghost use Rattle.std.specs.Prelude.{◌≡◌, ◌≤◌, ◌<◌, [], length, IsTrue, IfOk, OnOk, MatchResult};
 ghost use Rattle.trace_tree.specs.TreeOf.{branches, child_trees, values_of};
 ghost use Rattle.std.specs.List.{list_all, list_any};
 ghost use Rattle.maple_base.specs.Questions.{asks_once, field_number, same_field, within_domain};
 ghost use Rattle.net_tests.specs.Fixed.{is_new, fixed_behind};
-ghost use Rattle.trace_tree.specs.Growth.{admits, leaves_of, place_of, AreOrdered};
+ghost use Rattle.trace_tree.specs.Growth.{admits, place_of, AreOrdered};
 ghost use Rattle.trace_tree.specs.Bounds.{items_within};
-ghost use Rattle.priority_plan.specs.Rules.{rules_needed};
+ghost use Rattle.priority_plan.specs.Rules.{level_limit, levels_of};
 
 use crate::packets::item_of;
 use maple_base::{Cells, Decision, EnvNow, Field, Item, Items, Key, NoMemory, RuleList};
 use priority_plan::{Chain, chain, levels, rules_needed};
-use rule_builder::{rules, rules_needed_with, rules_where};
+use rule_builder::{rules, rules_where};
 use std::alloc::{AllocError, Global};
-use std::marker::Model;
 use std::mem;
 use std::test::Fail;
 use trace_tree::{Node, Trace, Tree};
-
-const MOST_RULES: u64 = 0xffff_ffff;
 
 /// A tree of traces, the same traces in a plain list, and what the next trace asks.
 #[derive(Drop)]
@@ -26,24 +23,7 @@ pub struct Learned {
     tree: Tree,
     traces: Vec<(u64, Vec<Item>)>,
     asked: Vec<Item>,
-    // not below the number of rules
-    bound: u64,
     alloc: Global,
-}
-
-impl Model for Learned {
-    ghost use Rattle.std.specs.Prelude.{◌≤◌};
-    ghost use Rattle.trace_tree.specs.Shape.{Shape};
-    ghost use Rattle.trace_tree.specs.ShapeCode.{coded_shape};
-    ghost use Rattle.priority_plan.specs.Rules.{rules_needed};
-
-    ghost Value = { Shape };
-
-    ghost coded = { coded_shape };
-
-    ghost view = { λ a. a.tree };
-
-    ghost invariant = { λ a. rules_needed a.tree ≤ a.bound };
 }
 
 impl Learned {
@@ -53,7 +33,6 @@ impl Learned {
             tree: Tree::new(alloc),
             traces: Vec::new(alloc),
             asked: Vec::new(alloc),
-            bound: 0,
             alloc,
         }
     }
@@ -90,9 +69,6 @@ impl Learned {
         cells: Cells,
         decision: Decision,
     ) -> Result<(), Fail> {
-        if self.bound > MOST_RULES {
-            return Err(Fail::from("too many traces"));
-        }
         let items = mem::replace(&mut self.asked, Vec::new(self.alloc));
         self.traces
             .push((number, Vec::from_slice(self.alloc, &items)?))?;
@@ -102,20 +78,19 @@ impl Learned {
             cells,
             decision,
         };
-        self.bound += 262_145;
         put(self.alloc, &mut self.tree, trace)
     }
 
     /// Removes the trace of this number from the tree and the list. Tells whether it was there.
     pub fn retire(&mut self, number: u64) -> bool {
         self.traces.retain(|trace| trace.0 != number);
-        retire(&mut self.tree, number)
+        self.tree.retire(number)
     }
 
     /// Removes all traces but those of these numbers from the tree and the list. Tells how many.
     pub fn retain(&mut self, numbers: &[u64]) -> u32 {
         self.traces.retain(|trace| is_one_of(numbers, trace.0));
-        retain(&mut self.tree, numbers)
+        self.tree.retain(|leaf| is_one_of(numbers, leaf.number))
     }
 
     /// The number of the trace that the tree finds for a packet, where a scan of the list finds it too.
@@ -137,80 +112,40 @@ impl Learned {
     }
 
     /// How many rules the tree has.
-    pub fn rules_needed(&self) -> Result<u64, Fail> {
-        if self.bound <= MOST_RULES {
-            Ok(rules_needed(&self.tree))
-        } else {
-            Err(Fail::from("too many rules"))
-        }
-    }
-
-    /// How many rules the tree has with the next trace.
-    pub fn rules_needed_with(&self) -> Result<u64, Fail> {
-        let items = Items::new(Vec::from_slice(self.alloc, &self.asked)?);
-        if self.bound <= MOST_RULES && is_trace_for(self.alloc, &self.tree, &items)? {
-            Ok(needed_with(&self.tree, &items))
-        } else {
-            Err(Fail::from("no trace for the tree"))
-        }
+    pub fn rules_needed(&self) -> u64 {
+        rules_needed(&self.tree)
     }
 
     /// How many priorities the rules take.
-    pub fn levels(&self) -> Result<u64, Fail> {
-        if self.bound <= MOST_RULES {
-            Ok(levels(&self.tree))
-        } else {
-            Err(Fail::from("too many rules"))
-        }
+    pub fn levels(&self) -> u64 {
+        levels(&self.tree)
     }
 
     /// Rules that show that no fewer priorities do, the lowest first.
     pub fn chain(&self) -> Result<Chain, Fail> {
-        if self.bound <= MOST_RULES {
-            chain_in(self.alloc, &self.tree)
-        } else {
-            Err(Fail::from("too many rules"))
-        }
+        has_room(&self.tree)?;
+        Ok(chain(self.alloc, &self.tree)?)
     }
 
     /// The rules of the tree.
     pub fn rules(&self) -> Result<RuleList, Fail> {
-        if self.bound <= MOST_RULES {
-            rules_in(self.alloc, &self.tree)
-        } else {
-            Err(Fail::from("too many rules"))
-        }
+        has_room(&self.tree)?;
+        Ok(rules(self.alloc, &self.tree)?)
     }
 
     /// The rules that the tree has once the traces are gone of which a cell has changed.
     pub fn rules_where<E: EnvNow>(&self, env: &E) -> Result<RuleList, Fail> {
-        if self.bound <= MOST_RULES {
-            rules_where_in(self.alloc, &self.tree, env)
-        } else {
-            Err(Fail::from("too many rules"))
-        }
+        has_room(&self.tree)?;
+        Ok(rules_where(self.alloc, &self.tree, env)?)
     }
 }
 
-fn chain_in(alloc: Global, tree: &Tree) -> Result<Chain, Fail> {
+// Whether the rules of a tree can be made.
+fn has_room(tree: &Tree) -> Result<(), Fail>
+    ensures { OnOk result (levels_of tree.now ≤ level_limit) }
+{
     if levels(tree) <= 65_000 {
-        Ok(chain(alloc, tree)?)
-    } else {
-        Err(Fail::from("too many levels"))
-    }
-}
-
-fn rules_in(alloc: Global, tree: &Tree) -> Result<RuleList, Fail> {
-    if levels(tree) <= 65_000 {
-        Ok(rules(alloc, tree)?)
-    } else {
-        Err(Fail::from("too many levels"))
-    }
-}
-
-fn rules_where_in<E: EnvNow>(alloc: Global, tree: &Tree, env: &E) -> Result<RuleList, Fail> {
-    if levels(tree) <= 65_000 {
-        Ok(rules_where(alloc, tree, env)?)
+        Ok(())
     } else {
         Err(Fail::from("too many levels"))
     }
@@ -244,62 +179,23 @@ fn meets(key: &Key, items: &[Item]) -> bool {
     true
 }
 
-fn needed_with(tree: &Tree, items: &Items) -> u64
-    requires admitted { IsTrue (admits items.now tree.now) }
-    requires room { rules_needed tree.now + length items.now + 1 < 2 ^ 64 }
-{
-    // shows that the tree's values rise
-    let _root = tree.root();
-    rules_needed_with(tree, items)
-}
-
 /// Puts a trace into a tree; where memory runs out at the first try, at the second.
-pub fn put(alloc: Global, tree: &mut Tree, trace: Trace) -> Result<(), Fail>
-    ensures { rules_needed tree.new ≤ rules_needed tree.old + 262145 }
-{
+pub fn put(alloc: Global, tree: &mut Tree, trace: Trace) -> Result<(), Fail> {
     if !is_trace_for(alloc, tree, &trace.items)? || tree.leaves() >= 1_000 {
         return Err(Fail::from("no trace for the tree"));
     }
     let number = trace.number;
     let leaves = tree.leaves();
-    match grow(tree, trace) {
+    match tree.augment(trace) {
         Ok(()) => Ok(()),
         Err(back) => {
-            if back.number == number && tree.leaves() == leaves && grow(tree, back).is_ok() {
+            if back.number == number && tree.leaves() == leaves && tree.augment(back).is_ok() {
                 Ok(())
             } else {
                 Err(Fail::from(NoMemory))
             }
         }
     }
-}
-
-#[tactic(auto, using(crate::proofs::Traces::few_further))]
-fn grow(tree: &mut Tree, trace: Trace) -> Result<(), Trace>
-    requires admitted { IsTrue (admits trace.items tree.old) }
-    requires within { IsTrue (items_within trace.items) }
-    requires once { IsTrue (asks_once [] trace.items) }
-    requires short { length trace.items ≤ 262144 }
-    requires room { leaves_of tree.old + 1 < 2 ^ 32 }
-    ensures few { rules_needed tree.new ≤ rules_needed tree.old + 262145 }
-    ensures err { IfErr result (λ back. back ≡ trace) }
-    ensures unchanged { OnErr result (tree.new ≡ tree.old) }
-{
-    tree.augment(trace)
-}
-
-#[tactic(auto, using(crate::proofs::Traces::fewer_without))]
-fn retire(tree: &mut Tree, number: u64) -> bool
-    ensures { rules_needed tree.new ≤ rules_needed tree.old }
-{
-    tree.retire(number)
-}
-
-#[tactic(auto, using(crate::proofs::Traces::fewer_kept))]
-fn retain(tree: &mut Tree, numbers: &[u64]) -> u32
-    ensures { rules_needed tree.new ≤ rules_needed tree.old }
-{
-    tree.retain(|leaf| is_one_of(numbers, leaf.number))
 }
 
 fn is_one_of(numbers: &[u64], number: u64) -> bool {

@@ -28,9 +28,8 @@ impl Subject for Learned {
 fn asked_of_tree(alloc: Global, learned: &Learned, command: &[&str]) -> Result<String, Fail> {
     match command {
         ["leaves?"] => spelled_number(alloc, u64::from(learned.leaves())),
-        ["rules?"] => spelled_number(alloc, learned.rules_needed()?),
-        ["rules_with?"] => spelled_number(alloc, learned.rules_needed_with()?),
-        ["levels?"] => spelled_number(alloc, learned.levels()?),
+        ["rules?"] => spelled_number(alloc, learned.rules_needed()),
+        ["levels?"] => spelled_number(alloc, learned.levels()),
         ["facts?"] => spelled_facts(alloc, learned),
         ["chain?"] => spelled_chain(alloc, learned),
         ["barriers?"] => spelled_barriers(alloc, learned),
@@ -117,13 +116,13 @@ const SCRIPTS: &[&str] = &[
          find dl_src=22000 = 1; find dl_src=21999 = 2; find dl_src=21998 = none; find dl_src=0 = none",
     "many 262143; ask dl_src=262143?no; add 1; many 262143; ask dl_src=262143?yes; add 2;
          find dl_src=262144 = 1; find dl_src=262143 = 2; find dl_src=262142 = none; find dl_src=0 = none",
-    "ask tp_dst=22?no; rules_with? = 2; add 1 2; ask tp_dst=22?yes; rules_with? = 3; add 2; leaves? = 2; rules? = 3;
+    "ask tp_dst=22?no; add 1 2; rules? = 2; ask tp_dst=22?yes; add 2; leaves? = 2; rules? = 3;
          levels? = 3; facts? = any 1 2, tp_dst=22 3; barriers? = tp_dst=22 2 65533;
          chain? = any 1 2, tp_dst=22 2 65533, tp_dst=22 3",
     "ask nw_proto=6; add 1 5; ask nw_proto=17 tp_dst=53; add 2 6; ask nw_proto=1; add 3; levels? = 1;
          facts? = nw_proto=17,tp_dst=53 1 6, nw_proto=1 1, nw_proto=6 1 5; rules? = 3",
-    "many 1023; rules_with? = 1024; add 1 1; rules? = 1024; levels? = 1024",
-    "many 1024; rules_with? = 1025; add 1 1; rules? = 1025; levels? = 1025",
+    "many 1023; add 1 1; rules? = 1024; levels? = 1024",
+    "many 1024; add 1 1; rules? = 1025; levels? = 1025",
 ];
 
 // The first two rows have paths that part at the last item: of 22,000 items, and of as many as a path
@@ -185,7 +184,7 @@ fn the_rules_of_a_long_path(rt: HostRuntime) -> Result<(), Fail> {
     follow(
         alloc,
         &mut learned,
-        "many 22000; rules_with? = 22001; add 1; levels? = 22001; facts? = any 1",
+        "many 22000; add 1; rules? = 22001; levels? = 22001; facts? = any 1",
     )?;
     let list = learned.rules()?;
     assert_eq!(rt; list.barriers().len(), 22_000);

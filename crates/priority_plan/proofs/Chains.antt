@@ -65,8 +65,8 @@ mutual
   chain_stands (Tests f v n y) m b r h =
       let c = b + with_barrier (levels_of n) in
       let bar = barrier_behind (levels_of n) (fix f v m) b in
-      ⊎_elim (λ d. wider _ _ r (λ x s. inr (inr s)) (chain_stands y (fix f v m) c r d))
-      (λ d. ⊎_elim (λ e. record { row = Barrier r; stands = inr (inl (own_stands r (levels_of n) (fix f v m) b e)); is = refl }) (λ e. wider _ _ r (λ x s. inl s) (chain_stands n m b r e)) (Contains-append_cases bar _ r d))
+      ⊎_elim (λ d. wider _ _ r (λ x s. inl s) (chain_stands y (fix f v m) c r d))
+      (λ d. ⊎_elim (λ e. record { row = Barrier r; stands = inr (inl (own_stands r (levels_of n) (fix f v m) b e)); is = refl }) (λ e. wider _ _ r (λ x s. inr (inr s)) (chain_stands n m b r e)) (Contains-append_cases bar _ r d))
       (Contains-append_cases (chain_of y (fix f v m) c) _ r h)
 
   chain_in_stands : (bs : Branches) (most : ℕ) (f : Field) (m : Match) (b : ℕ) (r : Rule) → Contains (chain_in bs most f m b) r → IsOne (λ x. StandsIn x bs f m b) r

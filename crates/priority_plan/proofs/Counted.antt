@@ -9,60 +9,56 @@ use Rattle.priority_plan.specs.declared.rows.Row.{Row}
 use Rattle.priority_plan.specs.declared.rows.Row.TheVariants.{Fact, Barrier}
 use Rattle.priority_plan.specs.Rules.{with_barrier, levels_of, most_levels, barrier_behind, rows_of, rows_in, fact_of, barrier_of, facts_of, barriers_of, rules_needed}
 use Rattle.priority_plan.specs.Counts.{count_of, count_in}
-use Rattle.priority_plan.proofs.Spans.{barrier_least}
 
 pub barrier_mono : (a b : ℕ) → a ≤ b → with_barrier a ≤ with_barrier b
 barrier_mono zero b h = omega arith
 barrier_mono (suc a) zero h = absurd (omega (arith, h))
 barrier_mono (suc a) (suc b) h = omega (arith, h)
 
-mutual
-  pub levels_counted : (t : Shape) → levels_of t ≤ count_of t
-  levels_counted Empty = omega arith
-  levels_counted (Ends l) = omega arith
-  levels_counted (Reads f bs) = levels_counted_in bs
-  levels_counted (Tests f v n y) =
-      let a = barrier_mono (levels_of n) (count_of n) (levels_counted n) in
-      let b = levels_counted y in
-      omega (arith, a, b)
-
-  levels_counted_in : (bs : Branches) → most_levels bs ≤ count_in bs
-  levels_counted_in NoBranch = omega arith
-  levels_counted_in (Branch v t bs) = let a = levels_counted t in let b = levels_counted_in bs in omega (arith, a, b)
-
 no_barrier : (n : ℕ) → n ≡ 0 → with_barrier n ≡ 0
 no_barrier zero e = refl
 no_barrier (suc n) e = absurd (omega (arith, e))
 
-mutual
-  -- a tree without levels has no rules
-  none_counted : (t : Shape) → levels_of t ≡ 0 → count_of t ≡ 0
-  none_counted Empty e = refl
-  none_counted (Ends l) e = absurd (omega (arith, e))
-  none_counted (Reads f bs) e = none_counted_in bs e
-  none_counted (Tests f v n y) e =
-      let a = no_barrier (count_of n) (none_counted n (omega (arith, e, barrier_least (levels_of n)))) in
-      let b = none_counted y (omega (arith, e)) in
-      omega (arith, a, b)
+-- no more levels than rules, and rules only where there is a level
+abbrev Agree : ℕ → ℕ → Type 0
+Agree levels rules = (levels ≤ rules) × (levels ≡ 0 → rules ≡ 0)
 
-  none_counted_in : (bs : Branches) → most_levels bs ≡ 0 → count_in bs ≡ 0
-  none_counted_in NoBranch e = refl
-  none_counted_in (Branch v t bs) e = let a = none_counted t (omega (arith, e)) in let b = none_counted_in bs (omega (arith, e)) in omega (arith, a, b)
-
-behind_length : (l c : ℕ) (m : Match) (b : ℕ) → l ≤ c → (l ≡ 0 → c ≡ 0) → c + length (map Barrier (barrier_behind l m b)) ≡ with_barrier c
-behind_length zero c m b le z = let e = z refl in let w = no_barrier c e in omega (arith, e, w)
-behind_length (suc l) zero m b le z = absurd (omega (arith, le))
-behind_length (suc l) (suc c) m b le z = omega arith
+agree_behind : (l c : ℕ) → Agree l c → Agree (with_barrier l) (with_barrier c)
+agree_behind zero c a = (omega arith, λ e. no_barrier c (a.1 refl))
+agree_behind (suc l) zero a = absurd (omega (arith, a.0))
+agree_behind (suc l) (suc c) a = (omega (arith, a.0), λ e. absurd (omega (arith, e)))
 
 mutual
-  rows_length : (t : Shape) (m : Match) (b : ℕ) → length (rows_of t m b) ≡ count_of t
+  pub counted : (t : Shape) → Agree (levels_of t) (count_of t)
+  counted Empty = (omega arith, λ e. refl)
+  counted (Ends l) = (omega arith, λ e. absurd (omega (arith, e)))
+  counted (Reads f bs) = counted_in bs
+  counted (Tests f v n y) =
+      let a = agree_behind (levels_of n) (count_of n) (counted n) in
+      let b = counted y in
+      (omega (arith, a.0, b.0), λ e. let c = a.1 (omega (arith, e)) in let d = b.1 (omega (arith, e)) in omega (arith, c, d))
+
+  counted_in : (bs : Branches) → Agree (most_levels bs) (count_in bs)
+  counted_in NoBranch = (omega arith, λ e. refl)
+  counted_in (Branch v t bs) =
+      let a = counted t in
+      let b = counted_in bs in
+      (omega (arith, a.0, b.0), λ e. let c = a.1 (omega (arith, e)) in let d = b.1 (omega (arith, e)) in omega (arith, c, d))
+
+behind_length : (l c : ℕ) (m : Match) (b : ℕ) → Agree l c → c + length (map Barrier (barrier_behind l m b)) ≡ with_barrier c
+behind_length zero c m b a = let e = a.1 refl in let w = no_barrier c e in omega (arith, e, w)
+behind_length (suc l) zero m b a = absurd (omega (arith, a.0))
+behind_length (suc l) (suc c) m b a = omega arith
+
+mutual
+  pub rows_length : (t : Shape) (m : Match) (b : ℕ) → length (rows_of t m b) ≡ count_of t
   rows_length Empty m b = refl
   rows_length (Ends l) m b = refl
   rows_length (Reads f bs) m b = rows_length_in bs f m b
   rows_length (Tests f v n y) m b =
       let p = rows_length n m b in
       let q = rows_length y (fix f v m) (b + with_barrier (levels_of n)) in
-      let r = behind_length (levels_of n) (count_of n) (fix f v m) b (levels_counted n) (none_counted n) in
+      let r = behind_length (levels_of n) (count_of n) (fix f v m) b (counted n) in
       simp length-append (omega (arith, p, q, r))
 
   rows_length_in : (bs : Branches) (f : Field) (m : Match) (b : ℕ) → length (rows_in bs f m b) ≡ count_in bs

@@ -13,13 +13,13 @@ use Rattle.trace_tree.specs.Growth.{change, insert, child, admits, leaves_of, le
 use Rattle.trace_tree.specs.Bounds.{longest_of, longest_in}
 use Rattle.trace_tree.proofs.Growths.{both, admits_Empty}
 use Rattle.trace_tree.proofs.Children.{change_here, change_ahead, change_past}
-use Rattle.priority_plan.specs.Rules.{with_barrier, levels_of, rules_needed}
+use Rattle.priority_plan.specs.Rules.{with_barrier, levels_of}
 use Rattle.priority_plan.specs.Counts.{count_of, count_in}
 use Rattle.priority_plan.specs.Laws.{FewLevels, FewMore}
-use Rattle.priority_plan.proofs.Counted.{needed_count, levels_counted}
+use Rattle.priority_plan.proofs.Counted.{needed_count, counted}
 
 pub few_levels : FewLevels
-few_levels t = let a = levels_counted t in let e = needed_count t in omega (arith, a, e)
+few_levels t = let a = counted t in let e = needed_count t in omega (arith, a.0, e)
 
 -- one more trace below a node brings these further rules
 abbrev Grew : ℕ → ℕ → ℕ → Type 0
@@ -108,10 +108,8 @@ mutual
       let e = times_add (leaves_of t) (leaves_in bs) d in
       omega (arith, a, b, e)
 
-pub few_rules : (t : Shape) → longest_of t ≤ most_items → leaves_of t < 2 ^ 32 → rules_needed t < 2 ^ 64
-few_rules t short few =
-    let a = few_of t (most_items + 1) (omega (arith, short)) in
-    omega (arith, a, few, needed_count t)
+pub few_counted : (t : Shape) → longest_of t ≤ most_items → leaves_of t < 2 ^ 32 → count_of t < 2 ^ 64
+few_counted t short few = let a = few_of t (most_items + 1) (omega (arith, short)) in omega (arith, a, few)
 
 pub few_priorities : (t : Shape) → longest_of t ≤ most_items → leaves_of t < 2 ^ 32 → levels_of t < 2 ^ 64
-few_priorities t short few = let a = few_rules t short few in let b = few_levels t in omega (arith, a, b)
+few_priorities t short few = let a = few_counted t short few in let b = counted t in omega (arith, a, b.0)

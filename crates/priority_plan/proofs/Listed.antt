@@ -1,6 +1,6 @@
 -- The rules that stand in a tree, and those of its lists.
-use Rattle.std.proofs.Common.{◌≡◌, ℕ, zero, suc, ◌+◌, List, [], ◌∷◌, refl, ap, inl, inr, ⊎_elim, arith}
-use Rattle.std.specs.Prelude.{Contains, map, filter_map}
+use Rattle.std.proofs.Common.{◌≡◌, ◌⊎◌, ℕ, zero, suc, ◌+◌, ◌++◌, List, [], ◌∷◌, refl, ap, inl, inr, ⊎_elim, arith}
+use Rattle.std.specs.Prelude.{◌↔◌, Contains, map, filter_map}
 use Rattle.std.proofs.lemmas.List.Elements.{Contains-append_cases, Contains-append_left, Contains-append_right}
 use Rattle.maple_base.specs.declared.key.Field.{Field}
 use Rattle.maple_base.specs.declared.key.Match.{Match}
@@ -13,48 +13,32 @@ use Rattle.priority_plan.specs.Rules.{with_barrier, levels_of, fact, barrier, ba
 use Rattle.priority_plan.specs.Standing.{rule_of, IsOwn, Stands, StandsIn}
 use Rattle.priority_plan.proofs.Spans.{none_in, the_one}
 
-pub own_row : (x : Row) (n : ℕ) (m : Match) (b : ℕ) → Contains (map Barrier (barrier_behind n m b)) x → IsOwn x n m b
-own_row x zero m b h = none_in _ x h
-own_row x (suc n) m b h = (omega arith, the_one (Barrier (barrier m (b + with_barrier (suc n)))) x h)
-
-row_own : (x : Row) (n : ℕ) (m : Match) (b : ℕ) → IsOwn x n m b → Contains (map Barrier (barrier_behind n m b)) x
-row_own x zero m b h = absurd (omega (arith, h.0))
-row_own x (suc n) m b h = (0, omega arith, h.1)
+pub own_row : (x : Row) (n : ℕ) (m : Match) (b : ℕ) → Contains (map Barrier (barrier_behind n m b)) x ↔ IsOwn x n m b
+own_row x zero m b = (none_in _ x, λ h. absurd (omega (arith, h.0)))
+own_row x (suc n) m b = (λ h. (omega arith, the_one (Barrier (barrier m (b + with_barrier (suc n)))) x h), λ h. (0, omega arith, h.1))
 
 pub own_stands : (r : Rule) (n : ℕ) (m : Match) (b : ℕ) → Contains (barrier_behind n m b) r → IsOwn (Barrier r) n m b
 own_stands r zero m b h = none_in _ r h
 own_stands r (suc n) m b h = (omega arith, ap Barrier (the_one (barrier m (b + with_barrier (suc n))) r h))
 
-mutual
-  pub rows_stand : (x : Row) (t : Shape) (m : Match) (b : ℕ) → Contains (rows_of t m b) x → Stands x t m b
-  rows_stand x Empty m b h = none_in _ x h
-  rows_stand x (Ends l) m b h = the_one (Fact (fact l m b)) x h
-  rows_stand x (Reads f bs) m b h = rows_stand_in x bs f m b h
-  rows_stand x (Tests f v n y) m b h =
-      let c = b + with_barrier (levels_of n) in
-      ⊎_elim (λ d. inr (inr (rows_stand x y (fix f v m) c d)))
-      (λ d. ⊎_elim (λ e. inr (inl (own_row x (levels_of n) (fix f v m) b e))) (λ e. inl (rows_stand x n m b e)) (Contains-append_cases (map Barrier (barrier_behind (levels_of n) (fix f v m) b)) _ x d))
-      (Contains-append_cases (rows_of y (fix f v m) c) _ x h)
-
-  pub rows_stand_in : (x : Row) (bs : Branches) (f : Field) (m : Match) (b : ℕ) → Contains (rows_in bs f m b) x → StandsIn x bs f m b
-  rows_stand_in x NoBranch f m b h = none_in _ x h
-  rows_stand_in x (Branch v t bs) f m b h = ⊎_elim (λ c. inl (rows_stand x t (fix f v m) b c)) (λ c. inr (rows_stand_in x bs f m b c)) (Contains-append_cases (rows_of t (fix f v m) b) _ x h)
+-- one of two lists contains it
+in_either : (xs ys : List Row) (x : Row) (A B : Type 0) → (Contains xs x ↔ A) → (Contains ys x ↔ B) → (Contains (xs ++ ys) x ↔ (A ⊎ B))
+in_either xs ys x A B a b = (
+  λ c. ⊎_elim (λ d. inl (a.0 d)) (λ d. inr (b.0 d)) (Contains-append_cases xs ys x c),
+  λ s. ⊎_elim (λ d. Contains-append_left xs ys x (a.1 d)) (λ d. Contains-append_right xs ys x (b.1 d)) s,
+)
 
 mutual
-  stand_rows : (x : Row) (t : Shape) (m : Match) (b : ℕ) → Stands x t m b → Contains (rows_of t m b) x
-  stand_rows x Empty m b h = absurd h
-  stand_rows x (Ends l) m b h = (0, omega arith, h)
-  stand_rows x (Reads f bs) m b h = stand_rows_in x bs f m b h
-  stand_rows x (Tests f v n y) m b (inl h) =
-      Contains-append_right (rows_of y (fix f v m) (b + with_barrier (levels_of n))) _ x (Contains-append_right (map Barrier (barrier_behind (levels_of n) (fix f v m) b)) _ x (stand_rows x n m b h))
-  stand_rows x (Tests f v n y) m b (inr (inl h)) =
-      Contains-append_right (rows_of y (fix f v m) (b + with_barrier (levels_of n))) _ x (Contains-append_left _ (rows_of n m b) x (row_own x (levels_of n) (fix f v m) b h))
-  stand_rows x (Tests f v n y) m b (inr (inr h)) = Contains-append_left _ _ x (stand_rows x y (fix f v m) (b + with_barrier (levels_of n)) h)
+  pub listed : (x : Row) (t : Shape) (m : Match) (b : ℕ) → Contains (rows_of t m b) x ↔ Stands x t m b
+  listed x Empty m b = (none_in _ x, λ h. absurd h)
+  listed x (Ends l) m b = (the_one (Fact (fact l m b)) x, λ h. (0, omega arith, h))
+  listed x (Reads f bs) m b = listed_in x bs f m b
+  listed x (Tests f v n y) m b =
+      in_either _ _ x _ _ (listed x y (fix f v m) (b + with_barrier (levels_of n))) (in_either _ _ x _ _ (own_row x (levels_of n) (fix f v m) b) (listed x n m b))
 
-  stand_rows_in : (x : Row) (bs : Branches) (f : Field) (m : Match) (b : ℕ) → StandsIn x bs f m b → Contains (rows_in bs f m b) x
-  stand_rows_in x NoBranch f m b h = absurd h
-  stand_rows_in x (Branch v t bs) f m b (inl h) = Contains-append_left _ _ x (stand_rows x t (fix f v m) b h)
-  stand_rows_in x (Branch v t bs) f m b (inr h) = Contains-append_right (rows_of t (fix f v m) b) _ x (stand_rows_in x bs f m b h)
+  pub listed_in : (x : Row) (bs : Branches) (f : Field) (m : Match) (b : ℕ) → Contains (rows_in bs f m b) x ↔ StandsIn x bs f m b
+  listed_in x NoBranch f m b = (none_in _ x, λ h. absurd h)
+  listed_in x (Branch v t bs) f m b = in_either _ _ x _ _ (listed x t (fix f v m) b) (listed_in x bs f m b)
 
 -- the facts and the barriers among some rows
 fact_among : (xs : List Row) (r : Rule) → Contains (filter_map fact_of xs) r → Contains xs (Fact r)
@@ -82,16 +66,16 @@ among_barriers (Fact q ∷ xs) r c = ⊎_elim (λ d. let e = the_one (Fact q) (B
 
 module _ (r : Rule) (t : Shape) (m : Match) (b : ℕ) where
   pub fact_stands : Contains (facts_of t m b) r → Stands (Fact r) t m b
-  fact_stands h = rows_stand (Fact r) t m b (fact_among (rows_of t m b) r h)
+  fact_stands h = (listed (Fact r) t m b).0 (fact_among (rows_of t m b) r h)
 
   pub stands_fact : Stands (Fact r) t m b → Contains (facts_of t m b) r
-  stands_fact h = among_facts (rows_of t m b) r (stand_rows (Fact r) t m b h)
+  stands_fact h = among_facts (rows_of t m b) r ((listed (Fact r) t m b).1 h)
 
   pub barrier_stands : Contains (barriers_of t m b) r → Stands (Barrier r) t m b
-  barrier_stands h = rows_stand (Barrier r) t m b (barrier_among (rows_of t m b) r h)
+  barrier_stands h = (listed (Barrier r) t m b).0 (barrier_among (rows_of t m b) r h)
 
   pub stands_barrier : Stands (Barrier r) t m b → Contains (barriers_of t m b) r
-  stands_barrier h = among_barriers (rows_of t m b) r (stand_rows (Barrier r) t m b h)
+  stands_barrier h = among_barriers (rows_of t m b) r ((listed (Barrier r) t m b).1 h)
 
 -- a rule is that of one of these rows
 pub record IsOne (S : Row → Type 0) (r : Rule) : Type 0 where

@@ -1,61 +1,24 @@
 -- Where the rules of a tree stand, facts and barriers together.
-use Rattle.std.proofs.Common.{◌≡◌, ℕ, zero, suc, ◌+◌, ◌<◌, refl, ap, subst, inl, inr, ⊎_elim, arith}
+use Rattle.std.proofs.Common.{ℕ, ◌+◌, ◌<◌, ap, subst, inl, inr, arith}
 use Rattle.std.specs.Prelude.{Contains}
-use Rattle.std.proofs.lemmas.Bool.{cases_lt}
 use Rattle.maple_base.specs.declared.key.Field.{Field}
 use Rattle.maple_base.specs.declared.key.Match.{Match}
 use Rattle.maple_base.specs.declared.decision.Rule.{Rule}
 use Rattle.maple_base.specs.Keys.{fix, anything}
 use Rattle.trace_tree.specs.Shape.{Shape, Branches, Empty, Ends, Reads, Tests, NoBranch, Branch}
-use Rattle.priority_plan.specs.declared.rows.Row.{Row}
-use Rattle.priority_plan.specs.declared.rows.Row.TheVariants.{Fact, Barrier}
-use Rattle.priority_plan.specs.Rules.{with_barrier, levels_of, most_levels, fact, barrier, rules_within, PartedBy, StandsBelow, StandsBelowIn}
-use Rattle.priority_plan.specs.Standing.{rule_of, Stands, StandsIn}
+use Rattle.priority_plan.specs.Rules.{with_barrier, levels_of, rules_within, PartedBy, StandsBelow, StandsBelowIn}
+use Rattle.priority_plan.specs.Standing.{rule_of}
+use Rattle.priority_plan.specs.Chains.{KeepsOrder}
 use Rattle.priority_plan.specs.Laws.{NoneLower, LevelsLaw, BelowLaw}
 use Rattle.priority_plan.proofs.Spans.{barrier_above, Within, within}
-use Rattle.priority_plan.proofs.Listed.{own_stands, rule_stands, stands_rule}
+use Rattle.priority_plan.proofs.Listed.{own_stands, rule_stands}
+use Rattle.priority_plan.proofs.Chains.{least_levels}
 
 pub rules_between : (t : Shape) (m : Match) (b : ℕ) (r : Rule) → Contains (rules_within t m b) r → Within b (levels_of t) r
 rules_between t m b r h = let s = rule_stands r t m b h in subst (Within b (levels_of t)) s.is (within s.row t m b s.stands)
 
 pub none_lower : NoneLower
 none_lower t r h = let w = rules_between t anything 0 r h in omega (arith, w.0)
-
--- one of these rows has this priority
-record HasTop (S : Row → Type 0) (p : ℕ) : Type 0 where
-  row : Row
-  stands : S row
-  top : (rule_of row).priority ≡ p
-
-some_below : (n : ℕ) → 0 < with_barrier n → 0 < n
-some_below zero h = h
-some_below (suc n) h = omega arith
-
-mutual
-  tops : (t : Shape) (m : Match) (b : ℕ) → 0 < levels_of t → HasTop (λ x. Stands x t m b) (b + levels_of t)
-  tops Empty m b h = absurd (omega (arith, h))
-  tops (Ends l) m b h = record { row = Fact (fact l m b); stands = refl; top = refl }
-  tops (Reads f bs) m b h = tops_in bs f m b h
-  tops (Tests f v n y) m b h =
-      ⊎_elim (λ lt. let s = tops y (fix f v m) (b + with_barrier (levels_of n)) lt in record { row = s.row; stands = inr (inr s.stands); top = omega (arith, s.top) })
-      (λ le.
-      let own = Barrier (barrier (fix f v m) (b + with_barrier (levels_of n))) in
-      record { row = own; stands = inr (inl (some_below (levels_of n) (omega (arith, h, le)), refl)); top = omega (arith, le) })
-      (cases_lt 0 (levels_of y))
-
-  tops_in : (bs : Branches) (f : Field) (m : Match) (b : ℕ) → 0 < most_levels bs → HasTop (λ x. StandsIn x bs f m b) (b + most_levels bs)
-  tops_in NoBranch f m b h = absurd (omega (arith, h))
-  tops_in (Branch v t bs) f m b h =
-      ⊎_elim (λ lt. let s = tops_in bs f m b (omega (arith, h, lt)) in record { row = s.row; stands = inr s.stands; top = omega (arith, s.top, lt) })
-      (λ le. let s = tops t (fix f v m) b (omega (arith, h, le)) in record { row = s.row; stands = inl s.stands; top = omega (arith, s.top, le) })
-      (cases_lt (levels_of t) (most_levels bs))
-
-pub levels_law : LevelsLaw
-levels_law t =
-    record {
-      bound = λ r h. let w = rules_between t anything 0 r h in omega (arith, w.1);
-      reached = λ h. let s = tops t anything 0 h in (rule_of s.row, stands_rule s.row t anything 0 s.stands, omega (arith, s.top));
-    }
 
 parted : (f : Field) (v : ℕ) (n y : Shape) (m : Match) (b : ℕ) (r q : Rule) → PartedBy f v n y m b r q → r.priority < q.priority
 parted f v n y m b r q (inl c) =
@@ -86,3 +49,15 @@ mutual
 
 pub below_law : BelowLaw
 below_law t r q h = stands t anything 0 r q h
+
+-- the priorities keep the order, so the greatest is not below the number of levels
+pub levels_law : LevelsLaw
+levels_law t =
+    record {
+      bound = λ r h. let w = rules_between t anything 0 r h in omega (arith, w.1);
+      reached = λ h.
+          let keeps : KeepsOrder t (λ (r : Rule). r.priority) = record { from = none_lower t; rises = below_law t } in
+          let s = least_levels t (λ r. r.priority) keeps h in
+          let w = rules_between t anything 0 s.0 s.1 in
+          (s.0, s.1, omega (arith, s.2, w.1));
+    }

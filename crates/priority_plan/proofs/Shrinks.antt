@@ -1,66 +1,18 @@
 -- No more levels and no more rules when leaves go.
-use Rattle.std.proofs.Common.{◌≡◌, ℕ, ◌+◌, ◌≤◌, Bool, true, ◌++◌, refl, sym, ap, ◌∙◌, subst, arith}
+use Rattle.std.proofs.Common.{◌≡◌, ℕ, ◌+◌, ◌≤◌, Bool, true, false, cond, ◌++◌, length, refl, sym, ap, ◌∙◌, arith}
 use Rattle.std.specs.Prelude.{max, map}
 use Rattle.maple_base.specs.declared.key.Field.{Field}
 use Rattle.maple_base.specs.declared.key.Match.{Match}
-use Rattle.maple_base.specs.Keys.{fix}
+use Rattle.maple_base.specs.Keys.{fix, anything}
 use Rattle.trace_tree.specs.declared.node.Leaf.{Leaf}
 use Rattle.trace_tree.specs.Shape.{Shape, Branches, Empty, Ends, Reads, Tests, NoBranch, Branch}
-use Rattle.trace_tree.specs.Kept.{reads, branch, tests, kept, kept_in, IsKept, AreKept}
-use Rattle.trace_tree.proofs.Kept.{is_ends, is_reads, is_tests, is_branch}
+use Rattle.trace_tree.specs.Kept.{reads, branch, tests, kept, kept_in}
 use Rattle.priority_plan.specs.declared.rows.Row.TheVariants.{Barrier}
 use Rattle.priority_plan.specs.Rules.{with_barrier, levels_of, most_levels, barrier_behind, rows_of, rows_in}
 use Rattle.priority_plan.specs.Emptied.{emptied, emptied_in}
 use Rattle.priority_plan.specs.Counts.{count_of, count_in}
-use Rattle.priority_plan.specs.Laws.{HasNoMore, KeptHasNoMore}
-use Rattle.priority_plan.proofs.Counted.{needed_count, barrier_mono}
-
--- so many levels and rules at most
-abbrev Few : Shape → ℕ → ℕ → Type 0
-Few t levels rules = (levels_of t ≤ levels) × (count_of t ≤ rules)
-
-module _ (A : Leaf → Bool → Type 0) where
-  mutual
-    few_kept : (t u : Shape) → IsKept A t u → Few u (levels_of t) (count_of t)
-    few_kept Empty u k = subst (λ x. Few x 0 0) (sym k) (omega arith, omega arith)
-    few_kept (Ends l) u k = is_ends (λ x. Few x 1 1) k.0 l u k.2 (omega arith, omega arith) (omega arith, omega arith)
-    few_kept (Reads f bs) u k = is_reads (λ x. Few x (most_levels bs) (count_in bs)) f k.0 u k.2 (omega arith, omega arith) (few_in_kept bs k.0 k.1)
-    few_kept (Tests f v n y) u k =
-        let i = few_kept n k.0 k.2 in
-        let j = few_kept y k.1 k.3 in
-        let p = barrier_mono (levels_of k.0) (levels_of n) i.0 in
-        let q = barrier_mono (count_of k.0) (count_of n) i.1 in
-        is_tests (λ x. Few x (with_barrier (levels_of n) + levels_of y) (with_barrier (count_of n) + count_of y)) f v k.0 k.1 u k.4 (omega arith, omega arith) (omega (arith, p, j.0), omega (arith, q, j.1))
-
-    few_in_kept : (bs cs : Branches) → AreKept A bs cs → (most_levels cs ≤ most_levels bs) × (count_in cs ≤ count_in bs)
-    few_in_kept NoBranch cs k = subst (λ x. (most_levels x ≤ 0) × (count_in x ≤ 0)) (sym k) (omega arith, omega arith)
-    few_in_kept (Branch v t bs) cs k =
-        let i = few_kept t k.0 k.2 in
-        let j = few_in_kept bs k.1 k.3 in
-        is_branch (λ x. (most_levels x ≤ max (levels_of t) (most_levels bs)) × (count_in x ≤ count_of t + count_in bs)) v k.0 k.1 cs k.4
-        (omega (arith, j.0), omega (arith, j.1)) (omega (arith, i.0, j.0), omega (arith, i.1, j.1))
-
--- also where one leaf may be answered both ways
-pub answered_no_more : (A : Leaf → Bool → Type 0) (t u : Shape) → IsKept A t u → HasNoMore t u
-answered_no_more A t u k =
-    let h = few_kept A t u k in
-    let e = needed_count t in
-    let f = needed_count u in
-    record { levels = h.0; rules = omega (arith, h.1, e, f) }
-
-mutual
-  what_is_kept : (p : Leaf → Bool) (t : Shape) → IsKept (λ l b. b ≡ p l) t (kept p t)
-  what_is_kept p Empty = refl
-  what_is_kept p (Ends l) = (p l, refl, refl)
-  what_is_kept p (Reads f bs) = (kept_in p bs, what_are_kept p bs, refl)
-  what_is_kept p (Tests f v n y) = (kept p n, kept p y, what_is_kept p n, what_is_kept p y, refl)
-
-  what_are_kept : (p : Leaf → Bool) (bs : Branches) → AreKept (λ l b. b ≡ p l) bs (kept_in p bs)
-  what_are_kept p NoBranch = refl
-  what_are_kept p (Branch v t bs) = (kept p t, kept_in p bs, what_is_kept p t, what_are_kept p bs, refl)
-
-pub kept_no_more : KeptHasNoMore
-kept_no_more p t = answered_no_more (λ l b. b ≡ p l) t (kept p t) (what_is_kept p t)
+use Rattle.priority_plan.specs.Laws.{KeptHasNoMore}
+use Rattle.priority_plan.proofs.Counted.{rows_length, needed_count, barrier_mono}
 
 -- Leaves that do not count leave the rules that the tree has once they are gone.
 mutual
@@ -125,5 +77,30 @@ module _ (p : Leaf → Bool) where
         branch_alike (λ x. rows_in x f m b) v (kept p t) (kept_in p bs) refl
         ∙ ap (λ x. x ++ rows_in (kept_in p bs) f m b) (rows_emptied t (fix f v m) b) ∙ ap (λ x. rows_of (emptied p t) (fix f v m) b ++ x) (rows_in_emptied bs f m b)
 
+  mutual
+    -- no more levels and no more rules
+    few_left : (t : Shape) → (levels_of (emptied p t) ≤ levels_of t) × (count_of (emptied p t) ≤ count_of t)
+    few_left Empty = (omega arith, omega arith)
+    few_left (Ends l) =
+        elim (p l) as (λ b. (levels_of (cond b (Ends l) Empty) ≤ 1) × (count_of (cond b (Ends l) Empty) ≤ 1)) [ true ↦ (omega arith, omega arith) | false ↦ (omega arith, omega arith) ]
+    few_left (Reads f bs) = few_left_in bs
+    few_left (Tests f v n y) =
+        let i = few_left n in
+        let j = few_left y in
+        let a = barrier_mono (levels_of (emptied p n)) (levels_of n) i.0 in
+        let c = barrier_mono (count_of (emptied p n)) (count_of n) i.1 in
+        (omega (arith, a, j.0), omega (arith, c, j.1))
+
+    few_left_in : (bs : Branches) → (most_levels (emptied_in p bs) ≤ most_levels bs) × (count_in (emptied_in p bs) ≤ count_in bs)
+    few_left_in NoBranch = (omega arith, omega arith)
+    few_left_in (Branch v t bs) = let i = few_left t in let j = few_left_in bs in (omega (arith, i.0, j.0), omega (arith, i.1, j.1))
+
   pub emptied_less : (t : Shape) → levels_of (emptied p t) ≤ levels_of t
-  emptied_less t = let h = kept_no_more p t in let e = levels_emptied t in omega (arith, h.levels, e)
+  emptied_less t = (few_left t).0
+
+pub kept_no_more : KeptHasNoMore
+kept_no_more p t =
+    let few = few_left p t in
+    let levels = levels_emptied p t in
+    let rules = needed_count (kept p t) ∙ sym (rows_length (kept p t) anything 0) ∙ ap length (rows_emptied p t anything 0) ∙ rows_length (emptied p t) anything 0 in
+    record { levels = omega (arith, few.0, levels); rules = omega (arith, few.1, rules, needed_count t) }

@@ -37,12 +37,12 @@ mutual
   within x Empty m b h = absurd h
   within x (Ends l) m b h = let p = ap priority_of h in (omega (arith, p), omega (arith, p))
   within x (Reads f bs) m b h = within_in x bs f m b h
-  within x (Tests f v n y) m b (inl h) = let w = within x n m b h in let l = barrier_least (levels_of n) in (w.0, omega (arith, w.1, l))
+  within x (Tests f v n y) m b (inr (inr h)) = let w = within x n m b h in let l = barrier_least (levels_of n) in (w.0, omega (arith, w.1, l))
   within x (Tests f v n y) m b (inr (inl h)) =
       let p = ap priority_of h.1 in
       let a = barrier_above (levels_of n) h.0 in
       (omega (arith, p, a, h.0), omega (arith, p, a))
-  within x (Tests f v n y) m b (inr (inr h)) = let w = within x y (fix f v m) (b + with_barrier (levels_of n)) h in (omega (arith, w.0), omega (arith, w.1))
+  within x (Tests f v n y) m b (inl h) = let w = within x y (fix f v m) (b + with_barrier (levels_of n)) h in (omega (arith, w.0), omega (arith, w.1))
 
   within_in : (x : Row) (bs : Branches) (f : Field) (m : Match) (b : ℕ) → StandsIn x bs f m b → Within b (most_levels bs) (rule_of x)
   within_in x NoBranch f m b h = absurd h

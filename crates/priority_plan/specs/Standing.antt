@@ -23,7 +23,7 @@ abbrev mutual
   Stands x Empty m base = ⊥
   Stands x (Ends l) m base = Fact (fact l m base) ≡ x
   Stands x (Reads f bs) m base = StandsIn x bs f m base
-  Stands x (Tests f v n y) m base = Stands x n m base ⊎ (IsOwn x (levels_of n) (fix f v m) base ⊎ Stands x y (fix f v m) (base + with_barrier (levels_of n)))
+  Stands x (Tests f v n y) m base = Stands x y (fix f v m) (base + with_barrier (levels_of n)) ⊎ (IsOwn x (levels_of n) (fix f v m) base ⊎ Stands x n m base)
 
   pub StandsIn : Row → Branches → Field → Match → ℕ → Type 0
   StandsIn x NoBranch f m base = ⊥

@@ -10,6 +10,7 @@ use crate::which::{EveryLeaf, WhichLeaves};
 use trace_tree::{Node, Tree};
 
 /// How many priorities the rules of a tree take.
+#[tactic(auto, using(crate::proofs::Places::levels_law, crate::proofs::Grows::few_priorities))]
 pub fn levels(tree: &Tree) -> u64
     ensures count { result ≡ levels_of tree.now }
     ensures greatest { IsGreatest (rules_of tree.now) result }
@@ -18,6 +19,7 @@ pub fn levels(tree: &Tree) -> u64
 }
 
 /// How many priorities the rules of a node take.
+#[tactic(auto, using(crate::proofs::Shrinks::emptied_every))]
 pub fn node_levels(node: &Node) -> u64
     requires { levels_of (tree_of node.now) < 2 ^ 64 }
     ensures { result ≡ levels_of (tree_of node.now) }
@@ -84,6 +86,7 @@ fn most_levels<W: WhichLeaves>(children: &[(u64, Node)], which: &W) -> u64
 }
 
 /// How many rules a tree has.
+#[tactic(auto, using(crate::proofs::Counted::needed_count, crate::proofs::Grows::few_counted))]
 pub fn rules_needed(tree: &Tree) -> u64
     ensures { result ≡ rules_needed tree.now }
 {

@@ -75,11 +75,11 @@ module _ (k : Key) (r : Rule) (fit : fits r k ≡ true) where
     unshielded (Ends l) m b fresh o h clear = cc
     unshielded (Reads f bs) m b fresh o h clear = unshielded_in bs f m b fresh.1 o h clear
     unshielded (Tests f v n y) m b fresh o (inl h) clear =
-        past_test f v n y k m b (false_side f v n y m b fresh.1 h clear) ∙ unshielded n m b fresh.1 o.0 h (λ q c. clear q (inl c))
+        let c = b + with_barrier (levels_of n) in
+        at_test f v n y k m b (value_of (Fact r) k f v y m c fresh.2 h fit) ∙ unshielded y (fix f v m) c fresh.2 o.1 h (λ q d. clear q (inl d))
     unshielded (Tests f v n y) m b fresh o (inr (inl h)) clear = let e = h.1 in absurd (cc)
     unshielded (Tests f v n y) m b fresh o (inr (inr h)) clear =
-        let c = b + with_barrier (levels_of n) in
-        at_test f v n y k m b (value_of (Fact r) k f v y m c fresh.2 h fit) ∙ unshielded y (fix f v m) c fresh.2 o.1 h (λ q c. clear q (inr (inr c)))
+        past_test f v n y k m b (false_side f v n y m b fresh.1 h clear) ∙ unshielded n m b fresh.1 o.0 h (λ q c. clear q (inr (inr c)))
 
     unshielded_in : (bs : Branches) (f : Field) (m : Match) (b : ℕ) → AreFresh bs f m → AreOrdered bs → StandsIn (Fact r) bs f m b → Unshielded (λ x. StandsIn x bs f m b) k r.priority → fact_in bs (field_of k f) f k m b ≡ Some r
     unshielded_in NoBranch f m b fresh o h clear = absurd h
@@ -110,18 +110,18 @@ module _ (k : Key) (r : Rule) where
         let h = found_top y (fix f v m) c fresh.2 o.1 (fits_fixed f v m k fit same) (sym (at_test f v n y k m b same) ∙ e) in
         let w = within (Fact r) y (fix f v m) c h.there in
         record {
-          there = inr (inr h.there);
+          there = inl h.there;
           fitting = h.fitting;
-          above = λ q i g. ⊎_elim (λ j. let u = within (Barrier q) n m b j in let l = barrier_least (levels_of n) in omega (arith, u.1, w.0, l))
-              (⊎_elim (λ j. let p = ap (λ x. (rule_of x).priority) j.1 in omega (arith, p, w.0)) (λ j. h.above q j g)) i;
+          above = λ q i g. ⊎_elim (λ j. h.above q j g)
+              (⊎_elim (λ j. let p = ap (λ x. (rule_of x).priority) j.1 in omega (arith, p, w.0)) (λ j. let u = within (Barrier q) n m b j in let l = barrier_least (levels_of n) in omega (arith, u.1, w.0, l))) i;
         })
         (λ other.
         let h = found_top n m b fresh.1 o.0 fit (sym (past_test f v n y k m b other) ∙ e) in
         record {
-          there = inl h.there;
+          there = inr (inr h.there);
           fitting = h.fitting;
-          above = λ q i g. ⊎_elim (λ j. h.above q j g)
-              (⊎_elim (λ j. absurd (other (key_has f v q.of k (ap (λ x. fixed_of (rule_of x).of f) (sym j.1) ∙ own_fixed f v m) g))) (λ j. absurd (other (value_of (Barrier q) k f v y m c fresh.2 j g)))) i;
+          above = λ q i g. ⊎_elim (λ j. absurd (other (value_of (Barrier q) k f v y m c fresh.2 j g)))
+              (⊎_elim (λ j. absurd (other (key_has f v q.of k (ap (λ x. fixed_of (rule_of x).of f) (sym j.1) ∙ own_fixed f v m) g))) (λ j. h.above q j g)) i;
         })
         (cases_eq (field_of k f) v)
 

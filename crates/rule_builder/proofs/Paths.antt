@@ -8,6 +8,7 @@ use Rattle.maple_base.specs.declared.key.Field.{Field}
 use Rattle.maple_base.specs.declared.key.Key.{Key}
 use Rattle.maple_base.specs.declared.key.Match.{Match}
 use Rattle.maple_base.specs.declared.decision.Rule.{Rule}
+use Rattle.maple_base.specs.declared.decision.Decision.TheVariants.{Drop}
 use Rattle.maple_base.specs.declared.items.Item.{Item}
 use Rattle.maple_base.specs.declared.items.Item.TheVariants.{Read, Test}
 use Rattle.maple_base.specs.Keys.{field_of, fix}
@@ -18,9 +19,10 @@ use Rattle.trace_tree.specs.Shape.{Shape, Branches, Empty, Ends, Reads, Tests, N
 use Rattle.trace_tree.specs.Growth.{change, insert, leaf_of, grown, scratch, found, search_of, child, admits, AreAdmitted, IsOrdered}
 use Rattle.trace_tree.proofs.Growths.{both, same_field_is, admits_Empty, none_yet, search_insert, insert_ordered}
 use Rattle.trace_tree.proofs.Children.{change_here, change_ahead, change_past}
-use Rattle.priority_plan.specs.declared.rows.Row.TheVariants.{Fact}
-use Rattle.priority_plan.specs.Rules.{with_barrier, levels_of, fact, fact_actions}
-use Rattle.priority_plan.specs.Standing.{rule_of, Stands, StandsIn}
+use Rattle.priority_plan.specs.declared.rows.Row.{Row}
+use Rattle.priority_plan.specs.declared.rows.Row.TheVariants.{Fact, Barrier}
+use Rattle.priority_plan.specs.Rules.{with_barrier, levels_of, fact, barrier, fact_actions}
+use Rattle.priority_plan.specs.Standing.{Stands, StandsIn}
 use Rattle.priority_plan.proofs.Spans.{none_in, the_one}
 use Rattle.rule_builder.specs.Chosen.{fixed_by}
 
@@ -136,25 +138,38 @@ mutual
   along_map_in P Q g f NoBranch h = tt
   along_map_in P Q g f (Branch v t bs) h = (along_map (λ is. P (Read f v ∷ is)) (λ is. Q (Read f v ∷ is)) (λ is l p. g (Read f v ∷ is) l p) t h.0, along_map_in P Q g f bs h.1)
 
--- a leaf of which Q holds, and whose actions are these
-pub record IsLeafOf (Q : Leaf → Type 0) (actions : List ℕ) : Type 0 where
-  pub leaf : Leaf
-  pub holds : Q leaf
-  pub does : actions ≡ fact_actions leaf.decision
-
+-- what holds of any items and leaf holds along each path
 mutual
-  pub fact_leaf : (Q : Leaf → Type 0) (r : Rule) (t : Shape) (m : Match) (b : ℕ) → Along (λ is. Q) t → Stands (Fact r) t m b → IsLeafOf Q r.actions
-  fact_leaf Q r Empty m b h c = absurd c
-  fact_leaf Q r (Ends l) m b h c = record { leaf = l; holds = h; does = ap (λ x. (rule_of x).actions) (sym c) }
-  fact_leaf Q r (Reads f bs) m b h c = fact_leaf_in Q r bs f m b h c
-  fact_leaf Q r (Tests f v n y) m b h (inl c) = fact_leaf Q r n m b h.1 c
-  fact_leaf Q r (Tests f v n y) m b h (inr (inl c)) = let e = c.1 in absurd (cc)
-  fact_leaf Q r (Tests f v n y) m b h (inr (inr c)) = fact_leaf Q r y (fix f v m) (b + with_barrier (levels_of n)) h.2 c
+  pub along_any : (P : List Item → Leaf → Type 0) → ((is : List Item) (l : Leaf) → P is l) → (t : Shape) → Along P t
+  along_any P all Empty = tt
+  along_any P all (Ends l) = all [] l
+  along_any P all (Reads f bs) = along_any_in P all f bs
+  along_any P all (Tests f v n y) =
+      let some : Leaf = record { number = 0; cells = []; decision = Drop } in
+      (record { answer = true; items = []; leaf = some; holds = all (Test f v true ∷ []) some }, along_any _ (λ is l. all (Test f v false ∷ is) l) n, along_any _ (λ is l. all (Test f v true ∷ is) l) y)
 
-  fact_leaf_in : (Q : Leaf → Type 0) (r : Rule) (bs : Branches) (f : Field) (m : Match) (b : ℕ) → AlongIn (λ is. Q) f bs → StandsIn (Fact r) bs f m b → IsLeafOf Q r.actions
-  fact_leaf_in Q r NoBranch f m b h c = absurd c
-  fact_leaf_in Q r (Branch v t bs) f m b h (inl c) = fact_leaf Q r t (fix f v m) b h.0 c
-  fact_leaf_in Q r (Branch v t bs) f m b h (inr c) = fact_leaf_in Q r bs f m b h.1 c
+  along_any_in : (P : List Item → Leaf → Type 0) → ((is : List Item) (l : Leaf) → P is l) → (f : Field) (bs : Branches) → AlongIn P f bs
+  along_any_in P all f NoBranch = tt
+  along_any_in P all f (Branch v t bs) = (along_any _ (λ is l. all (Read f v ∷ is) l) t, along_any_in P all f bs)
+
+-- what holds behind the match of a path, of the items that are left and their leaf, and so of each rule
+module _ (P : Match → List Item → Leaf → Type 0) (Q : Row → Type 0)
+    (next : (m : Match) (i : Item) (is : List Item) (l : Leaf) → P m (i ∷ is) l → P (fixed_by (i ∷ []) m) is l)
+    (facts : (m : Match) (b : ℕ) (l : Leaf) → P m [] l → Q (Fact (fact l m b)))
+    (barriers : (m : Match) (f : Field) (v : ℕ) (a : Bool) (is : List Item) (l : Leaf) (p : ℕ) → P m (Test f v a ∷ is) l → Q (Barrier (barrier (fix f v m) p))) where
+  mutual
+    pub of_each : (x : Row) (t : Shape) (m : Match) (b : ℕ) → Along (P m) t → Stands x t m b → Q x
+    of_each x Empty m b h c = absurd c
+    of_each x (Ends l) m b h c = subst Q c (facts m b l h)
+    of_each x (Reads f bs) m b h c = of_each_in x bs f m b h c
+    of_each x (Tests f v n y) m b h (inr (inr c)) = of_each x n m b (along_map _ (P m) (next m (Test f v false)) n h.1) c
+    of_each x (Tests f v n y) m b h (inr (inl c)) = subst Q c.1 (barriers m f v h.0.answer h.0.items h.0.leaf (b + with_barrier (levels_of n)) h.0.holds)
+    of_each x (Tests f v n y) m b h (inl c) = of_each x y (fix f v m) (b + with_barrier (levels_of n)) (along_map _ (P (fix f v m)) (next m (Test f v true)) y h.2) c
+
+    of_each_in : (x : Row) (bs : Branches) (f : Field) (m : Match) (b : ℕ) → AlongIn (P m) f bs → StandsIn x bs f m b → Q x
+    of_each_in x NoBranch f m b h c = absurd c
+    of_each_in x (Branch v t bs) f m b h (inl c) = of_each x t (fix f v m) b (along_map _ (P (fix f v m)) (next m (Read f v)) t h.0) c
+    of_each_in x (Branch v t bs) f m b h (inr c) = of_each_in x bs f m b h.1 c
 
 -- the rule of some items behind a match, and of their leaf
 pub record IsFactFrom (P : List Item → Leaf → Type 0) (m : Match) (r : Rule) : Type 0 where

@@ -31,7 +31,7 @@ pub fn rules(alloc: Global, tree: &Tree) -> Result<RuleList, NoMemory>
     ensures barriers { IfOk result (λ list. IsPermutation (barriers_of tree.now anything 0) list.barriers) }
     ensures barriers_order { IfOk result (λ list. AreInOrder list.barriers) }
 {
-    parted(alloc, &rows(alloc, tree, &EveryLeaf)?)
+    parted(alloc, &all_rows(alloc, tree)?)
 }
 
 /// The rules that the tree has once the traces of which a recorded cell has another value in `env`
@@ -47,7 +47,7 @@ pub fn rules_where<E: EnvNow>(alloc: Global, tree: &Tree, env: &E) -> Result<Rul
     ensures barriers { IfOk result (λ list. IsPermutation (barriers_of (kept (is_current (E.has env.now)) tree.now) anything 0) list.barriers) }
     ensures barriers_order { IfOk result (λ list. AreInOrder list.barriers) }
 {
-    parted(alloc, &rows(alloc, tree, &Current { env })?)
+    parted(alloc, &current_rows(alloc, tree, env)?)
 }
 
 // The facts and the barriers of these rows.
@@ -74,7 +74,25 @@ fn barriers_among(alloc: Global, rows: &[Row]) -> Result<Vec<Rule>, NoMemory>
     Ok(rows.iter().filter_map(|row| row.barrier()).collect(alloc)?)
 }
 
+#[tactic(auto, using(priority_plan::proofs::Shrinks::emptied_every))]
+fn all_rows(alloc: Global, tree: &Tree) -> Result<Vec<Row>, NoMemory>
+    requires room { levels_of tree.now ≤ level_limit }
+    ensures { IfOk result (λ rows. rows.items ≡ rows_of tree.now anything 0) }
+{
+    rows(alloc, tree, &EveryLeaf)
+}
+
+// The rules that a tree has once the traces are gone that are not current.
+#[tactic(auto, using(priority_plan::proofs::Shrinks::rows_emptied))]
+fn current_rows<E: EnvNow>(alloc: Global, tree: &Tree, env: &E) -> Result<Vec<Row>, NoMemory>
+    requires room { levels_of tree.now ≤ level_limit }
+    ensures { IfOk result (λ rows. rows.items ≡ rows_of (kept (is_current (E.has env.now)) tree.now) anything 0) }
+{
+    rows(alloc, tree, &Current { env })
+}
+
 // The rules of a tree of which only some leaves count.
+#[tactic(auto, using(priority_plan::proofs::Shrinks::emptied_less))]
 fn rows<W: WhichLeaves>(alloc: Global, tree: &Tree, which: &W) -> Result<Vec<Row>, NoMemory>
     requires room { levels_of tree.now ≤ level_limit }
     ensures { IfOk result (λ rows. rows.items ≡ rows_of (emptied (W.counted which.now) tree.now) anything 0) }

@@ -1,7 +1,7 @@
 // What holds of the rules of a tree.
 ghost use Rattle.rule_builder.specs.Chosen.{ChoiceLaw, TableLaw};
 ghost use Rattle.rule_builder.specs.Rows.{RowsOfTwo, RowsOfDrop};
-ghost use Rattle.rule_builder.specs.Laws.{NoneExact, DistinctLaw, DomainLaw, NormalLaw, FactLaw, BarrierLaw};
+ghost use Rattle.rule_builder.specs.Laws.{NoneExact, DistinctLaw, NormalLaw, FactLaw, BarrierLaw};
 
 /// What a switch may choose among the rules of a tree is the rule of the trace that the key finds.
 pub fn choice_law()
@@ -13,7 +13,6 @@ pub fn choice_law()
 pub fn rules_law()
     ensures exact { NoneExact }
     ensures distinct { DistinctLaw }
-    ensures domains { DomainLaw }
     ensures normal { NormalLaw }
     ensures facts { FactLaw }
     ensures barriers { BarrierLaw }

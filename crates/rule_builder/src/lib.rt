@@ -4,8 +4,6 @@
 pub mod building;
 mod current;
 pub mod laws;
-pub mod needed;
 
 pub use building::{rules, rules_where};
 pub use laws::{choice_law, rules_law, rules_rows};
-pub use needed::rules_needed_with;

@@ -1,13 +1,9 @@
-use Rattle.rule_builder.proofs.Forms.{none_exact, fact_law, barrier_law}
+use Rattle.rule_builder.proofs.Forms.{none_exact, normal_law, fact_law, barrier_law}
 use Rattle.rule_builder.proofs.Distinct.{distinct_law}
-use Rattle.rule_builder.proofs.Normal.{normal_law, domain_law}
 use Rattle.rule_builder.proofs.laws.rules_law.Goals as goal
 
 pub returns-clause-exact : goal.returns-clause-exact
 returns-clause-exact c = none_exact
-
-pub returns-clause-domains : goal.returns-clause-domains
-returns-clause-domains c = domain_law
 
 pub returns-clause-facts : goal.returns-clause-facts
 returns-clause-facts c = fact_law
