@@ -133,17 +133,9 @@ pub hop_law : (links : List Link) (from to : ℕ) (r : Option Place) → r ≡ n
 hop_law links from to None e = hop_none links from to (sym e)
 hop_law links from to (Some hop) e = hop_some links from to hop (sym e)
 
-pub law_some : {X : Type 0} (r : Option X) (P : Type 0) (Q : X → Type 0) → MatchOption r P Q → IfSome r Q
-law_some None P Q h = tt
-law_some (Some x) P Q h = h
-
-pub law_none : {X : Type 0} (r : Option X) (P : Type 0) (Q : X → Type 0) → MatchOption r P Q → IfNone r P
-law_none None P Q h = h
-law_none (Some x) P Q h = tt
-
-pub law_port : (links : List Link) (from to : ℕ) (r : Option Place) → All IsBetweenPorts links → r ≡ next_hop links from to → IfSome r (λ hop. IsTrue (is_hop hop))
-law_port links from to None ports e = tt
-law_port links from to (Some hop) ports e = hop_port links from to ports hop (sym e)
+pub hop_facts : (links : List Link) (from to : ℕ) (r : Option Place) → All IsBetweenPorts links → r ≡ next_hop links from to → IfSome r (λ hop. IsNextHop links from to hop) × IfNone r ((from ≡ to) ⊎ NoWalk links from to) × IfSome r (λ hop. IsTrue (is_hop hop))
+hop_facts links from to None ports e = (tt, hop_none links from to (sym e), tt)
+hop_facts links from to (Some hop) ports e = (hop_some links from to hop (sym e), tt, hop_port links from to ports hop (sym e))
 
 -- a scene's cells of next hops
 module _ (links : List Link) (graph : IsGraph links) (cell : Cell) (from to : ℕ) (is : cell ≡ Hop from to) where

@@ -1,5 +1,5 @@
 -- Links among others have the same next hops where each of the others has one of them beside it.
-use Rattle.std.proofs.Common.{◌≡◌, ℕ, zero, suc, true, ◌==◌, ◌&&◌, ◌≤◌, List, get_or, Option, Some, None, Contains, refl, sym, ap, ◌∙◌, subst, ⊎_elim, arith}
+use Rattle.std.proofs.Common.{◌≡◌, ℕ, zero, suc, true, ◌==◌, ◌&&◌, List, get_or, Option, Some, None, Contains, refl, sym, ap, ◌∙◌, subst, ⊎_elim, arith}
 use Rattle.std.proofs.lemmas.Bool.{both_ways, cases_order, eqb-true, and_parts}
 use Rattle.std.specs.List.Sorted.{IsPermutation}
 use Rattle.std.proofs.lemmas.List.{get_or_default}
@@ -8,32 +8,17 @@ use Rattle.std.proofs.lemmas.Option.{none-some}
 use Rattle.maple_base.specs.declared.cells.Place.{Place}
 use Rattle.env_cells.specs.Lists.{StartApart}
 use Rattle.topo_paths.specs.Walks.{Link}
+use Rattle.topo_paths.specs.Beside.{IsBeside, HasBeside, AreAmong, StartOnce}
 use Rattle.topo_paths.specs.NextHops.{leads_in, leads_on, distance, hop_over, hop_at, next_hop}
 use Rattle.topo_paths.proofs.Distances.{leads_in-none, leads_in-zero, leads_in-more, leads_in-first, distance_some}
 use Rattle.topo_paths.proofs.Nearness.{distance_where}
 use Rattle.topo_paths.proofs.Levels.{same_tests, next_hop-at}
 use Rattle.topo_paths.proofs.LeastHops.{IsLeast, least_is}
 
--- a link leads between the same two switches as another, by a port that is no greater
-pub record IsBeside (other link : Link) : Type 0 where
-  pub begins : other.0.switch ≡ link.0.switch
-  pub ends : other.1.switch ≡ link.1.switch
-  pub port : other.0.port ≤ link.0.port
-
 pub itself : (link : Link) → IsBeside link link
 itself link = record { begins = refl; ends = refl; port = omega arith }
 
--- each link has one of the others beside it
-abbrev AreBeside : List Link → List Link → Type 0
-AreBeside links others = (link : Link) → Contains links link → (other : Link) × Contains others other × IsBeside other link
-
--- links among others, each of which has one of them beside it; no two of the others begin at one place
-pub record AreAmong (links others : List Link) : Type 0 where
-  pub all : (link : Link) → Contains links link → Contains others link
-  pub beside : AreBeside others links
-  pub one : (a b : Link) → Contains others a → Contains others b → a.0 ≡ b.0 → a ≡ b
-
-leads_kept : (links others : List Link) → AreBeside links others → (n from to : ℕ) → leads_in links n from to ≡ true → leads_in others n from to ≡ true
+leads_kept : (links others : List Link) → ((link : Link) → Contains links link → HasBeside others link) → (n from to : ℕ) → leads_in links n from to ≡ true → leads_in others n from to ≡ true
 leads_kept links others are zero from to h = leads_in-none others from to (leads_in-zero links from to h)
 leads_kept links others are (suc n) from to h =
     let (k, link, lt, at, begins, rest) = leads_in-first links n from to h in
@@ -44,7 +29,7 @@ leads_kept links others are (suc n) from to h =
 pub place_same : (p q : Place) → p.switch ≡ q.switch → p.port ≡ q.port → p ≡ q
 place_same p q s t = λ i. record { switch = s i; port = t i }
 
-module _ (links others : List Link) (a : AreAmong links others) where
+module _ (links others : List Link) (once : StartOnce links) (a : AreAmong links others) where
   leads_same : (n from to : ℕ) → leads_in links n from to ≡ leads_in others n from to
   leads_same n from to = same_tests _ _ (leads_kept links others (λ link c. (link, a.all link c, itself link)) n from to) (leads_kept others links a.beside n from to)
 
@@ -61,9 +46,10 @@ module _ (links others : List Link) (a : AreAmong links others) where
       let on' : leads_on others m from to one ≡ true = sym (on_same m from to one one (itself one)) ∙ passes in
       let le = least other there (on_same m from to other two b ∙ passes') in
       let ge = least' one (a.all one c) on' in
-      let port : one.0.port ≡ two.0.port = omega (arith, le, ge, b.port, ap (λ (x : Place). x.port) is, ap (λ (x : Place). x.port) is') in
-      let begins : one.0.switch ≡ two.0.switch = from_there one on' ∙ sym (from_there two passes') in
-      ap Some (is ∙ ap hop_over (a.one one two (a.all one c) c' (place_same one.0 two.0 begins port)) ∙ sym is')
+      let port : one.0.port ≡ other.0.port = omega (arith, le, ge, b.port, ap (λ (x : Place). x.port) is, ap (λ (x : Place). x.port) is') in
+      let port' : one.0.port ≡ two.0.port = omega (arith, le, ge, b.port, ap (λ (x : Place). x.port) is, ap (λ (x : Place). x.port) is') in
+      let same = once.one one other c there (place_same one.0 other.0 (from_there one on' ∙ sym (from_there two passes') ∙ sym b.begins) port) in
+      ap Some (is ∙ place_same (hop_over one) (hop_over two) (ap (λ (x : Link). x.1.switch) same ∙ b.ends) port' ∙ sym is')
     where
       from_there : (link : Link) → leads_on others m from to link ≡ true → link.0.switch ≡ from
       from_there link p = eqb-true _ _ (and_parts (link.0.switch == from) (leads_in others m link.1.switch to) p).0
@@ -88,20 +74,28 @@ module _ (links others : List Link) (a : AreAmong links others) where
   pub next_hop_same : (from to : ℕ) → next_hop links from to ≡ next_hop others from to
   next_hop_same from to = next_hop-at links from to _ (distance_same from to) ∙ hop_same from to (distance others from to) ∙ sym (next_hop-at others from to _ refl)
 
--- links that begin at one place are one
-pub one_link : (links : List Link) → StartApart links → (a b : Link) → Contains links a → Contains links b → a.0 ≡ b.0 → a ≡ b
-one_link links apart a b (j, lj, at) (k, lk, at') e =
-    let there : get_or links k a ≡ b = get_or_default links k a b lk ∙ at' in
-    let starts : (get_or links j a).0 ≡ (get_or links k a).0 = ap (λ (x : Link). x.0) at ∙ e ∙ sym (ap (λ (x : Link). x.0) there) in
-    ⊎_elim
-    (λ e. sym at ∙ ap (λ i. get_or links i a) e ∙ there)
-    (λ o. ⊎_elim (λ less. absurd (apart j k a less lk starts)) (λ more. absurd (apart k j a more lj (sym starts))) o)
-    (cases_order j k)
+pub one_link : (links : List Link) → StartApart links → StartOnce links
+one_link links apart = record { one = one }
+  where
+    one : (a b : Link) → Contains links a → Contains links b → a.0 ≡ b.0 → a ≡ b
+    one a b (j, lj, at) (k, lk, at') e =
+        let there : get_or links k a ≡ b = get_or_default links k a b lk ∙ at' in
+        let starts : (get_or links j a).0 ≡ (get_or links k a).0 = ap (λ (x : Link). x.0) at ∙ e ∙ sym (ap (λ (x : Link). x.0) there) in
+        ⊎_elim
+        (λ e. sym at ∙ ap (λ i. get_or links i a) e ∙ there)
+        (λ o. ⊎_elim (λ less. absurd (apart j k a less lk starts)) (λ more. absurd (apart k j a more lj (sym starts))) o)
+        (cases_order j k)
+
+-- links of which all are among others
+pub fewer_once : (links others : List Link) → ((link : Link) → Contains links link → Contains others link) → StartOnce others → StartOnce links
+fewer_once links others all once = record { one = λ a b ca cb. once.one a b (all a ca) (all b cb) }
 
 -- a list in another order
-pub moved_among : (links others : List Link) → IsPermutation links others → StartApart others → AreAmong links others
-moved_among links others p apart = record {
+pub moved_among : (links others : List Link) → IsPermutation links others → AreAmong links others
+moved_among links others p = record {
   all = λ link c. Contains-permutation links others link p c;
   beside = λ link c. (link, Contains-permutation others links link (IsPermutation-sym links others p) c, itself link);
-  one = one_link others apart;
 }
+
+pub moved_once : (links others : List Link) → IsPermutation links others → StartApart others → StartOnce links
+moved_once links others p apart = fewer_once links others (moved_among links others p).all (one_link others apart)

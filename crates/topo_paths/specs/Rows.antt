@@ -24,6 +24,11 @@ pub record AreEnds (links : List Link) (switches : List ℕ) (ends : List Ends) 
   pub apart : AllPairs ◌≢◌ switches
   pub each : (k : ℕ) (b : Link) (d : Ends) → k < length links → IsEnds switches (slice_index_or links k b) (slice_index_or ends k d)
 
+-- those that are named keep their places, and more may be
+pub record KeepPlaces (switches others : List ℕ) : Type 0 where
+  pub more : length switches ≤ length others
+  pub kept : (k : ℕ) → k < length switches → slice_index_or others k 0 ≡ slice_index_or switches k 0
+
 -- the hop to one place from another
 abbrev pub cell_at : List (List (Option Place)) → ℕ → ℕ → Option Place
 cell_at rows to from = slice_index_or (slice_index_or rows to []) from None

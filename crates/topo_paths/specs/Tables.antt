@@ -8,8 +8,9 @@ use Rattle.topo_paths.specs.Graphs.{IsGraph}
 use Rattle.topo_paths.specs.NextHops.{next_hop}
 use Rattle.topo_paths.specs.Rows.{HaveHops}
 
--- a table has a row for each of 64 places, and room for 64 switches and so many links
+-- a table has a row for each of 64 places, and room for 64 switches and so many links with their ends
 pub record HasRoom (table : HopTable) (links : ℕ) : Type 0 where
+  pub least : links ≤ vec_capacity table.least
   pub switches : most_switches ≤ vec_capacity table.switches
   pub ends : links ≤ vec_capacity table.ends
   pub rows : length table.rows.items ≡ most_switches

@@ -1,19 +1,23 @@
 // The next hops between all switches that links name.
 ghost use Rattle.std.specs.Prelude.{◌≡◌, ◌≤◌, ℕ, List, length, IfOk};
 ghost use Rattle.env_cells.specs.Lists.{NamesFewSwitches};
+ghost use Rattle.topo_paths.specs.Beside.{StartOnce};
 ghost use Rattle.topo_paths.specs.Graphs.{RisePorts};
 ghost use Rattle.topo_paths.specs.NextHops.{next_hop};
 ghost use Rattle.topo_paths.specs.Tables.{HasRoom, IsSquare, IsTableOf};
 ghost use Rattle.topo_paths.specs.Walks.{Link};
 
+use crate::least::keep_least;
 use crate::rows::{Ends, Row, SWITCHES, find_hops};
-use crate::switches::{find_ends, index_of, name_switches};
+use crate::switches::{find_ends, index_of};
 use maple_base::{NoMemory, Place};
 use std::alloc::Global;
 
-/// The named switches, and for each place a row: the next hops to the switch there from each of them.
+/// The links without another beside them, the switches that they name, and for each place of these a
+/// row: the next hops to the switch there from each of them.
 #[derive(Drop)]
 pub struct HopTable {
+    pub least: Vec<(Place, Place)>,
     pub switches: Vec<u64>,
     pub ends: Vec<Ends>,
     pub rows: Vec<Row>,
@@ -25,6 +29,7 @@ impl HopTable {
         ensures room { IfOk result (λ table. HasRoom table links) }
     {
         Ok(HopTable {
+            least: Vec::with_capacity(alloc, links)?,
             switches: Vec::with_capacity(alloc, SWITCHES)?,
             ends: Vec::with_capacity(alloc, links)?,
             rows: vec![in alloc; [None; SWITCHES]; SWITCHES]?,
@@ -36,12 +41,14 @@ impl HopTable {
         requires room { HasRoom self.old (length links.now) }
         requires few { NamesFewSwitches links.now }
         requires rise { RisePorts links.now }
+        requires once { StartOnce links.now }
         ensures room { (n : ℕ) → HasRoom self.old n → HasRoom self.new n }
         ensures table { IsTableOf links.now self.new }
     {
-        name_switches(&mut self.switches, links);
-        find_ends(&mut self.ends, &self.switches, links);
-        find_hops(&mut self.rows, links, &self.ends);
+        keep_least(&mut self.least, links);
+        let least = self.least.as_slice();
+        find_ends(&mut self.switches, &mut self.ends, least);
+        find_hops(&mut self.rows, least, &self.ends);
     }
 
     /// The next hop from one switch to another.
@@ -64,6 +71,7 @@ impl HopTable {
         let mut switches = Vec::with_capacity(alloc, SWITCHES)?;
         switches.extend_from_slice(&self.switches)?;
         Ok(HopTable {
+            least: Vec::with_capacity(alloc, links)?,
             switches,
             ends: Vec::with_capacity(alloc, links)?,
             rows: Vec::from_slice(alloc, &self.rows)?,

@@ -4,6 +4,7 @@
 mod hop_table;
 mod hops;
 mod laws;
+mod least;
 mod rows;
 mod scene;
 mod switches;

@@ -88,6 +88,7 @@ fn extend(rows: &mut [Row], reach: &mut [u64], links: &[(Place, Place)], ends: &
 
 /// Lets the place at which a link begins reach what the place reached before at which it ends; the
 /// hop is that over the link. Whether one of those places is new.
+#[tactic(auto, using(crate::proofs::Masks::joined_none, crate::proofs::Masks::joined_some))]
 fn join(
     rows: &mut [Row],
     reach: &mut [u64],

@@ -1,6 +1,5 @@
 // The environment with next hops.
 ghost use Rattle.std.specs.Prelude.{◌≡◌, ◌≤◌, true, false, length, None, Some, Err, IsTrue, IfOk, OnOk, OnErr};
-ghost use Rattle.std.specs.List.{list_any};
 ghost use Rattle.maple_base.specs.Kinds.{of_kind};
 ghost use Rattle.maple_base.specs.declared.update_refused.UpdateRefused.{UpdateRefused};
 ghost use Rattle.env_cells.specs.declared.updates.UpdateError.TheVariants.{Refused};
@@ -12,11 +11,12 @@ ghost use Rattle.env_cells.specs.Most.{most_links};
 ghost use Rattle.env_cells.specs.Lists.{NamesFewSwitches};
 ghost use Rattle.env_cells.specs.Limits.{IsWithinLimits};
 ghost use Rattle.env_cells.specs.Values.{at_or_nothing};
-ghost use Rattle.topo_paths.specs.Beside.{KeepsHops, is_beside};
+ghost use Rattle.topo_paths.specs.Beside.{KeepsHops, StartOnce};
 ghost use Rattle.topo_paths.specs.Graphs.{IsGraph, RisePorts};
 ghost use Rattle.topo_paths.specs.Scenes.{links_in, cell_in, HopIsShown};
 
 use crate::hop_table::HopTable;
+use crate::least::has_beside;
 use env_cells::{Env, MOST_LINKS, Update, UpdateError};
 use maple_base::{Cell, EnvNow, NoMemory, Place, Value};
 use std::alloc::Global;
@@ -79,13 +79,13 @@ impl Scene {
     }
 
     /// Whether next hops may be others after an update.
-    #[tactic(auto, using(crate::proofs::Beside::keeps_same))]
+    #[tactic(auto, using(crate::proofs::Beside::keeps_same, crate::proofs::Beside::link_gone))]
     fn changes_hops(&self, update: &Update) -> bool
         ensures { result ≡ false → KeepsHops (links_in self.now) (links_in (applied self.now update.now)) }
     {
         match update {
             Update::Link { from, to } => self.link_changes_hops(*from, *to),
-            Update::NoLink { from } => self.removal_changes_hops(*from),
+            Update::NoLink { from } => self.env.link(*from).is_some(),
             _ => false,
         }
     }
@@ -97,18 +97,7 @@ impl Scene {
     {
         match self.env.link(from) {
             Some(place) => place != to,
-            None => !has_beside(self.links(), from, to),
-        }
-    }
-
-    /// Whether next hops may be others without the link from a place.
-    #[tactic(auto, using(crate::proofs::Beside::link_gone, crate::proofs::Beside::beside_stays))]
-    fn removal_changes_hops(&self, from: Place) -> bool
-        ensures { result ≡ false → KeepsHops (links_in self.now) (links_in (applied self.now (updates.NoLink from))) }
-    {
-        match self.env.link(from) {
-            Some(to) => !has_beside(self.links(), from, to),
-            None => false,
+            None => !has_beside(links_of(&self.env), 0, from, to),
         }
     }
 
@@ -164,38 +153,15 @@ fn at_or_nothing(place: Option<Place>) -> Value
     }
 }
 
-/// Whether some link leads from the switch of the one place, by a lesser port, to that of the other.
-fn has_beside(links: &[(Place, Place)], from: Place, to: Place) -> bool
-    ensures { result ≡ true → list_any (is_beside from to) links.now ≡ true }
-{
-    let first = links.partition_point(|link| link.0.switch < from.switch);
-    for place in first..links.len() {
-        let link = &links[place];
-        if link.0.switch != from.switch {
-            return false;
-        }
-        if is_beside(link, from, to) {
-            return true;
-        }
-    }
-    false
-}
-
-/// Whether a link leads from the switch of the one place, by a lesser port, to that of the other.
-fn is_beside(link: &(Place, Place), from: Place, to: Place) -> bool
-    ensures { result ≡ is_beside from to link.now }
-{
-    link.0.switch == from.switch && link.0.port < from.port && link.1.switch == to.switch
-}
-
 /// The links of an environment, which rise by port.
-#[tactic(auto, using(crate::proofs::Beside::rise_by_port))]
+#[tactic(auto, using(crate::proofs::Beside::rise_by_port, crate::proofs::Moved::one_link))]
 fn links_of(env: &Env) -> &[(Place, Place)]
     ensures links { result.now ≡ links_in env.now }
     ensures many { length result.now ≤ most_links }
     ensures few { NamesFewSwitches result.now }
     ensures graph { IsGraph result.now }
     ensures rise { RisePorts result.now }
+    ensures once { StartOnce result.now }
 {
     env.links()
 }

@@ -19,14 +19,6 @@ returns-then-not-extend-clause-hops c = λ switches are rise.
     level_end c.args.links.now switches c.args.ends.now are (c.loop.index + 1) c.extend.new.reach c.extend.new.rows
     (settled_same c.args.links.now switches c.args.ends.now are c.loop.index c.loop.reach c.loop.rows c.extend.new.rows l (subst (λ (m : List ℕ). IsLevel c.args.links.now switches (c.loop.index + 1) m c.extend.new.rows) same l')) l'
 
-pub loop-preserved : goal.loop-preserved
-loop-preserved c =
-    record {
-      square = c.extend.ensures.square;
-      masks = c.extend.ensures.masks;
-      level = λ switches are rise. c.extend.ensures.more switches c.loop.index are rise c.loop-test.true (c.loop.invariant.level switches are rise);
-    }
-
 pub returns-clause-hops : goal.returns-clause-hops
 returns-clause-hops c = λ switches are rise.
     level_end c.args.links.now switches c.args.ends.now are c.loop.index c.loop.reach c.loop.rows (settled_all c.args.links.now switches c.args.ends.now are c.loop.index (omega (arith, c.loop-test.false))) (c.loop.invariant.level switches are rise)

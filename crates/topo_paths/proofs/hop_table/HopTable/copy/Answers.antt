@@ -13,8 +13,9 @@ same_switches c =
 pub returns-clause-room : goal.returns-clause-room
 returns-clause-room c =
     record {
+      least = omega (arith, c.in_ok-with_capacity.ensures.capacity);
       switches = omega (arith, c.in_ok-switches.ensures.capacity, c.in_ok-extend_from_slice.ensures.capacity);
-      ends = omega (arith, c.in_ok-with_capacity.ensures.capacity);
+      ends = omega (arith, c.in_ok-with_capacity-2.ensures.capacity);
       rows = ap length (same_rows c) ∙ c.requires.rows;
     }
 
