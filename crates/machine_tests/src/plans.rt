@@ -45,7 +45,7 @@ const ROWS: &[(&str, &str, u32, &str)] = &[
         3,
         "first second",
     ),
-    // a fact's actions alone changed, or its idle time
+    // a fact's actions alone changed, or its idle time, or its cookie
     (
         "1 out2 tcp",
         "1 out3 tcp",
@@ -57,6 +57,12 @@ const ROWS: &[(&str, &str, u32, &str)] = &[
         "1 out2/60 tcp",
         1,
         "first -1 tcp second +1 out2/60 tcp",
+    ),
+    (
+        "1 out2/60/7 tcp",
+        "1 out2/60/8 tcp",
+        1,
+        "first -1 tcp second +1 out2/60/8 tcp",
     ),
     // a barrier takes a fact's place, and a fact that of a barrier
     (

@@ -41,7 +41,8 @@ fn push_rules(
     Ok(())
 }
 
-fn words(alloc: Global, text: &str) -> Result<Vec<&str>, AllocError> {
+/// The words between blanks.
+pub fn words(alloc: Global, text: &str) -> Result<Vec<&str>, AllocError> {
     let mut words = Vec::new(alloc);
     for word in text.split_whitespace() {
         words.push(word)?;
@@ -49,19 +50,21 @@ fn words(alloc: Global, text: &str) -> Result<Vec<&str>, AllocError> {
     Ok(words)
 }
 
-// The actions are `drop`, `barrier`, or `out PORT` without the space; an idle time stands behind `/`.
+// The actions are `drop`, `barrier`, or `out PORT` without the space; an idle time stands behind `/`, and a cookie behind another.
 fn rule_of(priority: &str, actions: &str, of: &str) -> Result<Rule, Fail> {
-    let (actions, idle) = actions.split_once('/').unwrap_or((actions, "0"));
+    let (actions, rest) = actions.split_once('/').unwrap_or((actions, "0"));
+    let (idle, cookie) = rest.split_once('/').unwrap_or((rest, "0"));
     Ok(Rule {
         of: match_of(of)?,
         priority: number(priority)?,
         actions: actions_of(actions)?,
-        cookie: 0,
+        cookie: long_number(cookie)?,
         idle: number(idle)?,
     })
 }
 
-fn actions_of(text: &str) -> Result<Actions, Fail> {
+/// The actions that a word names: `drop`, `barrier`, or `out PORT` without the space.
+pub fn actions_of(text: &str) -> Result<Actions, Fail> {
     match text {
         "drop" => Ok(Actions::new(&[])),
         "barrier" => Ok(Actions::new(&[CONTROLLER_PORT])),
@@ -71,8 +74,13 @@ fn actions_of(text: &str) -> Result<Actions, Fail> {
 
 /// A number of 16 bits.
 pub fn number(word: &str) -> Result<u16, Fail> {
+    Ok(u16::try_from(long_number(word)?)?)
+}
+
+/// A number of 64 bits.
+pub fn long_number(word: &str) -> Result<u64, Fail> {
     match value_of(word.as_bytes()) {
-        Some(number) => Ok(u16::try_from(number)?),
+        Some(number) => Ok(number),
         None => Err(Fail::from(word)),
     }
 }
@@ -129,7 +137,9 @@ fn push_actions(text: &mut String, rule: &Rule) -> Result<(), Fail> {
             }
         }
     }
-    if rule.idle > 0 {
+    if rule.cookie > 0 {
+        write!(text, "/{}/{}", rule.idle, rule.cookie)?;
+    } else if rule.idle > 0 {
         write!(text, "/{}", rule.idle)?;
     }
     Ok(())

@@ -1,9 +1,9 @@
 // Sessions, call by call: what is heard as bytes, and what is answered and taken out.
-ghost use Rattle.std.specs.Prelude.{IfOk};
+ghost use Rattle.std.specs.Prelude.{◌≡◌, IfOk};
 ghost use Rattle.switch_session.specs.Calls.{CanBeHeard};
 
 use crate::hexadecimal::{push_hex, unhex};
-use crate::rules::number;
+use crate::rules::{actions_of, long_number, number, words};
 use crate::targets::session_list;
 use maple_base::{Actions, Bytes, Port};
 use of10_codec::{Message, decode};
@@ -170,13 +170,121 @@ list
 open 0
 hear 0000000800000009 = version
 take = 01000008000000000101000c0000000900000000
-# echoes, and the longest answer
+# an update's own clearing is refused
+open 4
+hear 0100000800000007 = passed
+hear 0106002000000001000000000000000700000000000000000000000000000000 = features 7
+accept 1 out7 any 3 out2 in1 2 barrier in1 4 barrier in1v5
+list = 0 0 8,5 0 8,9 0 12,14 1 72,18 2 8,
+hear 0113000800000002 = ready
+list = 14 3 80,14 4 80,18 5 8,
+hear 0113000800000005 = done
+list = 14 6 80,14 7 80,18 8 8,
+hear 0113000800000008 = done
+aim 1 out2 in1 2 barrier in1v5
+take = 010e004800000009003820ff00000000000000000000000000000000000000000000000000000000000000000000000000000000000000000003000000000000ffffffffffff0000011200080000000a
+hear 0101000c0000000900030002 = clear
+phase = ended
+hear 011300080000000a = passed
+stands = false false 7
+list
+# an old change is refused while an update's own clearing is under way, and then the barrier of the clearing behind the error
+open 4
+hear 0100000800000007 = passed
+hear 0106002000000001000000000000000700000000000000000000000000000000 = features 7
+accept 1 out7 any 3 out2 in1 2 barrier in1 4 barrier in1v5
+list = 0 0 8,5 0 8,9 0 12,14 1 72,18 2 8,
+hear 0113000800000002 = ready
+list = 14 3 80,14 4 80,18 5 8,
+hear 0113000800000005 = done
+list = 14 6 80,14 7 80,18 8 8,
+hear 0113000800000008 = done
+aim 1 out2 in1 2 barrier in1v5
+list = 14 9 72,18 10 8,
+hear 0101000c0000000300030000 = refused 3 0 true
+hear 011300080000000a = done
+list = 14 11 72,18 12 8,
+hear 0101000c0000000c00030002 = clear
+# the caller ends a session in its first phase: it hears nothing further
+open 0
+phase = first
+end
+phase = ended
+hear 0100000800000007 = passed
+hear 0102000a00000005abcd = passed
+hear 0106002000000001000000000000000700000000000000000000000000000000 = passed
+hear 0101000c0000000100030000 = passed
+stands = false false 0
+take = 0100000800000000
+take
+# it ends a quiet one while the clearing behind the error is under way, of which the outbox still has all
+open 5
+hear 0100000800000007 = passed
+phase = second
+hear 0106002000000001000000000000000700000000000000000000000000000000 = features 7
+accept
+phase = live
+list = 0 0 8,5 0 8,9 0 12,14 1 72,18 2 8,
+hear 0113000800000002 = ready
+hear 0101000c0000000100030000 = refused 3 0 true
+hear 0102000a00000005abcd = passed
+stands = true true 7
+end
+phase = ended
+stands = false true 7
+hear 0102000800000006 = passed
+hear 010a00140000000000000009000200030000abcd = passed
+hear 010c0040000000000100000000000000000300000000000000000000000000000000000000000000000000000000000000000000000000000000000000000000 = passed
+hear 0101000c0000000200030000 = passed
+hear 0113000800000004 = passed
+list = 14 3 72,18 4 8,3 5 10,
+hear 0113000800000004 = passed
+hear 0101000c0000000300030000 = passed
+list
+# ports that are up, down by their state or by their configuration, and none
+open 5
+hear 0100000800000007 = passed
+hear 0106002000000001000000000000000700000000000000000000000000000000 = features 7
+accept
+hear 010c0040000000000000000000000000000300000000000000000000000000000000000000000000000000000000000000000000000000000000000000000000 = port 3 true
+hear 010c0040000000000200000000000000000300000000000000000000000000000000000000000000000000000000000100000000000000000000000000000000 = port 3 false
+hear 010c0040000000000200000000000000000300000000000000000000000000000000000000000000000000010000000000000000000000000000000000000000 = port 3 false
+hear 010c0040000000000200000000000000ff0000000000000000000000000000000000000000000000000000000000000000000000000000000000000000000000 = port 65280 true
+hear 010c0040000000000000000000000000ff0100000000000000000000000000000000000000000000000000000000000000000000000000000000000000000000 = passed
+hear 010c0040000000000000000000000000000000000000000000000000000000000000000000000000000000000000000000000000000000000000000000000000 = passed
+# an addition carries its rule's cookie and idle time, a deletion none
+open 1
+hear 0100000800000007 = passed
+hear 0106002000000001000000000000000700000000000000000000000000000000 = features 7
+accept
+list = 0 0 8,5 0 8,9 0 12,14 1 72,18 2 8,
+hear 0113000800000002 = ready
+aim 1 out2/300/72623859790382856 any
+take = 010e005000000003003820ff00000000000000000000000000000000000000000000000000000000000000000000000001020304050607080000012c00000001ffffffffffff000000000008000200000112000800000004
+hear 0113000800000004 = done
+aim 1 out2/300/72623859790382857 any
+take = 010e004800000005003820ff00000000000000000000000000000000000000000000000000000000000000000000000000000000000000000004000000000001ffffffffffff00000112000800000006
+hear 0113000800000006 = done
+take = 010e005000000007003820ff00000000000000000000000000000000000000000000000000000000000000000000000001020304050607090000012c00000001ffffffffffff000000000008000200000112000800000008
+hear 0113000800000008 = done
+stands = false false 7
+# a packet that is sent: without its bytes where the switch has it in a buffer
+open 0
+take = 0100000800000000
+answer 9 3 out2 abcd
+take = 010d00180000000000000009000300080000000800020000
+answer 4294967295 3 out2 abcd
+take = 010d001a00000000ffffffff000300080000000800020000abcd
+answer 9 3 drop abcd
+answer 0 65533 barrier abcd
+take = 010d0010000000000000000900030000010d00180000000000000000fffd000800000008fffdffff
+# echoes, and the longest packet
 open 0
 hear 0102000a00000005abcd = passed
 take = 01000008000000000103000a00000005abcd
 hear 0100000800000007 = passed
 hear 0102000800000006 = passed
-answer
+longest
 list = 5 0 8,3 6 8,13 0 65535,";
 
 // What a call tells: an answer, or the bytes that are taken out.
@@ -186,7 +294,10 @@ fn told(alloc: Global, session: &mut Session, call: &str, argument: &str) -> Res
         "hear" => push_heard(&mut text, &hear(alloc, session, argument)?)?,
         "accept" => accept(alloc, session, argument)?,
         "aim" => aim(alloc, session, argument)?,
-        "answer" => answer(alloc, session)?,
+        "answer" => answer(alloc, session, argument)?,
+        "longest" => answer_longest(alloc, session)?,
+        "end" => session.end(),
+        "phase" => text.push_str(phase_name(session.phase()))?,
         "take" => push_hex(&mut text, take(session)?.items())?,
         "list" => push_list(&mut text, take(session)?.items())?,
         "stands" => push_standing(&mut text, session)?,
@@ -235,18 +346,54 @@ fn aim(alloc: Global, session: &mut Session, rules: &str) -> Result<(), Fail> {
     let Ok(aim) = session.prepare(&list) else {
         return Err(Fail::from("memory"));
     };
-    session.aim(aim);
+    session.aim(sent(aim));
     Ok(())
 }
 
+// A packet that is sent: `BUFFER PORT ACTIONS BYTES`.
+fn answer(alloc: Global, session: &mut Session, packet: &str) -> Result<(), Fail> {
+    let words = words(alloc, packet)?;
+    let [buffer, in_port, actions, bytes] = words.as_slice() else {
+        return Err(Fail::from("a packet"));
+    };
+    let buffer = u32::try_from(long_number(buffer)?)?;
+    let frame = unhex(alloc, bytes)?;
+    put(
+        session,
+        buffer,
+        number(in_port)?,
+        actions_of(actions)?,
+        &frame,
+    )
+}
+
 // A packet of 65,391 bytes, sent out of 16 ports.
-fn answer(alloc: Global, session: &mut Session) -> Result<(), Fail> {
+fn answer_longest(alloc: Global, session: &mut Session) -> Result<(), Fail> {
     let frame = Vec::from_elem(alloc, 7u8, 65_391)?;
     let actions = Actions::new(&[1, 2, 3, 4, 5, 6, 7, 8, 9, 10, 11, 12, 13, 14, 15, 16]);
-    if frame.len() > 65_391 || session.answer(0xffff_ffff, 3, actions, &frame).is_err() {
+    put(session, 0xffff_ffff, 3, actions, &frame)
+}
+
+fn put(
+    session: &mut Session,
+    buffer: u32,
+    in_port: u16,
+    actions: Actions,
+    frame: &[u8],
+) -> Result<(), Fail> {
+    if frame.len() > 65_391 || session.answer(buffer, in_port, actions, frame).is_err() {
         return Err(Fail::from("memory"));
     }
     Ok(())
+}
+
+fn phase_name(phase: Phase) -> &'static str {
+    match phase {
+        Phase::First => "first",
+        Phase::Second => "second",
+        Phase::Live => "live",
+        Phase::Ended => "ended",
+    }
 }
 
 fn take(session: &mut Session) -> Result<Bytes, Fail> {
@@ -323,6 +470,13 @@ fn step(alloc: Global, session: &mut Session, line: &str) -> Result<(), Fail> {
     } else {
         Err(Fail::from(line))
     }
+}
+
+// The value itself, of a type that may go to another thread.
+fn sent<T: Send>(value: T) -> T
+    ensures { result ≡ value }
+{
+    value
 }
 
 fn open(alloc: Global, capacity: &str) -> Result<Session, Fail> {

@@ -1,3 +1,4 @@
 pub mod Echoes
 pub mod Planned
+pub mod Settled
 pub mod Walks

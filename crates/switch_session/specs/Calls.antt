@@ -17,8 +17,7 @@ use Rattle.switch_session.specs.declared.told.Phase.TheVariants as phases
 use Rattle.switch_session.specs.declared.told.End.TheVariants.{Version, ClearRefused, Early, Xids}
 use Rattle.switch_session.specs.declared.told.Heard.{Heard}
 use Rattle.switch_session.specs.declared.told.Heard.TheVariants.{Passed, Features, PacketIn, Port as PortChanged, Acknowledged, Refused, Ended}
-use Rattle.switch_session.specs.Parts.{Update, AreParts, leads_nowhere, hello, features_request, version_refusal, echo_reply}
-use Rattle.switch_session.specs.Room.{last_start}
+use Rattle.switch_session.specs.Parts.{Update, AreParts, leads_nowhere, last_start, hello, features_request, version_refusal, echo_reply}
 use Rattle.switch_session.specs.Sessions.{State, put, ended, heading, acknowledged, accepted, breaks_off}
 
 -- a session that was opened, on this connection, for a switch with room for so many rules

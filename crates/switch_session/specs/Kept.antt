@@ -4,8 +4,8 @@ use Rattle.switch_session.specs.declared.session.Session.TheInside.{Inside}
 use Rattle.switch_session.specs.declared.part.UnderWay.{UnderWay}
 use Rattle.switch_session.specs.declared.told.Phase.{Phase}
 use Rattle.switch_session.specs.declared.told.Phase.TheVariants.{Live, Ended}
-use Rattle.switch_session.specs.Parts.{Update, IsList}
-use Rattle.switch_session.specs.Room.{parts_room, owed, start_room, last_start, last_number}
+use Rattle.switch_session.specs.Parts.{Update, IsList, last_start}
+use Rattle.switch_session.specs.Room.{parts_room, owed, start_room, last_number}
 use Rattle.switch_session.specs.Sessions.{State}
 
 -- no part is to leave: the session has ended, or one is under way

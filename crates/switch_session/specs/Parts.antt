@@ -77,6 +77,10 @@ packet_body buffer in_port actions frame = PacketOut buffer in_port actions (if 
 abbrev pub packet_out : ℕ → ℕ → List ℕ → List ℕ → Message
 packet_out buffer in_port actions frame = record { xid = 0; body = packet_body buffer in_port actions frame }
 
+-- from this number on none is left for one more part
+abbrev pub last_start : ℕ
+last_start = 0xfff00000
+
 -- the changes of a part: a clearing deletes all rules
 abbrev pub changes_of : Part → List TableMod
 changes_of Clearing = DeleteAll ∷ []

@@ -47,9 +47,6 @@ pub record CanBeSent (changes : List TableMod) : Type 0 where
   pub short : length changes + 1 < 2 ^ 18
   pub fits : list_all change_fits changes ≡ true
 
--- the numbers that are left for one more part
-abbrev pub last_start : ℕ
-last_start = 0xfff00000
-
+-- above all numbers that a part takes
 abbrev pub last_number : ℕ
 last_number = 0xfff40000

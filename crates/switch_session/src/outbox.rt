@@ -6,8 +6,8 @@ ghost use Rattle.of10_codec.specs.Types.{most_bytes};
 ghost use Rattle.of10_codec.specs.Lent.{body_of, message_of};
 ghost use Rattle.of10_codec.specs.Written.{written, written_body, fits_fields};
 ghost use Rattle.switch_session.specs.declared.part.Part.TheVariants.{Batch};
-ghost use Rattle.switch_session.specs.Parts.{flow_mod, change_body, change_message, changes_from, changes_of, barrier_of, part_messages, barrier_request};
-ghost use Rattle.switch_session.specs.Room.{change_fits, most_change, part_room, last_start, CanBeSent};
+ghost use Rattle.switch_session.specs.Parts.{flow_mod, change_body, change_message, changes_from, changes_of, barrier_of, part_messages, barrier_request, last_start};
+ghost use Rattle.switch_session.specs.Room.{change_fits, most_change, part_room, CanBeSent};
 
 use crate::log::Log;
 use crate::part::Part;

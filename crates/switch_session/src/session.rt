@@ -131,7 +131,8 @@ impl Session {
         self.quiet
     }
 
-    /// The switch's number, that of the last FEATURES_REPLY; `None` exactly ahead of the first.
+    /// The switch's number, that of the last FEATURES_REPLY that was told as `Features`; `None`
+    /// exactly before the first.
     pub fn dpid(&self) -> Option<u64>
         ensures { result ≡ self.now.dpid }
     {

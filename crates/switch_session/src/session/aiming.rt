@@ -43,9 +43,12 @@ impl Session {
     }
 
     /// Plans an update to these rules, and makes room for it. It leads from the rules that the
-    /// running update leads to, and at rest from those that the switch was led to. The aim is good
-    /// until a message is heard or another aim is prepared. The session is live, and the rules are
-    /// none where it is quiet.
+    /// running update leads to, and at rest from those that the switch was led to. The session is
+    /// live, and the rules are none where it is quiet.
+    ///
+    /// The aim is good until it is aimed at, another is prepared, or `end` is called, and until a
+    /// message is heard that gives `Acknowledged`, `Refused` with `quiet`, or `Ended`. Over all other
+    /// messages, `answer` and `take_out` it stays good.
     ///
     /// # Errors
     ///
@@ -80,7 +83,8 @@ impl Session {
     }
 
     /// Plans the first update of a session that waits to be accepted, and makes all room for its
-    /// start. Nothing that is told changes.
+    /// start. Nothing that is told changes. The start is good until another is prepared or the
+    /// session ends.
     ///
     /// # Errors
     ///

@@ -1,7 +1,7 @@
 // What a session makes of a message.
 ghost use Rattle.std.specs.Prelude.{◌≡◌, ◌==◌, ◌≤◌, ◌+◌, ◌<◌, true, length, Ok, is_ok, is_some};
 ghost use Rattle.of10_codec.specs.Types.{most_bytes};
-ghost use Rattle.switch_session.specs.Room.{last_start};
+ghost use Rattle.switch_session.specs.Parts.{last_start};
 
 use super::Session;
 use crate::told::{End, Heard, Phase};

@@ -1,7 +1,7 @@
 // Which part of an update leaves.
 ghost use Rattle.std.specs.Prelude.{◌≡◌, ◌<◌, ◌+◌, false};
 ghost use Rattle.switch_session.specs.declared.told.Phase.TheVariants.{Live};
-ghost use Rattle.switch_session.specs.Room.{last_start};
+ghost use Rattle.switch_session.specs.Parts.{last_start};
 
 use super::Session;
 use crate::part::{UnderWay, UpdateLists};

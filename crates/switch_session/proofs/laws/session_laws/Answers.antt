@@ -1,4 +1,5 @@
 use Rattle.switch_session.specs.Laws.{AimLaw}
+use Rattle.switch_session.proofs.Settled.{settled_law}
 use Rattle.switch_session.proofs.laws.session_laws.Goals as goal
 
 aims : AimLaw
@@ -7,5 +8,8 @@ aims s update good = record {
   taken_out = record { live = good.live; prepared = good.prepared };
 }
 
-pub returns : goal.returns
-returns c = record { aims = aims }
+pub returns-clause-aims : goal.returns-clause-aims
+returns-clause-aims c = aims
+
+pub returns-clause-settled : goal.returns-clause-settled
+returns-clause-settled c = settled_law c.shield_laws.ensures.shield
