@@ -1,5 +1,5 @@
 -- What a walker's answers say: the answers that its asker gave lead through the meaning to them. Of a question that was refused, and of want of memory, nothing is said.
-use Rattle.std.specs.Prelude.{ℕ, List, Result, Ok, Err}
+use Rattle.std.specs.Prelude.{◌≡◌, ℕ, List, Result, Ok, Err}
 use Rattle.std.specs.declared.vec.Vec.{Vec}
 use Rattle.std.specs.Global.{Global}
 use Rattle.question_tree.specs.Asking.{End, Goes, Ends, Run}
@@ -7,6 +7,7 @@ use Rattle.question_tree.specs.Leads.{Saying, Leads}
 use Rattle.policy_data.specs.declared.datum.Datum.{Datum}
 use Rattle.policy_data.specs.Data.{datum_of}
 use Rattle.policy_meaning.specs.Values.{Datum as Given}
+use Rattle.expr_eval.specs.declared.asker.Refusal.TheVariants.{Unread}
 use Rattle.expr_eval.specs.declared.asker.Stop.{Stop}
 use Rattle.expr_eval.specs.declared.asker.Stop.TheVariants.{Ended, Refused}
 
@@ -34,3 +35,7 @@ GivesValue said s m t r left = Walked said s m t (told (λ d. (datum_of d, left)
 -- of several: their numbers
 abbrev pub GivesNumbers : {S : Type 0} → Saying S → S → Run (List ℕ × ℕ) → S → Result (Vec ℕ Global) Stop → ℕ → Type 0
 GivesNumbers said s m t r left = Walked said s m t (told (λ v. (v.items, left)) r)
+
+-- a cell that was not told stopped the part
+abbrev pub IsUnread : {R : Type 0} → Result R Stop → Type 0
+IsUnread r = r ≡ Err (Refused Unread)

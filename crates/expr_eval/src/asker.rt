@@ -1,10 +1,11 @@
 // Who answers a run's questions.
-ghost use Rattle.std.specs.Prelude.{◌≡◌, List, IfOk, IsTrue};
+ghost use Rattle.std.specs.Prelude.{◌≡◌, ℕ, ◌≤◌, List, Err, IfOk, IsTrue};
 ghost use base.Fml.{GName};
+ghost use Rattle.maple_base.specs.Counts.{HasRisen};
 ghost use Rattle.maple_base.specs.Kinds.{of_kind};
 ghost use Rattle.question_tree.specs.Leads.{Answer, FieldIs, TestIs, CellIs};
 ghost use Rattle.maple_base.specs.declared.decision.Outcome.TheVariants.{Spent as RunSpent};
-ghost use Rattle.expr_eval.specs.declared.asker.Refusal.TheVariants.{NoMemory as Full};
+ghost use Rattle.expr_eval.specs.declared.asker.Refusal.TheVariants.{Unread, NoMemory as Full};
 ghost use Rattle.expr_eval.specs.declared.asker.Stop.TheVariants.{Ended, Refused};
 
 use maple_base::{Cell, Field, NoMemory, Outcome, Value};
@@ -44,21 +45,30 @@ pub trait Asker {
     /// By this answer it went from one state to the other.
     ghost said: { Self → Answer → Self → Type 0 };
 
+    /// How often it was refused a cell; the count never falls.
+    ghost refused: { Self → ℕ };
+
     /// The packet's number of a field.
     fn field(&mut self, field: Field) -> Result<u64, Refusal>
         ensures said { IfOk result (λ value. said self.old (FieldIs field value) self.new) }
-        ensures held { holds self.new ≡ holds self.old };
+        ensures held { holds self.new ≡ holds self.old }
+        ensures count { refused self.old ≤ refused self.new }
+        ensures unread { result ≡ Err Unread → HasRisen (refused self.old) (refused self.new) };
 
     /// Whether a field of the packet has a value.
     fn test(&mut self, field: Field, value: u64) -> Result<bool, Refusal>
         ensures said { IfOk result (λ truth. said self.old (TestIs field value truth) self.new) }
-        ensures held { holds self.new ≡ holds self.old };
+        ensures held { holds self.new ≡ holds self.old }
+        ensures count { refused self.old ≤ refused self.new }
+        ensures unread { result ≡ Err Unread → HasRisen (refused self.old) (refused self.new) };
 
     /// What the environment has in a cell, of the cell's kind.
     fn cell(&mut self, cell: Cell) -> Result<Value, Refusal>
         ensures said { IfOk result (λ value. said self.old (CellIs cell value) self.new) }
         ensures kind { IfOk result (λ value. IsTrue (of_kind cell value)) }
-        ensures held { holds self.new ≡ holds self.old };
+        ensures held { holds self.new ≡ holds self.old }
+        ensures count { refused self.old ≤ refused self.new }
+        ensures unread { result ≡ Err Unread → HasRisen (refused self.old) (refused self.new) };
 }
 
 /// Why a part of a run goes no further.

@@ -1,11 +1,13 @@
 // What expressions give.
-ghost use Rattle.std.specs.Prelude.{◌≡◌, ◌<◌, ◌≤◌, OnOk, IfOk, length};
+ghost use Rattle.std.specs.Prelude.{◌≡◌, ◌<◌, ◌≤◌, Err, OnOk, IfOk, length};
+ghost use Rattle.maple_base.specs.Counts.{HasRisen};
 ghost use Rattle.policy_lang.specs.Forms.{atom_of as plain_atom, callee_of};
 ghost use Rattle.policy_lang.specs.TreeOf.{term_of, terms_of};
 ghost use Rattle.policy_meaning.specs.Meaning.{atom_of, called, value_of, numbers_of};
 ghost use Rattle.policy_data.specs.Data.{datum_of};
 ghost use Rattle.expr_eval.specs.Parts.{GivesDatum, call_of, is_of, not_of, pair_of};
-ghost use Rattle.expr_eval.specs.Walked.{GivesValue, GivesNumbers};
+ghost use Rattle.expr_eval.specs.Walked.{GivesValue, GivesNumbers, IsUnread};
+ghost use Rattle.expr_eval.specs.declared.asker.Refusal.TheVariants.{Unread};
 
 use crate::{Asker, Refusal, Stop};
 use maple_base::{Cell, Field, Operator, Place};
@@ -22,6 +24,8 @@ fn atom<A: Asker>(
 ) -> Result<Datum, Refusal>
     ensures given { GivesDatum A.said asker.old (atom_of (plain_atom atom.entry) switch scope.now) asker.new result }
     ensures held { A.holds asker.new ≡ A.holds asker.old }
+    ensures count { A.refused asker.old ≤ A.refused asker.new }
+    ensures unread { result ≡ Err Unread → HasRisen (A.refused asker.old) (A.refused asker.new) }
 {
     match atom {
         Atom::Number(number) => Ok(Datum::Number(number)),
@@ -42,6 +46,8 @@ fn called<A: Asker>(
 ) -> Result<Datum, Refusal>
     ensures given { GivesDatum A.said asker.old (called (callee_of callee) (datum_of left) (datum_of right)) asker.new result }
     ensures held { A.holds asker.new ≡ A.holds asker.old }
+    ensures count { A.refused asker.old ≤ A.refused asker.new }
+    ensures unread { result ≡ Err Unread → HasRisen (A.refused asker.old) (A.refused asker.new) }
 {
     let switch = left.number();
     let port = right.number();
@@ -63,6 +69,8 @@ pub fn value<A: Asker>(
 ) -> Result<Datum, Stop>
     ensures given { GivesValue A.said asker.old (value_of (term_of expr.now) switch scope.now steps.old) asker.new result steps.new }
     ensures held { A.holds asker.new ≡ A.holds asker.old }
+    ensures count { A.refused asker.old ≤ A.refused asker.new }
+    ensures unread { IsUnread result → HasRisen (A.refused asker.old) (A.refused asker.new) }
     ensures fewer { OnOk result (steps.new < steps.old) }
 {
     steps.count()?;
@@ -91,6 +99,8 @@ fn call<A: Asker>(
 ) -> Result<Datum, Stop>
     ensures given { GivesValue A.said asker.old (call_of (callee_of callee) left.now right.now switch scope.now steps.old) asker.new result steps.new }
     ensures held { A.holds asker.new ≡ A.holds asker.old }
+    ensures count { A.refused asker.old ≤ A.refused asker.new }
+    ensures unread { IsUnread result → HasRisen (A.refused asker.old) (A.refused asker.new) }
     ensures fewer { OnOk result (steps.new < steps.old) }
 {
     let left = value(left, switch, scope, steps, asker)?;
@@ -111,6 +121,8 @@ fn has_number<A: Asker>(
 ) -> Result<Datum, Stop>
     ensures given { GivesValue A.said asker.old (is_of field part.now switch scope.now steps.old) asker.new result steps.new }
     ensures held { A.holds asker.new ≡ A.holds asker.old }
+    ensures count { A.refused asker.old ≤ A.refused asker.new }
+    ensures unread { IsUnread result → HasRisen (A.refused asker.old) (A.refused asker.new) }
     ensures fewer { OnOk result (steps.new < steps.old) }
 {
     let number = value(part, switch, scope, steps, asker)?.number();
@@ -129,6 +141,8 @@ fn opposite<A: Asker>(
 ) -> Result<Datum, Stop>
     ensures given { GivesValue A.said asker.old (not_of part.now switch scope.now steps.old) asker.new result steps.new }
     ensures held { A.holds asker.new ≡ A.holds asker.old }
+    ensures count { A.refused asker.old ≤ A.refused asker.new }
+    ensures unread { IsUnread result → HasRisen (A.refused asker.old) (A.refused asker.new) }
     ensures fewer { OnOk result (steps.new < steps.old) }
 {
     let truth = value(part, switch, scope, steps, asker)?.truth();
@@ -150,6 +164,8 @@ fn pair<A: Asker>(
 ) -> Result<Datum, Stop>
     ensures given { GivesValue A.said asker.old (pair_of operator left.now right.now switch scope.now steps.old) asker.new result steps.new }
     ensures held { A.holds asker.new ≡ A.holds asker.old }
+    ensures count { A.refused asker.old ≤ A.refused asker.new }
+    ensures unread { IsUnread result → HasRisen (A.refused asker.old) (A.refused asker.new) }
     ensures fewer { OnOk result (steps.new < steps.old) }
 {
     let left = value(left, switch, scope, steps, asker)?;
@@ -172,6 +188,8 @@ pub fn numbers<A: Asker>(
 ) -> Result<Vec<u64>, Stop>
     ensures given { GivesNumbers A.said asker.old (numbers_of (terms_of exprs.now) switch scope.now steps.old) asker.new result steps.new }
     ensures held { A.holds asker.new ≡ A.holds asker.old }
+    ensures count { A.refused asker.old ≤ A.refused asker.new }
+    ensures unread { IsUnread result → HasRisen (A.refused asker.old) (A.refused asker.new) }
     ensures each { IfOk result (λ v. length v.items ≡ length exprs.now) }
     ensures fewer { OnOk result (steps.new ≤ steps.old) }
 {

@@ -24,6 +24,8 @@ struct Evaluator<'a, E: EnvNow> {
 impl<'a, E: EnvNow> Asker for Evaluator<'a, E> {
     ghost holds = { λ s. [] };
 
+    ghost refused = { λ s. 0 };
+
     ghost said = { λ s a t. Evaluates s.key.now s.env.now t.key.now t.env.now E.has a };
 
     fn field(&mut self, field: Field) -> Result<u64, Refusal> {

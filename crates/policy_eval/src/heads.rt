@@ -1,6 +1,8 @@
 // What an `if` asks.
-ghost use Rattle.std.specs.Prelude.{◌≡◌, ◌<◌, false, OnOk, IfOk};
+ghost use Rattle.std.specs.Prelude.{◌≡◌, ◌<◌, ◌≤◌, false, OnOk, IfOk};
 ghost use Rattle.std.specs.Option.{option_map};
+ghost use Rattle.maple_base.specs.Counts.{HasRisen};
+ghost use Rattle.expr_eval.specs.Walked.{IsUnread};
 ghost use Rattle.policy_lang.specs.TreeOf.{ask_of};
 ghost use Rattle.policy_data.specs.Data.{datum_of};
 ghost use Rattle.policy_meaning.specs.Values.{source_cell, source_told};
@@ -63,6 +65,8 @@ fn binds<A: Asker>(
     ensures given { GivesHead A.said asker.old (binds_of source.now expr.now name.now switch scope.old steps.old) asker.new result scope.new steps.new }
     ensures kept { IfOk result (λ held. held ≡ false → scope.new ≡ scope.old) }
     ensures held { A.holds asker.new ≡ A.holds asker.old }
+    ensures count { A.refused asker.old ≤ A.refused asker.new }
+    ensures unread { IsUnread result → HasRisen (A.refused asker.old) (A.refused asker.new) }
     ensures fewer { OnOk result (steps.new < steps.old) }
 {
     steps.count()?;
@@ -83,6 +87,8 @@ pub fn head<A: Asker>(
     ensures given { GivesHead A.said asker.old (head_of (ask_of head.now) switch scope.old steps.old) asker.new result scope.new steps.new }
     ensures kept { IfOk result (λ held. held ≡ false → scope.new ≡ scope.old) }
     ensures held { A.holds asker.new ≡ A.holds asker.old }
+    ensures count { A.refused asker.old ≤ A.refused asker.new }
+    ensures unread { IsUnread result → HasRisen (A.refused asker.old) (A.refused asker.new) }
     ensures fewer { OnOk result (steps.new < steps.old) }
 {
     match head {

@@ -1,7 +1,10 @@
 // The walker: it runs a policy, and has its questions answered.
-ghost use Rattle.std.specs.Prelude.{◌≡◌, ◌≤◌, length, IfOk, OnOk};
+ghost use Rattle.std.specs.Prelude.{◌≡◌, ◌≤◌, length, Err, IfOk, OnOk};
+ghost use Rattle.maple_base.specs.Counts.{HasRisen};
 ghost use Rattle.policy_lang.specs.TreeOf.{term_of, terms_of, tree_of};
 ghost use Rattle.question_tree.specs.Leads.{Leads};
+ghost use Rattle.expr_eval.specs.Walked.{IsUnread};
+ghost use Rattle.expr_eval.specs.declared.asker.Refusal.TheVariants.{Unread};
 ghost use Rattle.policy_meaning.specs.Meaning.{out_of, route_of, let_of, assign_of, meaning};
 ghost use Rattle.policy_eval.specs.Parts.{GoesOn, statement_runs, branch_runs, repeat_runs, block_runs};
 
@@ -26,6 +29,8 @@ fn out<A: Asker>(
     requires few { length exprs.now ≤ 16 }
     ensures given { GoesOn A.said asker.old (out_of (terms_of exprs.now) switch scope.now steps.old) asker.new result scope.now steps.new }
     ensures held { A.holds asker.new ≡ A.holds asker.old }
+    ensures count { A.refused asker.old ≤ A.refused asker.new }
+    ensures unread { IsUnread result → HasRisen (A.refused asker.old) (A.refused asker.new) }
     ensures fewer { OnOk result (steps.new ≤ steps.old) }
 {
     let numbers = numbers(alloc, exprs, switch, scope, steps, asker)?;
@@ -45,6 +50,8 @@ fn route<A: Asker>(
 ) -> Result<(), Stop>
     ensures given { GoesOn A.said asker.old (route_of (term_of expr.now) switch scope.now steps.old) asker.new result scope.now steps.new }
     ensures held { A.holds asker.new ≡ A.holds asker.old }
+    ensures count { A.refused asker.old ≤ A.refused asker.new }
+    ensures unread { IsUnread result → HasRisen (A.refused asker.old) (A.refused asker.new) }
     ensures fewer { OnOk result (steps.new ≤ steps.old) }
 {
     let to = value(expr, switch, scope, steps, asker)?.place();
@@ -64,6 +71,8 @@ fn declare<A: Asker>(
 ) -> Result<(), Stop>
     ensures given { GoesOn A.said asker.old (let_of name.now (term_of expr.now) switch scope.old steps.old) asker.new result scope.new steps.new }
     ensures held { A.holds asker.new ≡ A.holds asker.old }
+    ensures count { A.refused asker.old ≤ A.refused asker.new }
+    ensures unread { IsUnread result → HasRisen (A.refused asker.old) (A.refused asker.new) }
     ensures fewer { OnOk result (steps.new ≤ steps.old) }
 {
     let datum = value(expr, switch, scope, steps, asker)?;
@@ -83,6 +92,8 @@ fn assign<A: Asker>(
 ) -> Result<(), Stop>
     ensures given { GoesOn A.said asker.old (assign_of name.now (term_of expr.now) switch scope.old steps.old) asker.new result scope.new steps.new }
     ensures held { A.holds asker.new ≡ A.holds asker.old }
+    ensures count { A.refused asker.old ≤ A.refused asker.new }
+    ensures unread { IsUnread result → HasRisen (A.refused asker.old) (A.refused asker.new) }
     ensures fewer { OnOk result (steps.new ≤ steps.old) }
 {
     let datum = value(expr, switch, scope, steps, asker)?;
@@ -103,6 +114,8 @@ fn statement<A: Asker>(
 ) -> Result<(), Stop>
     ensures given { GoesOn A.said asker.old (statement_runs statement.now switch scope.old steps.old) asker.new result scope.new steps.new }
     ensures held { A.holds asker.new ≡ A.holds asker.old }
+    ensures count { A.refused asker.old ≤ A.refused asker.new }
+    ensures unread { IsUnread result → HasRisen (A.refused asker.old) (A.refused asker.new) }
     ensures fewer { OnOk result (steps.new ≤ steps.old) }
 {
     match statement {
@@ -134,6 +147,8 @@ fn branch<A: Asker>(
 ) -> Result<(), Stop>
     ensures given { GoesOn A.said asker.old (branch_runs test.now first.now second.now switch scope.old steps.old) asker.new result scope.new steps.new }
     ensures held { A.holds asker.new ≡ A.holds asker.old }
+    ensures count { A.refused asker.old ≤ A.refused asker.new }
+    ensures unread { IsUnread result → HasRisen (A.refused asker.old) (A.refused asker.new) }
     ensures fewer { OnOk result (steps.new ≤ steps.old) }
 {
     let outer = scope.len();
@@ -163,6 +178,8 @@ fn repeat<A: Asker>(
 ) -> Result<(), Stop>
     ensures given { GoesOn A.said asker.old (repeat_runs test.now body.now switch scope.old steps.old) asker.new result scope.new steps.new }
     ensures held { A.holds asker.new ≡ A.holds asker.old }
+    ensures count { A.refused asker.old ≤ A.refused asker.new }
+    ensures unread { IsUnread result → HasRisen (A.refused asker.old) (A.refused asker.new) }
     ensures fewer { OnOk result (steps.new ≤ steps.old) }
 {
     while value(test, switch, scope, steps, asker)?.truth() {
@@ -185,6 +202,8 @@ fn block<A: Asker>(
 ) -> Result<(), Stop>
     ensures given { GoesOn A.said asker.old (block_runs block.now switch scope.old steps.old) asker.new result scope.new steps.new }
     ensures held { A.holds asker.new ≡ A.holds asker.old }
+    ensures count { A.refused asker.old ≤ A.refused asker.new }
+    ensures unread { IsUnread result → HasRisen (A.refused asker.old) (A.refused asker.new) }
     ensures fewer { OnOk result (steps.new ≤ steps.old) }
 {
     let outer = scope.len();
@@ -208,6 +227,8 @@ pub fn run<A: Asker>(
 ) -> Result<Outcome, Refusal>
     ensures outcome { IfOk result (λ o. Leads A.said asker.old (meaning (tree_of policy.now.body) budget switch) asker.new o) }
     ensures held { A.holds asker.new ≡ A.holds asker.old }
+    ensures count { A.refused asker.old ≤ A.refused asker.new }
+    ensures unread { result ≡ Err Unread → HasRisen (A.refused asker.old) (A.refused asker.new) }
 {
     let mut scope = Scope::new(alloc);
     let mut steps = Steps::new(budget);

@@ -1,9 +1,11 @@
 // The way of a `route`.
-ghost use Rattle.std.specs.Prelude.{◌≡◌, ◌==◌, length, IfOk, IsTrue};
+ghost use Rattle.std.specs.Prelude.{◌≡◌, ◌==◌, ◌≤◌, length, IfOk, IsTrue};
+ghost use Rattle.maple_base.specs.Counts.{HasRisen};
 ghost use Rattle.maple_base.specs.Ports.{is_port};
 ghost use Rattle.maple_base.specs.declared.decision.Decision.TheVariants.{Drop as Dropped};
 ghost use Rattle.maple_base.specs.declared.decision.Outcome.TheVariants.{Decided};
 ghost use Rattle.expr_eval.specs.declared.asker.Stop.TheVariants.{Ended};
+ghost use Rattle.expr_eval.specs.Walked.{IsUnread};
 ghost use Rattle.policy_meaning.specs.Meaning.{way_to};
 ghost use Rattle.policy_eval.specs.Parts.{GivesWay, GivesHop, way_from};
 
@@ -34,6 +36,8 @@ fn next_hop<A: Asker>(from: u64, to: Place, steps: &mut Steps, asker: &mut A) ->
     ensures given { GivesHop A.said asker.old from to steps.old asker.new result steps.new }
     ensures port { IfOk result (λ hop. IsTrue (is_port hop.port)) }
     ensures held { A.holds asker.new ≡ A.holds asker.old }
+    ensures count { A.refused asker.old ≤ A.refused asker.new }
+    ensures unread { IsUnread result → HasRisen (A.refused asker.old) (A.refused asker.new) }
 {
     steps.count()?;
     let cell = Cell::Hop {
@@ -57,6 +61,8 @@ fn way<A: Asker>(
     requires { IsTrue (is_port to.port) }
     ensures given { GivesWay A.said asker.old (way_from 63 to steps.old switch) asker.new result }
     ensures held { A.holds asker.new ≡ A.holds asker.old }
+    ensures count { A.refused asker.old ≤ A.refused asker.new }
+    ensures unread { IsUnread result → HasRisen (A.refused asker.old) (A.refused asker.new) }
 {
     let mut hops = Vec::new(alloc);
     let mut from = switch;
@@ -85,6 +91,8 @@ pub fn way_to<A: Asker>(
 ) -> Result<Path, Stop>
     ensures given { GivesWay A.said asker.old (way_to switch to steps.old) asker.new result }
     ensures held { A.holds asker.new ≡ A.holds asker.old }
+    ensures count { A.refused asker.old ≤ A.refused asker.new }
+    ensures unread { IsUnread result → HasRisen (A.refused asker.old) (A.refused asker.new) }
 {
     if !is_port(to.port) {
         return Err(lost());

@@ -1,8 +1,9 @@
 // The recorder: it answers a run's questions from a key and a view, and notes what was asked.
-ghost use Rattle.std.specs.Prelude.{◌≡◌, [], ◌∷◌, true, IfOk, IsTrue, OnOk};
+ghost use Rattle.std.specs.Prelude.{◌≡◌, [], ◌∷◌, true, Err, IfOk, IsTrue, OnOk};
 ghost use Rattle.std.specs.List.{list_all};
 ghost use Rattle.maple_base.specs.declared.cells.Cell.{Cell as CellData};
 ghost use Rattle.maple_base.specs.declared.cells.Value.{Value as ValueData};
+ghost use Rattle.maple_base.specs.Counts.{HasRisen};
 ghost use Rattle.maple_base.specs.Keys.{valid_key};
 ghost use Rattle.policy_lang.specs.TreeOf.{tree_of};
 ghost use Rattle.policy_meaning.specs.Meaning.{meaning};
@@ -36,6 +37,8 @@ struct Recorder<'a, V: EnvView, N> {
 
 impl<'a, V: EnvView> Asker for Recorder<'a, V, Notes> {
     ghost holds = { λ s. s.view.ghost_name ∷ [] };
+
+    ghost refused = { λ s. V.refused s.view.now };
 
     ghost said = { λ s a t. Records s.key.now t.key.now (seen s.notes.items s.notes.cells) (seen t.notes.items t.notes.cells) (V.gave s.view.now) (V.gave t.view.now) a };
 
@@ -103,6 +106,7 @@ impl<'a, V: EnvView> Recorder<'a, V, Notes> {
         ensures given { IfOk result (λ o. AreGiven (V.gave self.new.view.now) self.new.notes.cells) }
         ensures kept { OnOk result ((c : CellData) (v : ValueData) → V.gave self.old.view.now c v → V.gave self.new.view.now c v) }
         ensures kinds { IfOk result (λ o. list_all is_of_kind self.new.notes.cells ≡ true) }
+        ensures unread { result ≡ Err Refusal.Unread → HasRisen (V.refused self.old.view.now) (V.refused self.new.view.now) }
         ensures same_reference { self.new.view.ghost_name ≡ self.old.view.ghost_name }
     {
         run(alloc, policy, budget, switch, self)
@@ -122,6 +126,7 @@ pub fn walked<V: EnvView>(
     ensures trace { IfOk result.0 (λ o. IsTrace (meaning (tree_of policy.now.body) budget switch) key.now result.1.items result.1.cells o) }
     ensures given { IfOk result.0 (λ o. AreGiven (V.gave view.new) result.1.cells) }
     ensures kept { OnOk result.0 ((c : CellData) (v : ValueData) → V.gave view.old c v → V.gave view.new c v) }
+    ensures unread { result.0 ≡ Err Refusal.Unread → HasRisen (V.refused view.old) (V.refused view.new) }
     ensures kinds { IfOk result.0 (λ o. list_all is_of_kind result.1.cells ≡ true) }
 {
     let mut recorder = Recorder::new(alloc, key, view);

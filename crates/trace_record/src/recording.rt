@@ -136,6 +136,7 @@ fn answered(
     before: u64,
     after: u64,
 ) -> Result<Outcome, RecordError>
+    requires { outcome ≡ Err Refusal.Unread → HasRisen before after }
     ensures outcome { IfOk result (λ o. outcome ≡ Ok o) }
     ensures unread { before < after → result ≡ Err Unread }
     ensures refused { result ≡ Err Unread → HasRisen before after }
@@ -145,8 +146,8 @@ fn answered(
     }
     match outcome {
         Ok(outcome) => Ok(outcome),
-        Err(Refusal::Unread) if after == u64::MAX => Err(RecordError::Unread),
-        Err(_) => Err(RecordError::NoMemory),
+        Err(Refusal::Unread) => Err(RecordError::Unread),
+        Err(Refusal::NoMemory) => Err(RecordError::NoMemory),
     }
 }
 

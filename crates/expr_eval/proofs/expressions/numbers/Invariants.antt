@@ -9,6 +9,7 @@ abbrev pub invariant-loop-expr : goal.invariant-loop-expr
 invariant-loop-expr g l = record {
   count : length l.numbers.items ≡ l.expr-index;
   fewer : l.steps ≤ l.initial.steps;
+  tally : g.A.Asker.refused l.initial.asker ≤ g.A.Asker.refused l.asker;
   held : g.A.Asker.holds l.asker ≡ g.A.Asker.holds l.initial.asker;
   left : NumbersLeft g.A.Asker.said l.asker (numbers_of (terms_of (drop l.expr-index l.exprs)) l.switch l.scope l.steps) l.numbers.items l.initial.asker (numbers_of (terms_of l.exprs) l.switch l.scope l.initial.steps);
 }

@@ -23,6 +23,7 @@ decreases-statement g l = 4 * l.steps.now + 2
 abbrev pub invariant-block-loop-item : goal.invariant-block-loop-item
 invariant-block-loop-item g l = record {
   fewer : l.steps ≤ l.initial.steps;
+  tally : g.A.Asker.refused l.initial.asker ≤ g.A.Asker.refused l.asker;
   held : g.A.Asker.holds l.asker ≡ g.A.Asker.holds l.initial.asker;
   rest : LeadsOn g.A.Asker.said l.asker (left_of (drop l.item-index l.item-items) l.switch l.scope l.steps) l.initial.asker (left_of l.item-items l.switch l.initial.scope l.initial.steps);
 }
@@ -31,6 +32,7 @@ invariant-block-loop-item g l = record {
 abbrev pub invariant-repeat-loop-alloc : goal.invariant-repeat-loop-alloc
 invariant-repeat-loop-alloc g l = record {
   fewer : l.steps ≤ l.initial.steps;
+  tally : g.A.Asker.refused l.initial.asker ≤ g.A.Asker.refused l.asker;
   held : g.A.Asker.holds l.asker ≡ g.A.Asker.holds l.initial.asker;
   rest : RoundsLeft g.A.Asker.said (term_of l.test) (block_runs l.body l.switch) l.switch l.asker l.scope l.steps l.initial.asker (rounds (suc l.initial.steps) (term_of l.test) (block_runs l.body l.switch) l.switch l.initial.scope l.initial.steps);
 }

@@ -44,6 +44,7 @@ loop-from-preserved g c =
     let all = way_from 63 c.args.to c.args.steps.now c.args.switch in record {
       few = omega arith;
       ports = ap (list_all is_hop) items ∙ all_more hops hop c.loop-from.invariant.ports c.in_ok-hop.ensures.port;
+      tally = omega (arith, c.loop-from.invariant.tally, c.next_hop.ensures.count);
       held = c.next_hop.ensures.held ∙ c.loop-from.invariant.held;
       way = λ t r w.
           subst (λ l. Walked g.A.Asker.said c.args.asker.now all t (led_by l r)) (sym items)

@@ -11,6 +11,7 @@ abbrev pub invariant-loop-from : goal.invariant-loop-from
 invariant-loop-from g l = record {
   few : length l.hops.items ≤ 63;
   ports : IsTrue (list_all is_hop l.hops.items);
+  tally : g.A.Asker.refused l.initial.asker ≤ g.A.Asker.refused l.asker;
   held : g.A.Asker.holds l.asker ≡ g.A.Asker.holds l.initial.asker;
   way : LeadsBehind g.A.Asker.said l.asker (way_from (63 - length l.hops.items) l.to l.steps l.from) l.initial.asker (way_from 63 l.to l.initial.steps l.switch) l.hops.items;
 }
