@@ -1,0 +1,4 @@
+pub mod Lists
+pub mod Meant
+pub mod Told
+pub mod Turned

@@ -1,0 +1,11 @@
+-- A reader must believe: Answers (what a model switch answers to a message), States (what is seen of one, and what its calls do), Meanings (what each device means),
+-- Draws (which message is drawn), Faults (which calls fail), Logs (the calls that are told).
+-- Kept and Parts serve private contracts and proofs alone.
+pub mod Answers
+pub mod Draws
+pub mod Faults
+pub mod Kept
+pub mod Logs
+pub mod Meanings
+pub mod Parts
+pub mod States
