@@ -1,5 +1,5 @@
 -- The run on a packet whose trace isn't known.
-use Rattle.std.proofs.Common.{◌≡◌, ℕ, ◌+◌, ◌≤◌, true, false, cond, List, [], ◌∷◌, ◌++◌, None, Some, refl, sym, ap, ◌∙◌, subst, ⊎_elim, arith}
+use Rattle.std.proofs.Common.{◌≡◌, ℕ, ◌+◌, true, false, cond, List, [], ◌∷◌, ◌++◌, None, Some, sym, ap, ◌∙◌, subst, ⊎_elim, arith}
 use Rattle.std.specs.List.{AllByRecursion}
 use Rattle.std.proofs.lemmas.Bool.{cases_Bool}
 use Rattle.maple_base.specs.declared.key.Key.{Key}
@@ -7,16 +7,14 @@ use Rattle.maple_base.specs.declared.cells.Cell.{Cell}
 use Rattle.maple_base.specs.declared.cells.Value.{Value}
 use Rattle.maple_base.specs.declared.items.Item.{Item}
 use Rattle.maple_base.specs.declared.decision.Decision.{Decision}
-use Rattle.maple_base.specs.declared.decision.Outcome.{Outcome}
 use Rattle.maple_base.specs.declared.decision.Outcome.TheVariants.{Decided, Spent}
 use Rattle.maple_base.specs.Keys.{valid_key}
 use Rattle.maple_base.specs.Questions.{meets, clash}
 use Rattle.policy_lang.specs.declared.Policy.{Policy}
-use Rattle.policy_lang.specs.PolicyTree.{policy_tree}
 use Rattle.policy_lang.specs.TreeOf.{tree_of}
 use Rattle.policy_lang.specs.Tree.{Acts}
 use Rattle.policy_meaning.specs.Meaning.{meaning}
-use Rattle.policy_meaning.specs.Laws.{begins_at}
+use Rattle.policy_meaning.specs.Laws.{begins_at, decides_ports}
 use Rattle.question_tree.specs.Cells.{Gives, AreGiven}
 use Rattle.question_tree.specs.Readings.{items_of}
 use Rattle.question_tree.specs.Laws.{IsTrace, IsTraceOf, NoClash}
@@ -27,8 +25,8 @@ use Rattle.report_text.specs.Report.{spelled}
 use Rattle.trace_tree.specs.declared.node.Trace.{Trace}
 use Rattle.trace_tree.specs.Growth.{found}
 use Rattle.plain_world.specs.declared.world.World.{World}
-use Rattle.plain_world.specs.Now.{Now, Bounds, this_switch, env_of, outcome_now, asked_now, own_trace, with_trace}
-use Rattle.plain_world.specs.Report.{answer, answered, learnt, behind_answer, tells}
+use Rattle.plain_world.specs.Now.{Now, Bounds, this_switch, env_of, asked_now, own_trace, with_trace}
+use Rattle.plain_world.specs.Report.{answer, answered, learnt, behind_answer}
 use Rattle.plain_world.specs.Knowing.{Lives, Knows, Said}
 use Rattle.plain_world.specs.Settling.{IsNext, IsLearnt, and_one}
 use Rattle.plain_world.proofs.Turns.{by_line}
@@ -91,6 +89,7 @@ module _ (bounds : Bounds) (now : Now) (world : World) (knows : Knows bounds now
               run = subst (IsTrace (meaning now.policy.body bounds.budget this_switch) k run.items run.cells) decided trace_now;
               cells = gives;
               begins = subst (λ o. begins_at this_switch o ≡ true) decided begins_now;
+              ports = subst (λ o. decides_ports o ≡ true) decided lawful.ports;
               number = is_next ∙ ap (λ n. n + 1) knows.learned;
               free = free_of_all now.traces knows.lives unfound;
               short = let f = lawful.few in let b = lawful.budget.few in omega (arith, f, b);

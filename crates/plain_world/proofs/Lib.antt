@@ -1,6 +1,7 @@
 pub mod Answering
-pub mod Choosings
+pub mod Filling
 pub mod Learning
+pub mod Listing
 pub mod Living
 pub mod Packets
 pub mod Turns

@@ -1,8 +1,8 @@
 -- The traces that live on behind a state.
-use Rattle.std.proofs.Common.{◌≡◌, ℕ, ◌+◌, ◌-◌, ◌≤◌, Bool, true, false, cond, List, [], ◌∷◌, ◌++◌, length, refl, sym, ap, ◌∙◌, subst, ⊎_elim, arith, append_assoc}
-use Rattle.std.specs.Prelude.{◌&&◌, filter, None}
+use Rattle.std.proofs.Common.{◌≡◌, ℕ, ◌+◌, ◌-◌, ◌≤◌, Bool, true, cond, List, [], ◌∷◌, ◌++◌, length, refl, sym, ap, ◌∙◌, subst, ⊎_elim, arith}
+use Rattle.std.specs.Prelude.{filter, None}
 use Rattle.std.specs.List.{AllByRecursion}
-use Rattle.std.proofs.lemmas.Bool.{cases_Bool}
+use Rattle.std.proofs.lemmas.Bool.{cases_Bool, and_parts}
 use Rattle.std.proofs.lemmas.List.{append-nil}
 use Rattle.maple_base.specs.declared.key.Key.{Key}
 use Rattle.maple_base.specs.declared.cells.Cell.{Cell}
@@ -10,8 +10,8 @@ use Rattle.maple_base.specs.declared.cells.Place.{Place}
 use Rattle.maple_base.specs.declared.cells.Value.{Value}
 use Rattle.policy_lang.specs.PolicyTree.{PolicyTree, policy_tree}
 use Rattle.question_tree.specs.Cells.{Gives}
-use Rattle.priority_plan.specs.Rules.{level_limit, levels_of, rules_needed}
-use Rattle.priority_plan.specs.Laws.{KeptHasNoMore, HasNoMore}
+use Rattle.priority_plan.specs.Rules.{levels_of, rules_needed}
+use Rattle.priority_plan.specs.Laws.{HasNoMore}
 use Rattle.report_text.specs.declared.line.Line.TheVariants.{State}
 use Rattle.report_text.specs.Report.{spelled}
 use Rattle.env_cells.specs.declared.updates.Update.{Update}
@@ -22,45 +22,36 @@ use Rattle.env_cells.specs.Refusals.{refusal_of}
 use Rattle.topo_paths.specs.Scenes.{cell_in}
 use Rattle.trace_tree.specs.declared.node.Trace.{Trace}
 use Rattle.trace_tree.specs.Shape.{Shape}
-use Rattle.trace_tree.specs.Growth.{scratch, leaves_of}
-use Rattle.trace_tree.specs.Stands.{StandsFor, of_leaf}
-use Rattle.trace_tree.specs.Laws.{LeavesAreTraces, OnlyApartIsAdmitted, KeptIsScratch}
+use Rattle.trace_tree.specs.declared.node.Leaf.{Leaf}
+use Rattle.trace_tree.specs.Kept.{kept}
+use Rattle.trace_tree.specs.Growth.{scratch, leaves_of, AllAskOnce}
+use Rattle.trace_tree.specs.Stands.{StandsFor, StandsForRest, of_leaf}
 use Rattle.tree_prune.specs.Current.{same_value, are_current, is_current}
 use Rattle.tree_prune.specs.Laws.{SameIsEqual}
 use Rattle.plain_world.specs.declared.world.World.{World}
 use Rattle.plain_world.specs.Now.{Now, Bounds, env_of, entry_of, teaches, teaches_in}
-use Rattle.plain_world.specs.Report.{Turn, still_current, new_state, updated, change, changed, taught, quietly, teaching, text_of}
+use Rattle.plain_world.specs.Report.{still_current, new_state, updated, change, changed, taught, quietly, teaching}
 use Rattle.plain_world.specs.Knowing.{Lives, Knows, Said}
-use Rattle.plain_world.specs.Settling.{Settles, StateLaws}
-
-both : (a b : Bool) → (a && b) ≡ true → (a ≡ true) × (b ≡ true)
-both true b h = (refl, h)
-both false b h = absurd (cc)
+use Rattle.plain_world.specs.Settling.{Fits, Settles, StateLaws}
 
 gives_of : (same : SameIsEqual) (env : Cell → Value) (cs : List (Cell × Value)) → are_current env cs ≡ true → Gives env cs
 gives_of same env [] h = tt
 gives_of same env (c ∷ cs) h =
-    let b = both (same_value (env c.0) c.1) (are_current env cs) h in
+    let b = and_parts (same_value (env c.0) c.1) (are_current env cs) h in
     ((same (env c.0) c.1).0 b.0, gives_of same env cs b.1)
 
 -- what lives stays where its cells do
-lives_on : (same : SameIsEqual) (bounds : Bounds) (now next : Now) (x : Trace) → next.policy ≡ now.policy → next.learned ≡ now.learned → Lives bounds now x → are_current (env_of next) x.cells ≡ true → Lives bounds next x
-lives_on same bounds now next x p n l h =
-    record {
-      key = l.key;
-      run = rw (← p) at l.run;
-      cells = gives_of same (env_of next) x.cells h;
-      begins = l.begins;
-      number = rw (← n) at l.number;
-    }
+pub lives_still : (bounds : Bounds) (now next : Now) (x : Trace) → next.policy ≡ now.policy → now.learned ≤ next.learned → Lives bounds now x → Gives (env_of next) x.cells → Lives bounds next x
+lives_still bounds now next x p n l cells =
+    let m = l.number in record { key = l.key; run = rw (← p) at l.run; cells = cells; begins = l.begins; ports = l.ports; number = omega (arith, m, n) }
 
-all_live_on : (same : SameIsEqual) (bounds : Bounds) (now next : Now) → next.policy ≡ now.policy → next.learned ≡ now.learned
+all_live_on : (same : SameIsEqual) (bounds : Bounds) (now next : Now) → next.policy ≡ now.policy → now.learned ≤ next.learned
     → (rs : List Trace) → AllByRecursion (Lives bounds now) rs → AllByRecursion (Lives bounds next) (filter (of_leaf (is_current (env_of next))) rs)
 all_live_on same bounds now next p n [] h = tt
 all_live_on same bounds now next p n (x ∷ xs) h =
     ⊎_elim
     (λ c. subst (λ b. AllByRecursion (Lives bounds next) (cond b (x ∷ filter (of_leaf (is_current (env_of next))) xs) (filter (of_leaf (is_current (env_of next))) xs))) (sym c)
-    (lives_on same bounds now next x p n h.0 c, all_live_on same bounds now next p n xs h.1))
+    (lives_still bounds now next x p n h.0 (gives_of same (env_of next) x.cells c), all_live_on same bounds now next p n xs h.1))
     (λ c. subst (λ b. AllByRecursion (Lives bounds next) (cond b (x ∷ filter (of_leaf (is_current (env_of next))) xs) (filter (of_leaf (is_current (env_of next))) xs))) (sym c)
     (all_live_on same bounds now next p n xs h.1))
     (cases_Bool (are_current (env_of next) x.cells))
@@ -102,11 +93,11 @@ module _ (laws : StateLaws) (bounds : Bounds) (now : Now) (before mid after : Wo
           scene = settles.scene ∙ scene_is;
           state = settles.state ∙ ap (λ n. n + 1) state_is;
           learned = settles.learned ∙ ap (λ (w : World). w.learned) moved ∙ knows.learned;
-          lives = all_live_on laws.same bounds now next refl refl now.traces knows.lives;
+          lives = all_live_on laws.same bounds now next refl (omega arith) now.traces knows.lives;
           apart = laws.apart rest stands_on.admitted;
           stands = stands_on;
-          facts = rw (sym stands_on.made) at settles.rules.facts;
-          barriers = rw (sym stands_on.made) at settles.rules.barriers;
+          table = rw (sym stands_on.made) at settles.table;
+          capacity = settles.capacity ∙ ap (λ (w : World). w.table.capacity) moved ∙ knows.capacity;
           room = let m = no_more.rules in let r = knows.room in omega (arith, m, r);
           few = let m = no_more.levels in let r = knows.few in omega (arith, m, r);
         },
@@ -138,5 +129,31 @@ taught_turn laws bounds now before knows k place mid after old new t here accept
     subst (λ b. Said bounds (cond b (taught now u (refusal_of now.scene u)) (quietly now)) after old new) (sym t')
     (subst (λ r. Said bounds (taught now u r) after old new) (sym a) (updated_turn laws bounds now before knows u mid after old new scene moved at s))
 
-pub few_levels_now : (bounds : Bounds) (now : Now) (world : World) → Knows bounds now world → levels_of world.tree ≤ level_limit
-few_levels_now bounds now world knows = let e = ap levels_of knows.stands.made in let a = knows.few in let b = knows.ranges.levels in omega (arith, e, a, b)
+-- living traces ask of a fixed field no more
+pub all_once : (bounds : Bounds) (now : Now) (rs : List Trace) → AllByRecursion (Lives bounds now) rs → AllAskOnce rs
+all_once bounds now [] h = tt
+all_once bounds now (x ∷ xs) h = (h.0.run.once, all_once bounds now xs h.1)
+
+-- what a world knows of its tree
+pub fits_now : (bounds : Bounds) (now : Now) (world : World) → Knows bounds now world → Fits world.tree world.table.capacity
+fits_now bounds now world knows =
+    let c = knows.capacity in
+    let l = ap levels_of knows.stands.made in
+    let r = ap rules_needed knows.stands.made in
+    let a = knows.few in
+    let b = knows.ranges.levels in
+    let d = knows.room in (
+      now.traces,
+      record { stands = knows.stands; once = all_once bounds now now.traces knows.lives; levels = omega (arith, l, a, b); room = omega (arith, r, c, d) },
+    )
+
+-- what is left of a tree fits too
+pub fits_rest : (laws : StateLaws) (p : Leaf → Bool) (t u : Shape) (capacity : ℕ) → u ≡ kept p t → StandsForRest p t u → Fits t capacity → Fits u capacity
+fits_rest laws p t u capacity is rest fits =
+    let m = subst (HasNoMore t) (sym is) (laws.fewer p t) in
+    let f = fits.1 in
+    let l = m.levels in
+    let r = m.rules in (
+      filter (of_leaf p) fits.0,
+      record { stands = rest fits.0 f.stands; once = laws.once fits.0 (of_leaf p) f.once; levels = omega (arith, l, f.levels); room = omega (arith, r, f.room) },
+    )

@@ -1,29 +1,19 @@
 -- Turns by one line, and one turn behind another.
-use Rattle.std.proofs.Common.{◌≡◌, ℕ, zero, suc, ◌+◌, ◌-◌, ◌<◌, ◌≤◌, true, List, [], ◌∷◌, ◌++◌, refl, sym, ap, ◌∙◌, subst, append_assoc, arith}
+use Rattle.std.proofs.Common.{◌≡◌, ℕ, zero, suc, ◌+◌, ◌-◌, ◌<◌, true, List, [], ◌∷◌, ◌++◌, refl, sym, ap, ◌∙◌, append_assoc, arith}
 use Rattle.std.proofs.lemmas.List.{append-nil}
-use Rattle.std.specs.List.Sorted.{IsPermutation}
-use Rattle.std.proofs.lemmas.List.Sorted.{IsPermutation-refl}
-use Rattle.policy_lang.specs.PolicyTree.{PolicyTree, policy_tree}
-use Rattle.env_cells.specs.declared.updates.Update.TheVariants.{Tables}
-use Rattle.env_cells.specs.Environment.{Environment}
-use Rattle.env_cells.specs.Changes.{applied}
 use Rattle.report_text.specs.declared.line.Line.{Line}
 use Rattle.report_text.specs.declared.line.Line.TheVariants.{Miss, Malformed}
 use Rattle.report_text.specs.Report.{spelled}
-use Rattle.trace_tree.specs.Shape.{Empty}
-use Rattle.trace_tree.specs.Growth.{leaves_of}
-use Rattle.trace_tree.specs.Stands.{StandsFor}
-use Rattle.trace_tree.specs.Laws.{LeavesAreTraces}
 use Rattle.plain_world.specs.declared.world.World.{World}
-use Rattle.plain_world.specs.Now.{Now, Bounds, opening, ports_behind}
-use Rattle.plain_world.specs.Report.{Turn, tells, then_do, renewed, text_of}
-use Rattle.plain_world.specs.Knowing.{AreBounds, Knows, Said}
+use Rattle.plain_world.specs.Now.{Now, Bounds, ports_behind}
+use Rattle.plain_world.specs.Report.{Turn, tells, then_do, text_of}
+use Rattle.plain_world.specs.Knowing.{Knows, Said}
 
 -- one line, behind which the world knows this
 pub by_line : (bounds : Bounds) (line : Line) (next : Now) (world : World) (old new : List ℕ) → new ≡ old ++ spelled line → Knows bounds next world → Said bounds (tells line next) world old new
 by_line bounds line next world old new e knows = (e ∙ ap (λ t. old ++ t) (sym (append-nil (spelled line))), knows)
 
-texts : (ls ms : List Line) → text_of (ls ++ ms) ≡ text_of ls ++ text_of ms
+pub texts : (ls ms : List Line) → text_of (ls ++ ms) ≡ text_of ls ++ text_of ms
 texts [] ms = refl
 texts (l ∷ ls) ms = ap (λ t. spelled l ++ t) (texts ls ms) ∙ sym (append_assoc (spelled l) (text_of ls) (text_of ms))
 
@@ -34,26 +24,6 @@ one_then bounds first second mid after old text new a b = (
       ∙ ap (λ t. old ++ t) (sym (texts first.lines (second first.next).lines)),
   b.1,
 )
-
--- a world without traces knows its policy, scene and numbers
-pub knows_bare : (bounds : Bounds) (now : Now) (world : World) → AreBounds bounds → policy_tree world.policy ≡ now.policy → world.scene ≡ now.scene → world.state ≡ now.state → world.learned ≡ now.learned
-    → now.traces ≡ [] → world.tree ≡ Empty → world.rules.facts ≡ [] → world.rules.barriers ≡ [] → StandsFor Empty [] → Knows bounds now world
-knows_bare bounds now world ranges policy scene state learned bare tree facts barriers none =
-    subst (λ rs. Knows bounds (record { policy = now.policy; scene = now.scene; state = now.state; learned = now.learned; traces = rs }) world) (sym bare)
-    (record {
-      ranges = ranges;
-      policy = policy;
-      scene = scene;
-      state = state;
-      learned = learned;
-      lives = tt;
-      apart = tt;
-      stands = subst (λ t. StandsFor t []) (sym tree) none;
-      facts = subst (λ l. IsPermutation [] l) (sym facts) (IsPermutation-refl []);
-      barriers = subst (λ l. IsPermutation [] l) (sym barriers) (IsPermutation-refl []);
-      room = omega arith;
-      few = omega arith;
-    })
 
 -- a miss and its fault
 pub two_lines : (port n m : ℕ) (old a new : List ℕ) → n ≡ m → a ≡ old ++ spelled (Miss 1 port 0) → new ≡ a ++ spelled (Malformed 1 n) → new ≡ old ++ text_of (Miss 1 port 0 ∷ Malformed 1 m ∷ [])

@@ -1,5 +1,5 @@
 -- What the simulation of one switch knows at a moment.
-use Rattle.std.specs.Prelude.{ℕ, suc, zero, ◌+◌, ◌-◌, ◌/◌, ◌%◌, ◌^◌, Bool, true, false, not, ◌&&◌, ◌==◌, nat_lt, if◌then◌else◌, List, [], ◌∷◌, ◌++◌, Option, Some, None}
+use Rattle.std.specs.Prelude.{ℕ, suc, zero, ◌+◌, ◌/◌, ◌%◌, ◌^◌, Bool, true, not, ◌&&◌, ◌==◌, List, [], ◌∷◌, ◌++◌}
 use Rattle.std.specs.List.{list_all}
 use Rattle.maple_base.specs.declared.key.Key.{Key}
 use Rattle.maple_base.specs.declared.cells.Cell.{Cell}
@@ -9,9 +9,7 @@ use Rattle.maple_base.specs.declared.cells.Port.{Port}
 use Rattle.maple_base.specs.declared.cells.Value.{Value}
 use Rattle.maple_base.specs.declared.cells.Value.TheVariants.{At}
 use Rattle.maple_base.specs.declared.decision.Decision.{Decision}
-use Rattle.maple_base.specs.declared.decision.Decision.TheVariants.{Drop}
 use Rattle.maple_base.specs.declared.decision.Outcome.{Outcome}
-use Rattle.maple_base.specs.declared.decision.Outcome.TheVariants.{Decided, Spent}
 use Rattle.maple_base.specs.Ports.{is_port}
 use Rattle.policy_lang.specs.PolicyTree.{PolicyTree}
 use Rattle.question_tree.specs.Asking.{Asking}

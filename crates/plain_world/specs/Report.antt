@@ -1,11 +1,12 @@
 -- The report of a simulation: what the switch and its controller do at each step, as traces are learned and go.
-use Rattle.std.specs.Prelude.{ℕ, ◌+◌, ◌-◌, Bool, ◌==◌, nat_lt, if◌then◌else◌, List, [], ◌∷◌, ◌++◌, length, filter, Option, Some, None, Result, Ok, Err}
+use Rattle.std.specs.Prelude.{◌≡◌, ℕ, ◌+◌, ◌-◌, ◌==◌, nat_lt, if◌then◌else◌, List, [], ◌∷◌, ◌++◌, length, filter, map, Option, Some, None, Result, Ok, Err}
 use Rattle.std.specs.List.{list_any}
 use Rattle.maple_base.specs.declared.key.Key.{Key}
 use Rattle.maple_base.specs.declared.decision.Decision.{Decision}
 use Rattle.maple_base.specs.declared.decision.Decision.TheVariants.{Drop}
 use Rattle.maple_base.specs.declared.decision.Outcome.{Outcome}
 use Rattle.maple_base.specs.declared.decision.Outcome.TheVariants.{Decided, Spent}
+use Rattle.maple_base.specs.declared.decision.Rule.{Rule}
 use Rattle.maple_base.specs.declared.update_refused.UpdateRefused.{UpdateRefused}
 use Rattle.maple_base.specs.Choice.{fits}
 use Rattle.maple_base.specs.Decisions.{actions_at}
@@ -13,10 +14,11 @@ use Rattle.packet_key.specs.declared.malformed.Malformed.{Malformed as Fault}
 use Rattle.packet_key.specs.Frames.{key_of, fault_number}
 use Rattle.policy_lang.specs.PolicyTree.{PolicyTree}
 use Rattle.report_text.specs.declared.line.Line.{Line}
-use Rattle.report_text.specs.declared.line.Line.TheVariants.{State, RefusedUpdate, Hit, Miss, Malformed, Answer, Spent as SpentRun}
+use Rattle.report_text.specs.declared.line.Line.TheVariants.{State, RefusedUpdate, Hit, Miss, Malformed, Answer, Spent as SpentRun, Rule as RuleLine, Rules as RulesLine}
 use Rattle.report_text.specs.declared.line.Learnt.{Learnt}
 use Rattle.report_text.specs.declared.line.Learnt.TheVariants.{Learned, Levels, Rows}
 use Rattle.report_text.specs.Report.{spelled}
+use Rattle.of10_codec.specs.RuleOrder.{ArePut}
 use Rattle.priority_plan.specs.Rules.{rules_of, rules_needed, levels_of}
 use Rattle.env_cells.specs.declared.updates.Update.{Update}
 use Rattle.env_cells.specs.declared.updates.Update.TheVariants.{Host, Tables}
@@ -28,7 +30,7 @@ use Rattle.trace_tree.specs.declared.node.Trace.{Trace}
 use Rattle.trace_tree.specs.Stands.{of_leaf}
 use Rattle.trace_tree.specs.Growth.{found, scratch}
 use Rattle.tree_prune.specs.Current.{is_current}
-use Rattle.plain_world.specs.Now.{Now, Bounds, this_switch, env_of, entry_of, opening, outcome_now, own_trace, with_trace, teaches}
+use Rattle.plain_world.specs.Now.{Now, Bounds, this_switch, entry_of, outcome_now, with_trace, teaches}
 
 -- the lines of something that happens, and what is known behind it
 pub record Turn : Type 0 where
@@ -130,6 +132,21 @@ module _ (bounds : Bounds) where
 
   abbrev pub frame : Now → ℕ → List ℕ → Turn
   frame now port bytes = arrival now port (key_of port bytes)
+
+-- the line of a rule, and those of a list of rules with their number behind them
+abbrev pub rule_line : ℕ → Rule → Line
+rule_line switch r = RuleLine switch r.priority r.actions r.of
+
+abbrev pub rule_lines : ℕ → List Rule → List Line
+rule_lines switch rules = map (rule_line switch) rules ++ RulesLine switch (length rules) ∷ []
+
+-- the rules of a switch: of this one those of the living traces' tree, and of any other none
+abbrev pub rules_at : Now → ℕ → List Rule
+rules_at now switch = if switch == this_switch then rules_of (scratch now.traces) else []
+
+-- the lines that list the rules of a switch, in the order of rules
+abbrev pub IsListing : Now → ℕ → List Line → Type 0
+IsListing now switch lines = (rules : List Rule) × ArePut (rules_at now switch) rules × (lines ≡ rule_lines switch rules)
 
 -- the spelling of lines, one behind the other
 abbrev pub text_of : List Line → List ℕ

@@ -1,7 +1,6 @@
 //! One switch and its controller, simulated: packets, updates of the environment, new policies.
 #![tactic(auto)]
 
-pub mod choosing;
 pub mod settings;
 pub mod world;
 

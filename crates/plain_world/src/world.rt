@@ -1,7 +1,10 @@
 // One switch and its controller.
-ghost use Rattle.std.specs.Prelude.{◌≡◌, ◌+◌, ◌^◌, ◌++◌, ◌≤◌, ◌<◌, not, IfOk, IsTrue, OnOk, None, [], ◌∷◌};
-ghost use Rattle.std.specs.List.{list_all};
+ghost use Rattle.std.specs.Prelude.{◌≡◌, ◌↔◌, ◌+◌, ◌^◌, ◌++◌, ◌≤◌, ◌<◌, ◌==◌, if◌then◌else◌, true, not, length, IfOk, IsTrue, OnOk, None, [], ◌∷◌};
+ghost use Rattle.maple_base.specs.Ports.{controller_port};
+ghost use Rattle.std.specs.List.{list_all, AllPairs};
+ghost use Rattle.std.specs.List.Sorted.{IsPermutation};
 ghost use Rattle.maple_base.specs.declared.cells.Value.TheVariants.{At};
+ghost use Rattle.maple_base.specs.Choice.{Differ};
 ghost use Rattle.maple_base.specs.Keys.{valid_key};
 ghost use Rattle.packet_key.specs.Frames.{fault_number};
 ghost use Rattle.policy_eval.specs.Answers.{IsBudget};
@@ -10,31 +13,34 @@ ghost use Rattle.trace_record.specs.Runs.{IsRun, IsOfCall};
 ghost use Rattle.topo_paths.specs.Scenes.{cell_in};
 ghost use Rattle.trace_tree.specs.Growth.{found};
 ghost use Rattle.tree_prune.specs.Current.{same_value};
+ghost use Rattle.report_text.specs.declared.line.Learnt.TheVariants.{Learned};
 ghost use Rattle.report_text.specs.declared.line.Line.TheVariants.{Miss as MissLine, Malformed as MalformedLine};
 ghost use Rattle.env_cells.specs.Changes.{applied};
 ghost use Rattle.env_cells.specs.Environment.{nothing_known};
 ghost use Rattle.env_cells.specs.Refusals.{HasRoomForTables};
 ghost use Rattle.env_cells.specs.declared.updates.Update.TheVariants.{Tables as TablesOf};
 ghost use Rattle.policy_lang.specs.PolicyTree.{policy_tree};
-ghost use Rattle.priority_plan.specs.Rules.{level_limit, levels_of};
+ghost use Rattle.priority_plan.specs.Rules.{level_limit, levels_of, rules_of};
 ghost use Rattle.plain_world.specs.Now.{Now as NowData, this_switch, opening, plugged_in, ports_behind, entry_of, is_individual, begins_here, teaches_in};
-ghost use Rattle.plain_world.specs.Report.{change, frame, packet, teaching, answer, renewed, text_of};
-ghost use Rattle.plain_world.specs.Knowing.{AreBounds, Does, Knows};
+ghost use Rattle.plain_world.specs.Report.{change, frame, packet, teaching, answer, renewed, rule_line, text_of};
+ghost use Rattle.plain_world.specs.Knowing.{AreBounds, Does, Knows, Lists};
 ghost use Rattle.plain_world.specs.Bounding.{bounds_of};
-ghost use Rattle.plain_world.specs.Settling.{Settles, StateLaws, IsNext, Learns, DoesUnknown, DoesMissed};
+ghost use Rattle.plain_world.specs.Settling.{Fits, Settles, StateLaws, IsNext, Learns, judged, DoesUnknown, DoesMissed};
 
 use crate::Settings;
-use crate::choosing::{Choice, choose};
 use env_cells::{Update, UpdateError};
+use flow_table::{Applied, Table};
 use maple_base::{
-    Cell, EnvNow, Key, Names, NoMemory, Outcome, Place, Port, Ports, RuleList, Value, is_port,
+    Actions, CONTROLLER_PORT, Cell, EnvNow, Key, Names, NoMemory, Outcome, Place, Port, Ports,
+    Rule, TableMod, Value, is_port,
 };
+use of10_codec::in_order;
 use packet_key::{Malformed, key_of};
 use policy_lang::Policy;
 use priority_plan::{levels, plan_law, rules_needed};
 use question_tree::laws::tree_laws;
 use report_text::{Learnt, Line, write_line};
-use rule_builder::{choice_law, rules};
+use rule_builder::{choice_law, rules, rules_law};
 use std::alloc::Global;
 use topo_paths::Scene;
 use trace_record::{NowView, Run, record};
@@ -46,8 +52,8 @@ const DEVICE: u32 = 1;
 
 const SWITCH: u64 = 1;
 
-/// The policy in force, the environment, the tree of the living traces, and the rules of the switch,
-/// which are the tree's.
+/// The policy in force, the environment, the tree of the living traces, and the flow table of the
+/// switch, whose rules are the tree's.
 #[derive(Drop)]
 pub struct World {
     policy: Policy,
@@ -55,7 +61,7 @@ pub struct World {
     state: u64,
     learned: u64,
     tree: Tree,
-    rules: RuleList,
+    table: Table,
 }
 
 impl World {
@@ -73,7 +79,7 @@ impl World {
             state: 0,
             learned: 0,
             tree: Tree::new(alloc),
-            rules: no_rules(alloc),
+            table: Table::new(alloc, settings.capacity),
         })
     }
 
@@ -139,21 +145,21 @@ impl World {
         self.policy = policy;
         self.state = state;
         self.tree = Tree::new(alloc);
-        self.rules = no_rules(alloc);
+        let _deleted = self.table.apply(&TableMod::DeleteAll);
         write_line(&Line::State { state, pruned }, text)
     }
 
     // Ends the traces that the scene has made stale, and writes the line of the next state.
     fn settle(&mut self, alloc: Global, text: &mut Vec<u8>) -> Result<(), NoMemory>
-        requires levels { levels_of self.old.tree ≤ level_limit }
+        requires fits { Fits self.old.tree self.old.table.capacity }
         ensures { OnOk result (Settles self.old self.new text.old.items text.new.items) }
     {
         let Some(state) = self.state.checked_add(1) else {
             return Err(NoMemory);
         };
-        plan_law();
+        state_laws();
         let pruned = prune(&mut self.tree, &self.scene);
-        self.rules = rules(alloc, &self.tree)?;
+        install(alloc, &mut self.table, &self.tree)?;
         self.state = state;
         write_line(&Line::State { state, pruned }, text)
     }
@@ -190,20 +196,22 @@ impl World {
         ensures { Does (bounds_of settings) (λ now. packet (bounds_of settings) now key.now) self.old self.new text.old.items text.new.items result }
     {
         choice_law();
+        rules_law();
+        let actions = match self.table.choose(key) {
+            None => return self.miss(alloc, settings, key, 0, text),
+            Some(rule) => rule.actions,
+        };
+        if is_barrier(&actions) {
+            return self.miss(alloc, settings, key, 1, text);
+        }
         let device = DEVICE;
         let port = key.in_port;
-        match choose(&self.rules, key) {
-            Choice::Fact(actions) => write_line(
-                &Line::Hit {
-                    device,
-                    port,
-                    actions,
-                },
-                text,
-            ),
-            Choice::Barrier => self.miss(alloc, settings, key, 1, text),
-            Choice::Unfit => self.miss(alloc, settings, key, 0, text),
-        }
+        let hit = Line::Hit {
+            device,
+            port,
+            actions,
+        };
+        write_line(&hit, text)
     }
 
     // Writes the lines of a packet that goes to the controller for this reason.
@@ -308,6 +316,39 @@ impl World {
         write_line(&line, text)
     }
 
+    /// Writes the rules of a switch in their order, each as a line, and then their number. Only the
+    /// switch of this world has any.
+    pub fn list(
+        &self,
+        alloc: Global,
+        settings: Settings,
+        switch: u64,
+        text: &mut Vec<u8>,
+    ) -> Result<(), NoMemory>
+        requires known { (now : NowData) × Knows (bounds_of settings) now self.now }
+        ensures { Lists (bounds_of settings) switch self.now text.old.items text.new.items result }
+    {
+        let _ = settings;
+        let list = in_order(self.rules_at(alloc, switch)?)?;
+        for rule in &list {
+            write_line(&rule_line(switch, rule), text)?;
+        }
+        let count = list.len() as u32;
+        write_line(&Line::Rules { switch, count }, text)
+    }
+
+    // The rules of a switch, in any order.
+    fn rules_at(&self, alloc: Global, switch: u64) -> Result<Vec<Rule>, NoMemory>
+        requires levels { levels_of self.now.tree ≤ level_limit }
+        ensures { IfOk result (λ list. IsPermutation (if switch == this_switch then rules_of self.now.tree else []) list.items) }
+    {
+        if switch == SWITCH {
+            all_rules(alloc, &self.tree)
+        } else {
+            Ok(Vec::new(alloc))
+        }
+    }
+
     // The policy's run on a packet, in the state now.
     fn run(
         &self,
@@ -348,22 +389,38 @@ impl World {
         let Ok(()) = self.tree.augment(trace) else {
             return Err(NoMemory);
         };
-        let need = levels(&self.tree);
-        if need > settings.levels as u64 {
+        let learnt = judged(settings, levels(&self.tree), rules_needed(&self.tree));
+        let Learnt::Learned = learnt else {
             self.tree.retire(number);
-            let limit = settings.levels;
-            return Ok(Learnt::Levels { need, limit });
-        }
-        let need = rules_needed(&self.tree);
-        if need > settings.capacity as u64 {
-            self.tree.retire(number);
-            let capacity = settings.capacity;
-            return Ok(Learnt::Rows { need, capacity });
-        }
-        self.rules = rules(alloc, &self.tree)?;
+            return Ok(learnt);
+        };
+        install(alloc, &mut self.table, &self.tree)?;
         self.learned = number;
-        Ok(Learnt::Learned)
+        Ok(learnt)
     }
+}
+
+// What becomes of a trace whose tree has so many levels and so many rules.
+fn judged(settings: Settings, levels: u64, rules: u64) -> Learnt
+    ensures said { result ≡ judged (bounds_of settings) levels rules }
+    ensures few { result ≡ Learned → levels ≤ settings.levels }
+    ensures room { result ≡ Learned → rules ≤ settings.capacity }
+{
+    if levels > settings.levels as u64 {
+        let limit = settings.levels;
+        return Learnt::Levels {
+            need: levels,
+            limit,
+        };
+    }
+    if rules > settings.capacity as u64 {
+        let capacity = settings.capacity;
+        return Learnt::Rows {
+            need: rules,
+            capacity,
+        };
+    }
+    Learnt::Learned
 }
 
 // The tables that the policy names are there and no others; those that were there keep their numbers.
@@ -377,11 +434,60 @@ fn declare_tables(alloc: Global, scene: &mut Scene, policy: &Policy) -> Result<(
     Ok(())
 }
 
-fn no_rules(alloc: Global) -> RuleList
-    ensures facts { result.facts ≡ [] }
-    ensures barriers { result.barriers ≡ [] }
+// Puts the rules of a tree into a table, in the place of its own.
+fn install(alloc: Global, table: &mut Table, tree: &Tree) -> Result<(), NoMemory>
+    requires fits { Fits tree.now table.old.capacity }
+    ensures rules { OnOk result (IsPermutation (rules_of tree.now) table.new.rules) }
+    ensures capacity { table.new.capacity ≡ table.old.capacity }
 {
-    RuleList::new(Vec::new(alloc), Vec::new(alloc))
+    rules_law();
+    refill(table, &all_rules(alloc, tree)?)
+}
+
+// The rules of a tree, in any order.
+fn all_rules(alloc: Global, tree: &Tree) -> Result<Vec<Rule>, NoMemory>
+    requires levels { levels_of tree.now ≤ level_limit }
+    ensures { IfOk result (λ list. IsPermutation (rules_of tree.now) list.items) }
+{
+    let rules = rules(alloc, tree)?;
+    let mut list = Vec::from_slice(alloc, rules.facts())?;
+    list.extend_from_slice(rules.barriers())?;
+    Ok(list)
+}
+
+// Puts rules that differ from each other into a table that has room for them, in the place of its own.
+fn refill(table: &mut Table, rules: &[Rule]) -> Result<(), NoMemory>
+    requires distinct { AllPairs Differ rules.now }
+    requires room { length rules.now ≤ table.old.capacity }
+    ensures rules { OnOk result (IsPermutation rules.now table.new.rules) }
+    ensures capacity { table.new.capacity ≡ table.old.capacity }
+{
+    let _deleted = table.apply(&TableMod::DeleteAll);
+    for rule in rules {
+        if let Applied::NoMemory = table.apply(&TableMod::Add(*rule)) {
+            return Err(NoMemory);
+        }
+    }
+    Ok(())
+}
+
+// The line of a rule.
+fn rule_line(switch: u64, rule: &Rule) -> Line
+    ensures { result ≡ rule_line switch rule.now }
+{
+    Line::Rule {
+        switch,
+        priority: rule.priority,
+        actions: rule.actions,
+        of: rule.of,
+    }
+}
+
+// Whether a rule with these actions sends to the controller alone.
+fn is_barrier(actions: &Actions) -> bool
+    ensures { (result ≡ true) ↔ (actions.now ≡ controller_port ∷ []) }
+{
+    actions.items() == [CONTROLLER_PORT].as_slice()
 }
 
 // The place at which a packet came in.

@@ -1,5 +1,3 @@
-use Rattle.std.proofs.Common.{◌++◌, [], sym, ap, ◌∙◌, append_assoc}
-use Rattle.std.proofs.lemmas.List.{append-nil}
 use Rattle.packet_key.specs.Frames.{fault_number}
 use Rattle.trace_tree.proofs.Puts.{OnOk_map}
 use Rattle.plain_world.proofs.Turns.{two_lines}

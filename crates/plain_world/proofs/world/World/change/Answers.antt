@@ -1,12 +1,11 @@
-use Rattle.std.proofs.Common.{refl, sym, ap, ◌∙◌, subst, arith}
-use Rattle.env_cells.specs.Changes.{applied}
+use Rattle.std.proofs.Common.{refl}
 use Rattle.trace_tree.proofs.Puts.{OnOk_map}
 use Rattle.plain_world.specs.Bounding.{bounds_of}
-use Rattle.plain_world.proofs.Living.{settled, few_levels_now}
+use Rattle.plain_world.proofs.Living.{settled, fits_now}
 use Rattle.plain_world.proofs.world.World.change.Goals as goal
 
 pub settle-requires : goal.settle-requires
-settle-requires c = record { levels = few_levels_now (bounds_of c.args.settings) c.requires.known.0 c.args.self.now c.requires.known.1 }
+settle-requires c = record { fits = fits_now (bounds_of c.args.settings) c.requires.known.0 c.args.self.now c.requires.known.1 }
 
 pub returns-in-Ok : goal.returns-in-Ok
 returns-in-Ok c = λ now knows.

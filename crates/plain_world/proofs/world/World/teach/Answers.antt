@@ -1,8 +1,11 @@
 use Rattle.std.proofs.Common.{refl, sym, ◌∙◌}
 use Rattle.trace_tree.proofs.Puts.{OnOk_map}
 use Rattle.plain_world.specs.Bounding.{bounds_of}
-use Rattle.plain_world.proofs.Living.{taught_turn}
+use Rattle.plain_world.proofs.Living.{taught_turn, fits_now}
 use Rattle.plain_world.proofs.world.World.teach.Goals as goal
+
+pub settle-requires : goal.settle-requires
+settle-requires c = record { fits = fits_now (bounds_of c.args.settings) c.requires.known.0 c.args.self.now c.requires.known.1 }
 
 pub returns-in-Ok : goal.returns-in-Ok
 returns-in-Ok c = λ now knows.
