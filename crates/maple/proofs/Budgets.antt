@@ -7,7 +7,7 @@ use Rattle.std.proofs.lemmas.Bool.{cases_Bool}
 use Rattle.std.proofs.lemmas.Bool.Decides.{nat_tests}
 use Rattle.maple_text.specs.Numbers.{number_of}
 use Rattle.maple.specs.declared.words.Command.{Command}
-use Rattle.maple.specs.declared.words.Command.TheVariants.{Sim, Check}
+use Rattle.maple.specs.declared.words.Command.TheVariants.{Sim}
 use Rattle.maple.specs.declared.words.Setting.{Setting}
 use Rattle.maple.specs.declared.words.Setting.TheVariants.{Budget, Capacity, Levels}
 use Rattle.maple.specs.declared.words.Chosen.{Chosen}

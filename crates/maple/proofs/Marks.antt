@@ -1,11 +1,10 @@
 -- The parts of an input, a line further.
 use Rattle.std.proofs.Common.{◌≡◌, ℕ, ◌+◌, ◌≤◌, false, cond, List, [], ◌∷◌, ◌++◌, length, take, drop, refl, sym, ap, ◌∙◌, arith, append_assoc, length-append, length-drop}
-use Rattle.std.specs.Prelude.{map}
 use Rattle.std.specs.List.{concat}
 use Rattle.std.proofs.Math.Seq.{take-add}
 use Rattle.std.proofs.lemmas.List.{drop-drop}
 use Rattle.std.proofs.lemmas.List.{drop_at, take_at}
-use Rattle.maple.specs.Lines.{ended_lines, without_end, is_mark, ahead_of_mark, behind_mark}
+use Rattle.maple.specs.Lines.{ended_lines, is_mark, ahead_of_mark, behind_mark, lines_to_mark}
 
 module _ (input line rest : List ℕ) (at : ℕ) (within : at ≤ length input) (parts : drop at input ≡ line ++ rest) where
   pub further : at + length line ≤ length input
@@ -26,8 +25,15 @@ module _ (input line rest : List ℕ) (at : ℕ) (within : at ≤ length input) 
         ∙ ap (λ l. l ++ concat (ahead_of_mark (ended_lines rest))) (sym taken_is)
         ∙ ap (λ r. take (at + length line) input ++ concat (ahead_of_mark (ended_lines r))) rest_is
 
-    pub behind_is : (ls : List (List ℕ)) → ls ≡ map without_end (behind_mark (ended_lines (drop at input))) → ls ≡ map without_end (behind_mark (ended_lines (drop (at + length line) input)))
+    pub behind_is : (ls : List (List ℕ)) → ls ≡ behind_mark (ended_lines (drop at input)) → ls ≡ behind_mark (ended_lines (drop (at + length line) input))
     behind_is ls e =
         let one : behind_mark (ended_lines (drop at input)) ≡ behind_mark (ended_lines rest) =
         ap behind_mark lines ∙ ap (λ b. cond b (ended_lines rest) (behind_mark (ended_lines rest))) plain in
-        e ∙ ap (map without_end) one ∙ ap (λ r. map without_end (behind_mark (ended_lines r))) rest_is
+        e ∙ one ∙ ap (λ r. behind_mark (ended_lines r)) rest_is
+
+    pub passed_is : (n m : ℕ) → n ≡ m + lines_to_mark (ended_lines (drop at input)) → n ≡ m + 1 + lines_to_mark (ended_lines (drop (at + length line) input))
+    passed_is n m e =
+        let one : lines_to_mark (ended_lines (drop at input)) ≡ 1 + lines_to_mark (ended_lines rest) =
+        ap lines_to_mark lines ∙ ap (λ b. cond b 1 (1 + lines_to_mark (ended_lines rest))) plain in
+        let two = ap (λ r. lines_to_mark (ended_lines r)) rest_is in
+        omega (arith, e, one, two)

@@ -6,28 +6,29 @@ use Rattle.policy_lang.specs.declared.Policy.{Policy}
 use Rattle.report_text.specs.declared.line.ScriptRefusal.{ScriptRefusal}
 use Rattle.maple.specs.declared.status.Status.{Status}
 use Rattle.maple.specs.declared.status.Status.TheVariants.{Done, Usage, Policy as PolicyRefused, Script, ReadFault, WriteFault, NoMemory, TooLong}
-use Rattle.report_text.specs.declared.line.Line.{Line}
 use Rattle.report_text.specs.Report.{spelled}
 use Rattle.maple.specs.declared.words.Command.{Command}
-use Rattle.maple.specs.Lines.{policy_part}
-use Rattle.maple.specs.Refusals.{IsRefusal}
-use Rattle.maple.specs.Words.{command_of}
-use Rattle.maple.specs.Due.{HasCommand, AreWords, most_bytes, IsFit, HasPolicy, HasNone, IsScript, IsNoScript, IsDue, IsOrFails, IsText, Reports, Refuses, WritesSome, BeginsReport, refused, report_text}
-use Rattle.maple.specs.Ends.{Ends, IsGiven, WroteFront}
+use Rattle.maple.specs.Due.{HasCommand, AreWords, most_bytes, IsFit, HasPolicy, HasNone, IsScript, IsNoScript, IsDue, IsOrFails, IsText, Reports, Refuses, WritesSome, BeginsReport, refused, IsReportOf, IsReportBegun}
+use Rattle.maple.specs.Ends.{Ends, EndsTelling, IsGiven, WroteFront, WroteSomeFront}
 use Rattle.maple.specs.Running.{due_of}
 use Rattle.maple.specs.Statuses.{last_line}
-use Rattle.maple.proofs.Endings.{ends_front}
+use Rattle.maple.proofs.Endings.{ends_front, tells_of}
 use Rattle.maple.specs.Runs.{IsRunOf, RunsText, refused_words, failed_read, read_too_long, lacked_memory, ran}
 
+-- an end with a status of its own is due, and what it wrote is told
+given_tells : (old new : SinkView) (due : Status) (Told Begun : List ℕ → Type 0) (s : Status) → IsGiven s → EndsTelling old new due Told Begun s → (s ≡ due) × (text : List ℕ) × Told text × Wrote old new text
+given_tells old new due Told Begun Done h e = e
+given_tells old new due Told Begun Usage h e = e
+given_tells old new due Told Begun PolicyRefused h e = e
+given_tells old new due Told Begun Script h e = e
+given_tells old new due Told Begun ReadFault h e = e
+given_tells old new due Told Begun WriteFault h e = absurd h
+given_tells old new due Told Begun NoMemory h e = absurd h
+given_tells old new due Told Begun TooLong h e = e
+
 given_is : (old new : SinkView) (due : Status) (text : List ℕ) (s : Status) → IsGiven s → Ends old new due text s → (s ≡ due) × Wrote old new text
-given_is old new due text Done h e = e
-given_is old new due text Usage h e = e
-given_is old new due text PolicyRefused h e = e
-given_is old new due text Script h e = e
-given_is old new due text ReadFault h e = e
-given_is old new due text WriteFault h e = absurd h
-given_is old new due text NoMemory h e = absurd h
-given_is old new due text TooLong h e = e
+given_is old new due text s h e =
+    let (is, t, same, a) = given_tells old new due (λ t. t ≡ text) (λ t. t ≡ text) s h (tells_of old new due text s e) in (is, subst (Wrote old new) same a)
 
 -- what a run of a text that ended with its own status is due and wrote
 abbrev pub RanAs : List (List ℕ) → Command → SinkView → SinkView → List ℕ → Status → Type 0
@@ -38,14 +39,12 @@ RanAs words command old new input s = ⊥
 
 pub ran_as : (words : List (List ℕ)) (command : Command) → HasCommand command words → (old new : SinkView) (input : List ℕ) (s : Status) → IsGiven s → RunsText old new command input s → RanAs words command old new input s
 ran_as words command w old new input s h (inl (policy, has, e)) =
-    let g = given_is old new (due_of (refused command input)) (report_text policy command input) s h e in ran_by (refused command input) refl g.0 g.1
+    let (due, text, told, a) = given_tells old new (due_of (refused command input)) (IsReportOf policy command input) (IsReportBegun policy command input) s h e in
+    ran_by (refused command input) refl due (text, (command, w, policy, has, told), a)
   where
-    reports : Wrote old new (report_text policy command input) → Reports words old new input
-    reports a = (report_text policy command input, (command, w, policy, has, refl), a)
-
-    ran_by : (o : Option (ℕ × ScriptRefusal)) → refused command input ≡ o → s ≡ due_of o → Wrote old new (report_text policy command input) → RanAs words command old new input s
-    ran_by None is d a = subst (RanAs words command old new input) (sym d) ((policy, has), reports a, is)
-    ran_by (Some r) is d a = subst (RanAs words command old new input) (sym d) ((policy, has), reports a, (r, is))
+    ran_by : (o : Option (ℕ × ScriptRefusal)) → refused command input ≡ o → s ≡ due_of o → Reports words old new input → RanAs words command old new input s
+    ran_by None is d r = subst (RanAs words command old new input) (sym d) ((policy, has), r, is)
+    ran_by (Some f) is d r = subst (RanAs words command old new input) (sym d) ((policy, has), r, (f, is))
 ran_as words command w old new input s h (inr (inl (n, l, is, e))) =
     let g = given_is old new PolicyRefused (spelled l) s h e in subst (RanAs words command old new input) (sym g.0) (n, (spelled l, (command, w, l, is, refl), g.1))
 ran_as words command w old new input s h (inr (inr (e, a))) = absurd (subst IsGiven e h)
@@ -179,32 +178,32 @@ module _ (before after : SourceView) (old new : SinkView) (words : List (List �
   exact result h = if_told before.left _ (exact_for result h)
 
   in_front : (bytes : List ℕ) (status : Status) (text : List ℕ) → IsText (ReadFailed before after) status words bytes text → WroteFront old new text → WritesSome (ReadFailed before after) words bytes old new
-  in_front bytes status text t (front, is, a) = (front, (status, text, t, is), a)
+  in_front bytes status text t (front, is, a) = (front, inl (status, text, t, is), a)
 
-  report_written : (bytes : List ℕ) (policy : Policy) (command : Command) → HasCommand command words → IsFit bytes → HasPolicy policy bytes
-      → (o : Option (ℕ × ScriptRefusal)) → refused command bytes ≡ o → IsText (ReadFailed before after) (due_of o) words bytes (report_text policy command bytes)
-  report_written bytes policy command w f h None e = ((f, command, w, (policy, h), e), (command, w, policy, h, refl))
-  report_written bytes policy command w f h (Some r) e = ((f, command, w, (policy, h), (r, e)), (command, w, policy, h, refl))
+  begun_front : (bytes : List ℕ) (policy : Policy) (command : Command) → HasCommand command words → IsFit bytes → HasPolicy policy bytes → WroteSomeFront old new (IsReportBegun policy command bytes)
+      → WritesSome (ReadFailed before after) words bytes old new
+  begun_front bytes policy command w fit has (text, begun, (front, is, a)) = (front, inr (text, fit, (command, w, policy, has, begun), is), a)
 
-  front_of : (s : Status) → ((due : Status) (text : List ℕ) → Ends old new due text s → WroteFront old new text) → Run s → (bytes : List ℕ) → before.left ≡ Some bytes → WritesSome (ReadFailed before after) words bytes old new
-  front_of s f (refused_words n e) bytes is = in_front bytes Usage (last_line Usage) (n, refl) (f Usage (last_line Usage) e)
-  front_of s f (failed_read w u e) bytes is = in_front bytes ReadFault (last_line ReadFault) (w, u, refl) (f ReadFault (last_line ReadFault) e)
-  front_of s f (read_too_long w h e) bytes is =
+  front_of : (s : Status) → ((due : Status) (text : List ℕ) → Ends old new due text s → WroteFront old new text)
+      → ((due : Status) (Told Begun : List ℕ → Type 0) → EndsTelling old new due Told Begun s → WroteSomeFront old new Begun)
+      → Run s → (bytes : List ℕ) → before.left ≡ Some bytes → WritesSome (ReadFailed before after) words bytes old new
+  front_of s f g (refused_words n e) bytes is = in_front bytes Usage (last_line Usage) (n, refl) (f Usage (last_line Usage) e)
+  front_of s f g (failed_read w u e) bytes is = in_front bytes ReadFault (last_line ReadFault) (w, u, refl) (f ReadFault (last_line ReadFault) e)
+  front_of s f g (read_too_long w h e) bytes is =
       in_front bytes TooLong (last_line TooLong) ((w, told before.left (λ b. most_bytes < length b) bytes is h), refl) (f TooLong (last_line TooLong) e)
-  front_of s f (lacked_memory w e a) bytes is = in_front bytes NoMemory [] refl ([], ([], refl), a)
-  front_of s f (ran command w input fit same end text) bytes is =
+  front_of s f g (lacked_memory w e a) bytes is = in_front bytes NoMemory [] refl ([], ([], refl), a)
+  front_of s f g (ran command w input fit same end text) bytes is =
       let e : input ≡ bytes = told before.left (λ b. input ≡ b) bytes is same in
       run_front bytes (subst IsFit e fit) (subst (λ x. RunsText old new command x s) e text)
     where
       run_front : (bytes : List ℕ) → IsFit bytes → RunsText old new command bytes s → WritesSome (ReadFailed before after) words bytes old new
       run_front bytes fit (inl (policy, has, e)) =
-          in_front bytes (due_of (refused command bytes)) (report_text policy command bytes) (report_written bytes policy command w fit has (refused command bytes) refl)
-          (f (due_of (refused command bytes)) (report_text policy command bytes) e)
+          begun_front bytes policy command w fit has (g (due_of (refused command bytes)) (IsReportOf policy command bytes) (IsReportBegun policy command bytes) e)
       run_front bytes fit (inr (inl (n, l, is, e))) = in_front bytes PolicyRefused (spelled l) ((fit, command, w, n), (command, w, l, is, refl)) (f PolicyRefused (spelled l) e)
       run_front bytes fit (inr (inr (e, a))) = in_front bytes NoMemory [] refl ([], ([], refl), a)
 
   pub fault_front : Run WriteFault → BeginsReport words before after old new
-  fault_front h = if_told before.left _ (front_of WriteFault (λ due text e. e.1) h)
+  fault_front h = if_told before.left _ (front_of WriteFault (λ due text e. e.1) (λ due told begun e. e.1) h)
 
   pub memory_front : Run NoMemory → BeginsReport words before after old new
-  memory_front h = if_told before.left _ (front_of NoMemory (λ due text e. e) h)
+  memory_front h = if_told before.left _ (front_of NoMemory (λ due text e. e) (λ due told begun e. e) h)

@@ -1,5 +1,5 @@
 -- Which status a run of the program is due, and what it writes.
-use Rattle.std.specs.Prelude.{◌≡◌, ◌⊎◌, ℕ, ◌<◌, ◌≤◌, true, List, [], length, Option, Some, None, IfSome}
+use Rattle.std.specs.Prelude.{◌≡◌, ◌⊎◌, ℕ, ◌<◌, ◌≤◌, List, [], length, Option, Some, None, IfSome}
 use Rattle.maple_io.specs.Views.{SourceView, SinkView, ReadFailed, NoReadFailed, Gave, Wrote}
 use Rattle.policy_lang.specs.declared.Policy.{Policy}
 use Rattle.policy_lang.specs.PolicyTree.{policy_tree}
@@ -17,7 +17,7 @@ use Rattle.report_text.specs.declared.line.Line.{Line}
 use Rattle.report_text.specs.declared.line.ScriptRefusal.{ScriptRefusal}
 use Rattle.report_text.specs.Report.{spelled}
 use Rattle.maple.specs.Refusals.{IsRefusal}
-use Rattle.maple.specs.Running.{told_of_run}
+use Rattle.maple.specs.Running.{IsToldOfRun, IsBegunOfRun}
 use Rattle.maple.specs.Statuses.{last_line}
 use Rattle.maple.specs.Steps.{refused_from}
 use Rattle.maple.specs.Words.{command_of}
@@ -68,9 +68,14 @@ abbrev pub IsNoScript : Command → List ℕ → Type 0
 IsNoScript command input = (r : ℕ × ScriptRefusal) × (refused command input ≡ Some r)
 
 -- what a command writes of a policy. `sim`: the report of the script ahead of its first refused line, within these settings, and the last line, that of the refusal or of a run that is done. `check`: the policy's printed form
-abbrev pub report_text : Policy → Command → List ℕ → List ℕ
-report_text policy (Sim settings) input = told_of_run (policy_tree policy) (bounds_of settings) (first_number input) (script_lines input)
-report_text policy Check input = policy_text policy
+abbrev pub IsReportOf : Policy → Command → List ℕ → List ℕ → Type 0
+IsReportOf policy (Sim settings) input text = IsToldOfRun (policy_tree policy) (bounds_of settings) (first_number input) (script_lines input) text
+IsReportOf policy Check input text = text ≡ policy_text policy
+
+-- what it writes of a policy as far as it came: of `sim` the report of the first steps of the script
+abbrev pub IsReportBegun : Policy → Command → List ℕ → List ℕ → Type 0
+IsReportBegun policy (Sim settings) input text = IsBegunOfRun (policy_tree policy) (bounds_of settings) (first_number input) (script_lines input) text
+IsReportBegun policy Check input text = text ≡ policy_text policy
 
 -- the status that these words and this input are due where no device fails and memory is left: words first, then length, policy and script
 abbrev pub IsDue : Status → List (List ℕ) → List ℕ → Type 0
@@ -93,7 +98,7 @@ IsOrUnwritten status result = (result ≡ status) ⊎ ((result ≡ WriteFault) �
 
 -- the text is what the words' command writes of the input's policy
 abbrev pub IsReport : List (List ℕ) → List ℕ → List ℕ → Type 0
-IsReport words input text = (command : Command) × HasCommand command words × (policy : Policy) × HasPolicy policy input × (text ≡ report_text policy command input)
+IsReport words input text = (command : Command) × HasCommand command words × (policy : Policy) × HasPolicy policy input × IsReportOf policy command input text
 
 -- the text is the line by which the words' command refuses the input's policy
 abbrev pub IsRefusalText : List (List ℕ) → List ℕ → List ℕ → Type 0
@@ -110,9 +115,15 @@ IsText unread ReadFault words input text = AreWords words × unread × (text ≡
 IsText unread WriteFault words input text = text ≡ []
 IsText unread NoMemory words input text = text ≡ []
 
--- a front of what some run on this input writes
+-- the text is what the words' command writes of the input's policy as far as it came
+abbrev pub IsBegunText : List (List ℕ) → List ℕ → List ℕ → Type 0
+IsBegunText words input text = (command : Command) × HasCommand command words × (policy : Policy) × HasPolicy policy input × IsReportBegun policy command input text
+
+-- a front of what some run on this input writes, whole or as far as it came
 abbrev pub IsFrontOfText : Type 0 → List (List ℕ) → List ℕ → List ℕ → Type 0
-IsFrontOfText unread words input front = (status : Status) × (text : List ℕ) × IsText unread status words input text × IsFront front text
+IsFrontOfText unread words input front =
+    ((status : Status) × (text : List ℕ) × IsText unread status words input text × IsFront front text)
+    ⊎ ((text : List ℕ) × IsFit input × IsBegunText words input text × IsFront front text)
 
 -- what the command writes of the input's policy was written
 abbrev pub Reports : List (List ℕ) → SinkView → SinkView → List ℕ → Type 0

@@ -15,6 +15,16 @@ Ends old new due text WriteFault = WriteFailed old new × WroteFront old new tex
 Ends old new due text NoMemory = WroteFront old new text
 Ends old new due text result = (result ≡ due) × Wrote old new text
 
+-- a front was written of some text of this kind
+abbrev pub WroteSomeFront : SinkView → SinkView → (List ℕ → Type 0) → Type 0
+WroteSomeFront old new Begun = (text : List ℕ) × Begun text × WroteFront old new text
+
+-- it ends with the status that is due, having written some text of the first kind, or else with a fault of the sink or for want of memory, having written a front of one of the second
+abbrev pub EndsTelling : SinkView → SinkView → Status → (List ℕ → Type 0) → (List ℕ → Type 0) → Status → Type 0
+EndsTelling old new due Told Begun WriteFault = WriteFailed old new × WroteSomeFront old new Begun
+EndsTelling old new due Told Begun NoMemory = WroteSomeFront old new Begun
+EndsTelling old new due Told Begun result = (result ≡ due) × (text : List ℕ) × Told text × Wrote old new text
+
 -- a status that a run gives itself, no fault of the sink and no want of memory
 abbrev pub IsGiven : Status → Type 0
 IsGiven WriteFault = ⊥

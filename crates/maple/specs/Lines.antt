@@ -1,5 +1,5 @@
 -- The lines of a text, and the two parts of an input.
-use Rattle.std.specs.Prelude.{ℕ, ◌+◌, Bool, ◌==◌, if◌then◌else◌, map, List, [], ◌∷◌, length, codes}
+use Rattle.std.specs.Prelude.{ℕ, ◌+◌, Bool, ◌==◌, if◌then◌else◌, List, [], ◌∷◌, codes}
 use Rattle.std.specs.List.{concat}
 use Rattle.std.specs.Str.{bytes_eq}
 
@@ -16,10 +16,6 @@ ended_lines (b ∷ bs) = if b == 10 then (b ∷ []) ∷ ended_lines bs else onto
 abbrev pub without_end : List ℕ → List ℕ
 without_end [] = []
 without_end (b ∷ bs) = if b == 10 then [] else b ∷ without_end bs
-
--- the lines of a text: no line stands behind the last line feed
-abbrev pub lines_of : List ℕ → List (List ℕ)
-lines_of text = map without_end (ended_lines text)
 
 -- how many bytes the first line of a text has, with its line feed
 abbrev pub line_len : List ℕ → ℕ
@@ -46,8 +42,13 @@ policy_part input = concat (ahead_of_mark (ended_lines input))
 
 -- the lines of the script: those behind that line
 abbrev pub script_lines : List ℕ → List (List ℕ)
-script_lines input = map without_end (behind_mark (ended_lines input))
+script_lines input = behind_mark (ended_lines input)
 
--- the number of the first of these among the lines of the input, from 1 on: the policy's lines and that line come first
+-- how many lines come ahead of what is behind the first mark: the mark is one of them
+abbrev pub lines_to_mark : List (List ℕ) → ℕ
+lines_to_mark [] = 0
+lines_to_mark (l ∷ ls) = if is_mark l then 1 else 1 + lines_to_mark ls
+
+-- the number of the first of these among the lines of the input, from 1 on
 abbrev pub first_number : List ℕ → ℕ
-first_number input = length (ended_lines (policy_part input)) + 2
+first_number input = lines_to_mark (ended_lines input) + 1

@@ -1,4 +1,4 @@
--- Why the policy of an input is refused, as the report tells it.
+-- Why the text of a policy is refused, as the report tells it: that of an input, or a new one.
 use Rattle.std.specs.Prelude.{◌≡◌, ℕ, List}
 use Rattle.maple_base.specs.declared.policy_fault.PolicyFault.{PolicyFault}
 use Rattle.maple_base.specs.PolicyFaults.{number_of}

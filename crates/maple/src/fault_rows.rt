@@ -99,6 +99,22 @@ const FAULTS: &[Fault] = &[
         status: WRITE_FAULT,
     },
     Fault {
+        words: &["sim"],
+        input: RENEWED,
+        reads: &[],
+        writes: &[2],
+        output: "state 1 pruned 0\n",
+        status: WRITE_FAULT,
+    },
+    Fault {
+        words: &["sim"],
+        input: RENEWED,
+        reads: &[],
+        writes: &[3],
+        output: "state 1 pruned 0\nstate 2 pruned 0\n",
+        status: WRITE_FAULT,
+    },
+    Fault {
         words: &["check"],
         input: "policy { drop; }",
         reads: &[],
@@ -107,5 +123,8 @@ const FAULTS: &[Fault] = &[
         status: WRITE_FAULT,
     },
 ];
+
+const RENEWED: &str =
+    "policy { out 2; }\n%%\nnewpolicy\npolicy { out 3; }\n%%\nnewpolicy\npolicy { out x; }\n";
 
 const HIT: &str = "policy { out 2; }\n%%\npacket 1 1\npacket 1 1\n";

@@ -1,22 +1,26 @@
 // The lines of a text, and the two parts of an input.
-ghost use Rattle.std.specs.Prelude.{◌≡◌, ◌+◌, ◌<◌, ◌≤◌, ◌∷◌, ◌++◌, length, map};
-ghost use Rattle.maple.specs.Lines.{ended_lines, without_end, is_mark, policy_part, script_lines, line_len};
+ghost use Rattle.std.specs.Prelude.{◌≡◌, ◌+◌, ◌<◌, ◌≤◌, ◌∷◌, ◌++◌, length};
+ghost use Rattle.maple.specs.Lines.{ended_lines, without_end, is_mark, policy_part, script_lines, lines_to_mark, line_len};
 
-/// The text of the policy, ahead of the first line that is `%%`, and what is behind that line.
-pub fn split_input(input: &[u8]) -> (&[u8], &[u8])
+/// The text of the policy, ahead of the first line that is `%%`, what is behind that line, and how
+/// many lines are ahead of it.
+pub fn split_input(input: &[u8]) -> (&[u8], &[u8], usize)
     ensures policy { result.0.now ≡ policy_part input.now }
-    ensures script { map without_end (ended_lines result.1.now) ≡ script_lines input.now }
-    ensures within { length result.0.now + length result.1.now ≤ length input.now }
+    ensures script { ended_lines result.1.now ≡ script_lines input.now }
+    ensures lines { result.2 ≡ lines_to_mark (ended_lines input.now) }
+    ensures within { result.2 + length result.1.now ≤ length input.now }
 {
     let mut at = 0;
+    let mut lines = 0;
     while at < input.len() {
         let (line, rest) = cut_line(&input[at..]);
+        lines += 1;
         if is_mark(line) {
-            return (&input[..at], rest);
+            return (&input[..at], rest, lines);
         }
         at += line.len();
     }
-    (input, &[])
+    (input, &[], lines)
 }
 
 /// The first line of a text, with the line feed that ends it, and the rest.
@@ -27,20 +31,6 @@ pub fn cut_line(text: &[u8]) -> (&[u8], &[u8])
     ensures some { 0 < length result.0.now }
 {
     text.split_at(line_len(text))
-}
-
-/// How many lines a text has.
-pub fn line_count(text: &[u8]) -> usize
-    ensures count { result ≡ length (ended_lines text.now) }
-    ensures bound { result ≤ length text.now }
-{
-    let mut count = 0;
-    let mut rest = text;
-    while !rest.is_empty() {
-        rest = cut_line(rest).1;
-        count += 1;
-    }
-    count
 }
 
 /// The line without the line feed that ends it.

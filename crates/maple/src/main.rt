@@ -13,6 +13,8 @@ pub mod lines;
 pub mod output;
 pub mod policies;
 #[cfg(test)]
+mod policy_rows;
+#[cfg(test)]
 mod rows;
 pub mod sim;
 pub mod status;

@@ -217,6 +217,9 @@ const SCRIPT_LINES: &[Row] = &[
     Row::Line("turn 1 0", "Grammar"),
     Row::Line(" # a comment", "Grammar"),
     Row::Line("%%", "Grammar"),
+    Row::Line("newpolicy 1", "Grammar"),
+    Row::Line("rules", "Grammar"),
+    Row::Line("rules 18446744073709551616", "Grammar"),
     Row::Line("packet 2 1", "Switch"),
     Row::Line("packet 0 1", "Switch"),
     Row::Line("frame 65 1 00", "Switch"),
@@ -224,8 +227,6 @@ const SCRIPT_LINES: &[Row] = &[
     Row::Line("unplug 2", "Later"),
     Row::Line("turn 1 1", "Later"),
     Row::Line("settle", "Later"),
-    Row::Line("newpolicy", "Later"),
-    Row::Line("rules 1", "Later"),
     // A line of 8,192 bytes, and one of a byte more.
     Row::Repeated(
         "policy { drop; }\n%%\n#",

@@ -1,20 +1,22 @@
 // A run of a policy and a script.
-ghost use Rattle.std.specs.Prelude.{◌≡◌, ◌≢◌, ◌+◌, ◌<◌, ◌^◌, [], map, length};
+ghost use Rattle.std.specs.Prelude.{◌≡◌, ◌≢◌, ◌+◌, ◌<◌, ◌≤◌, ◌^◌, [], length};
 ghost use Rattle.maple_io.specs.Views.{NoWriteFailed};
 ghost use Rattle.policy_lang.specs.PolicyTree.{policy_tree};
 ghost use Rattle.plain_world.specs.Now.{Now as NowData};
 ghost use Rattle.plain_world.specs.Bounding.{bounds_of};
-ghost use Rattle.plain_world.specs.Knowing.{AreBounds, Does, Knows};
+ghost use Rattle.plain_world.specs.Knowing.{AreBounds, Knows};
 ghost use Rattle.maple.specs.Ends.{Ends};
-ghost use Rattle.maple.specs.Lines.{lines_of};
-ghost use Rattle.maple.specs.Report.{step_turn};
+ghost use Rattle.maple.specs.Lines.{ended_lines};
+ghost use Rattle.maple.specs.Report.{Renews, TakesStep};
 ghost use Rattle.maple.specs.Running.{RunsLines, RunsScript};
+ghost use Rattle.maple.specs.Runs.{DoesSome, LeavesBehind};
 ghost use Rattle.maple.specs.Steps.{HasRoom};
 ghost use Rattle.report_text.specs.Report.{spelled};
 ghost use Rattle.report_text.specs.declared.line.Line.{Line as LineOf};
 
 use crate::finish::{finish, put_text};
-use crate::lines::{cut_line, without_end};
+use crate::lines::{cut_line, split_input, without_end};
+use crate::policies::{PolicyStop, policy_of};
 use crate::status::Status;
 use crate::step::{Step, StepStop, step_of};
 use maple_base::NoMemory;
@@ -36,7 +38,7 @@ pub fn run_script<O: Sink>(
 ) -> Status
     requires ranges { AreBounds (bounds_of settings) }
     requires numbers { first + length script.now < 2 ^ 32 }
-    ensures runs { RunsScript (policy_tree policy) (bounds_of settings) first (lines_of script.now) (O.tells output.old) (O.tells output.new) result }
+    ensures runs { RunsScript (policy_tree policy) (bounds_of settings) first (ended_lines script.now) (O.tells output.old) (O.tells output.new) result }
     ensures spared { result ≢ Status.WriteFault → NoWriteFailed (O.tells output.old) (O.tells output.new) }
 {
     let Ok(mut world) = World::new(alloc, policy, settings) else {
@@ -63,7 +65,7 @@ fn run_lines<O: Sink>(
 ) -> Status
     requires known { (now : NowData) × Knows (bounds_of settings) now world }
     requires numbers { first + length script.now < 2 ^ 32 }
-    ensures runs { RunsLines world (bounds_of settings) first (lines_of script.now) (O.tells output.old) (O.tells output.new) result }
+    ensures runs { RunsLines world (bounds_of settings) first (ended_lines script.now) (O.tells output.old) (O.tells output.new) result }
     ensures spared { result ≢ Status.WriteFault → NoWriteFailed (O.tells output.old) (O.tells output.new) }
 {
     let mut world = world;
@@ -77,36 +79,70 @@ fn run_lines<O: Sink>(
             Err(StepStop::Refused(kind)) => return refuse(alloc, output, number, kind),
             Err(StepStop::NoMemory) => return Status::NoMemory,
         };
+        let (policy, left, passed) = policy_behind(&step, behind);
         let mut text = Vec::new(alloc);
-        let Ok(()) = take(alloc, &mut world, settings, step, &mut text) else {
+        let Ok(()) = take(alloc, &mut world, settings, step, policy, &mut text) else {
             return Status::NoMemory;
         };
         match put_text(output, &text, Status::Done) {
             Status::Done => {}
             status => return status,
         }
-        rest = behind;
-        number += 1;
+        rest = left;
+        number += 1 + passed as u32;
     }
     finish(output, Status::Done)
 }
 
-// Does a step, and writes its lines at the end of a text.
+// The text behind a step's line, which is a new policy's, what is left of the script, and how many
+// lines are ahead of that.
+fn policy_behind<'a>(step: &Step, behind: &'a [u8]) -> (&'a [u8], &'a [u8], usize)
+    ensures behind { LeavesBehind step.now (ended_lines behind.now) result.0.now result.2 (ended_lines result.1.now) }
+    ensures within { result.2 + length result.1.now ≤ length behind.now }
+{
+    match step {
+        Step::NewPolicy => split_input(behind),
+        _ => (&[], behind, 0),
+    }
+}
+
+// Does a step, with the text behind its line, and writes its lines at the end of another text.
 fn take(
     alloc: Global,
     world: &mut World,
     settings: Settings,
     step: Step,
+    policy: &[u8],
     text: &mut Vec<u8>,
 ) -> Result<(), NoMemory>
     requires known { (now : NowData) × Knows (bounds_of settings) now world.old }
     requires room { HasRoom step }
-    ensures { Does (bounds_of settings) (step_turn (bounds_of settings) step) world.old world.new text.old.items text.new.items result }
+    ensures { DoesSome (bounds_of settings) (TakesStep (bounds_of settings) step policy.now) world.old world.new text.old.items text.new.items result }
 {
     match step {
         Step::Silent => Ok(()),
         Step::Arrival { port, frame } => world.frame(alloc, settings, port, frame.items(), text),
         Step::Change(update) => world.change(alloc, settings, &update, text),
+        Step::NewPolicy => renew(alloc, world, settings, policy, text),
+        Step::Rules { switch } => world.list(alloc, settings, switch, text),
+    }
+}
+
+// Puts the policy of a text in force, or writes the line by which it is refused.
+fn renew(
+    alloc: Global,
+    world: &mut World,
+    settings: Settings,
+    policy: &[u8],
+    text: &mut Vec<u8>,
+) -> Result<(), NoMemory>
+    requires known { (now : NowData) × Knows (bounds_of settings) now world.old }
+    ensures { DoesSome (bounds_of settings) (Renews policy.now) world.old world.new text.old.items text.new.items result }
+{
+    match policy_of(alloc, policy) {
+        Ok(policy) => world.renew(alloc, settings, policy, text),
+        Err(PolicyStop::Refused(line)) => write_line(&line, text),
+        Err(PolicyStop::NoMemory) => Err(NoMemory),
     }
 }
 

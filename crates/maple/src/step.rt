@@ -18,6 +18,10 @@ pub enum Step {
     Arrival { port: u16, frame: Bytes },
     /// What is known of the network changes.
     Change(Update),
+    /// The lines behind this one are the text of a new policy.
+    NewPolicy,
+    /// The rules of this switch are listed.
+    Rules { switch: u64 },
 }
 
 /// Why a line gave no step.
@@ -32,12 +36,13 @@ pub enum StepStop {
 }
 
 /// What a line of a script has the program do: the frame of a `packet` line or of a `frame` line
-/// comes to the switch, the environment changes, or the script ends.
+/// comes to the switch, the environment or the policy changes, rules are listed, or the script
+/// ends.
 ///
 /// # Errors
 ///
-/// `End` where the line is `quit`. `Refused` where the line has more than 8,192 bytes, isn't in the grammar, names another place
-/// than 1, or has a command that is still to come.
+/// `End` where the line is `quit`. `Refused` where the line has more than 8,192 bytes, isn't in the
+/// grammar, names another place than 1, or has a command that is still to come. `NoMemory`.
 pub fn step_of(alloc: Global, line: &[u8]) -> Result<Step, StepStop>
     ensures step { IfOk result (λ step. step_of line.now ≡ Ok step) }
     ensures stop { IfErr result (λ stop. IsStop (step_of line.now) stop) }
@@ -71,6 +76,8 @@ fn step_by(alloc: Global, command: Command) -> Result<Step, StepStop>
         Command::NoLink(from) => Ok(Step::Change(Update::NoLink { from })),
         Command::Set(table, key, value) => Ok(Step::Change(Update::Set { table, key, value })),
         Command::Unset(table, key) => Ok(Step::Change(Update::Unset { table, key })),
+        Command::NewPolicy => Ok(Step::NewPolicy),
+        Command::Rules(switch) => Ok(Step::Rules { switch }),
         Command::Quit => Err(StepStop::End),
         _ => Err(StepStop::Refused(ScriptRefusal::Later)),
     }

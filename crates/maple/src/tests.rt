@@ -4,7 +4,7 @@ ghost use Rattle.std.specs.Prelude.{None};
 use crate::fault_rows::{Fault, faults};
 use crate::rows::{self, DONE, POLICY, Row, SCRIPT, TOO_LONG, USAGE};
 use crate::top::maple;
-use crate::{change_rows, example_rows};
+use crate::{change_rows, example_rows, policy_rows};
 use maple_base::{Bytes, Words};
 use maple_io::{Got, MemSink, MemSource, Source};
 use std::alloc::{AllocError, Global};
@@ -32,6 +32,20 @@ fn runs_over_a_network_that_changes(rt: HostRuntime) -> Result<(), Fail> {
     check_all(&rt, alloc, change_rows::settings())?;
     check_all(&rt, alloc, change_rows::changes())?;
     check_all(&rt, alloc, change_rows::learning())?;
+    Ok(())
+}
+
+#[test]
+fn runs_of_new_policies(rt: HostRuntime) -> Result<(), Fail> {
+    let alloc = rt.alloc();
+    check_all(&rt, alloc, policy_rows::renewals())?;
+    check_all(&rt, alloc, policy_rows::texts())?;
+    Ok(())
+}
+
+#[test]
+fn runs_that_list_rules(rt: HostRuntime) -> Result<(), Fail> {
+    check_all(&rt, rt.alloc(), policy_rows::listings())?;
     Ok(())
 }
 

@@ -11,23 +11,22 @@ ghost use Rattle.maple.specs.Words.{IsCommand};
 
 use crate::finish::finish;
 use crate::input::{ReadStop, read_all};
-use crate::lines::{line_count, split_input};
-use crate::policies::{put_policy, refuse_policy};
+use crate::lines::split_input;
+use crate::policies::{PolicyStop, policy_of, put_policy, refuse_policy};
 use crate::sim::run_script;
 use crate::status::Status;
 use crate::words::{Command, command_of};
-use maple_base::{PolicyFault, Words};
+use maple_base::Words;
 use maple_io::{Sink, Source};
-use policy_text::{ReadError, read_policy};
-use report_text::PolicyRefusal;
 use std::alloc::Global;
 
 /// Runs Maple with the words of a command line.
 ///
 /// Both commands read the input to its end: a policy, a line `%%`, and a script. The word `sim`
-/// writes what a switch and its controller do with each frame that the script brings and each change
-/// of the network, and then a last line. Its options bound the steps that the policy may take for a
-/// packet (`--budget`), the rules of the switch (`--capacity`) and the levels of their priorities
+/// writes what a switch and its controller do with each frame that the script brings, each change
+/// of the network and each new policy, and the rules of the switch where the script asks for them,
+/// and then a last line. Its options bound the steps that the policy may take for a packet
+/// (`--budget`), the rules of the switch (`--capacity`) and the levels of their priorities
 /// (`--levels`). The word `check`, alone, writes the printed form of the policy, and looks at no
 /// script. Where the policy is refused both write where and why.
 pub fn maple<R, I: Source, O: Sink>(
@@ -114,20 +113,16 @@ fn run_text<O: Sink>(alloc: Global, command: Command, text: &[u8], output: &mut 
     ensures run { RunsText (O.tells output.old) (O.tells output.new) command text.now result }
     ensures spared { result ≢ Status.WriteFault → NoWriteFailed (O.tells output.old) (O.tells output.new) }
 {
-    let (text, script) = split_input(text);
-    match read_policy(alloc, text) {
+    let (text, script, lines) = split_input(text);
+    match policy_of(alloc, text) {
         Ok(policy) => match command {
             Command::Check => put_policy(alloc, &policy, output),
             Command::Sim(settings) => {
-                let first = line_count(text) as u32 + 2;
+                let first = lines as u32 + 1;
                 run_script(alloc, policy, settings, first, script, output)
             }
         },
-        Err(ReadError::Refused { line, column, kind }) => match PolicyFault::numbered(kind) {
-            Some(fault) => refuse_policy(alloc, output, line, column, PolicyRefusal::Fault(fault)),
-            // The reader tells no other number.
-            None => unreachable!(),
-        },
-        Err(ReadError::NoMemory) => Status::NoMemory,
+        Err(PolicyStop::Refused(line)) => refuse_policy(alloc, output, &line),
+        Err(PolicyStop::NoMemory) => Status::NoMemory,
     }
 }

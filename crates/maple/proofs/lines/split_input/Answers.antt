@@ -1,6 +1,6 @@
-use Rattle.std.proofs.Common.{rules}
+use Rattle.std.proofs.Common.{rules, arith}
 use Rattle.std.proofs.lemmas.List.{take_rest}
-use Rattle.maple.proofs.Marks.{further, ahead_is, behind_is}
+use Rattle.maple.proofs.Marks.{further, ahead_is, behind_is, passed_is}
 use Rattle.maple.proofs.lines.split_input.Goals as goal
 
 pub loop-at-preserved : goal.loop-at-preserved
@@ -10,6 +10,8 @@ loop-at-preserved c =
     let lines = rw (take_rest c.args.input.now c.loop-at.at) at c.cut_line.ensures.lines in
     record {
       within = further c.args.input.now c.cut_line.result.0.now c.cut_line.result.1.now c.loop-at.at i.within parts;
+      few = omega (arith, i.few, c.cut_line.ensures.some);
       policy = ahead_is c.args.input.now c.cut_line.result.0.now c.cut_line.result.1.now c.loop-at.at i.within parts lines (search rules) _ i.policy;
       script = behind_is c.args.input.now c.cut_line.result.0.now c.cut_line.result.1.now c.loop-at.at i.within parts lines (search rules) _ i.script;
+      passed = passed_is c.args.input.now c.cut_line.result.0.now c.cut_line.result.1.now c.loop-at.at i.within parts lines (search rules) _ c.loop-at.lines i.passed;
     }
