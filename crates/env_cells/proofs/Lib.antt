@@ -1,4 +1,6 @@
+pub mod Accepted
 pub mod Maps
+pub mod Overlaid
 pub mod Sets
 pub mod SortedLists
 pub mod NamedTables

@@ -23,12 +23,12 @@ pub with_tables_last : (m : map.FinMap name_cmp NumberTable) (es : List (List �
 with_tables_last m [] e = refl
 with_tables_last m (f ∷ es) e = ap (λ n. replaced name_cmp n f.0 f.1) (with_tables_last m es e)
 
-tied_of : (r : Ordering) → is_eq r ≡ true → r ≡ Equal
+pub tied_of : (r : Ordering) → is_eq r ≡ true → r ≡ Equal
 tied_of Less h = cc
 tied_of Equal h = refl
 tied_of Greater h = cc
 
-get-tables_named : (m : map.FinMap name_cmp NumberTable) (names : List (List ℕ)) (q : List ℕ) → map.get (tables_named m names) q ≡ cond (list_any (eq_by_cmp name_cmp q) names) (Some (unwrap_or (map.get m q) map.empty)) None
+pub get-tables_named : (m : map.FinMap name_cmp NumberTable) (names : List (List ℕ)) (q : List ℕ) → map.get (tables_named m names) q ≡ cond (list_any (eq_by_cmp name_cmp q) names) (Some (unwrap_or (map.get m q) map.empty)) None
 get-tables_named m [] q = map.get-empty name_cmp q
 get-tables_named m (n ∷ names) q =
     map.get-insert name_order_total (tables_named m names) n (numbers_in m n) q

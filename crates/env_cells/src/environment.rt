@@ -1,19 +1,17 @@
 // What is known of the network.
-ghost use Rattle.std.specs.Prelude.{◌≡◌, ◌≤◌, true, false, None, Some, Ok, Err, if◌then◌else◌, length, IsTrue, All, IfOk, OnOk, OnErr};
+ghost use Rattle.std.specs.Prelude.{◌≡◌, ◌≤◌, true, false, None, Some, Err, length, IsTrue, All, IfOk, OnOk, OnErr};
 ghost use Rattle.std.specs.FinMap as map;
 ghost use Rattle.maple_base.specs.Kinds.{of_kind};
 ghost use Rattle.env_cells.specs.declared.updates.Update.{Update};
 ghost use Rattle.env_cells.specs.declared.updates.Update.TheVariants as updates;
 ghost use Rattle.maple_base.specs.declared.update_refused.UpdateRefused.{UpdateRefused};
-ghost use Rattle.maple_base.specs.declared.update_refused.UpdateRefused.TheVariants.{UnknownSwitch, PortRange};
 ghost use Rattle.env_cells.specs.declared.updates.UpdateError.TheVariants.{Refused};
 ghost use Rattle.maple_base.specs.declared.cells.Cell.TheVariants.{Up, Num};
 ghost use Rattle.maple_base.specs.declared.cells.Value.TheVariants.{Flag};
-ghost use Rattle.maple_base.specs.Ports.{is_port};
 ghost use Rattle.env_cells.specs.Environment.{nothing_known, knows};
 ghost use Rattle.env_cells.specs.Changes.{applied};
-ghost use Rattle.env_cells.specs.Refusals.{refusal_of, full, HasRoomForTables};
-ghost use Rattle.env_cells.specs.Answers.{Answers, Tells};
+ghost use Rattle.env_cells.specs.Refusals.{refusal_of, HasRoomForTables};
+ghost use Rattle.env_cells.specs.Answers.{Answers};
 ghost use Rattle.env_cells.specs.Values.{value_in, IsNoHop};
 ghost use Rattle.env_cells.specs.Limits.{IsWithinLimits};
 ghost use Rattle.env_cells.specs.Most.{most_links, most_switches};
@@ -24,7 +22,7 @@ use crate::sorted_map::SortedMap;
 use crate::tables::TableMap;
 use crate::up_ports::UpPorts;
 use crate::{Update, UpdateError};
-use maple_base::{Cell, Name, Names, NoMemory, Place, Ports, UpdateRefused, Value, is_port};
+use maple_base::{Cell, Name, Names, NoMemory, Place, Ports, UpdateRefused, Value};
 use std::alloc::Global;
 use std::marker::Model;
 
@@ -51,11 +49,11 @@ pub const MOST_NUMBERS: u64 = 65536;
 /// of 65,536 numbers.
 #[derive(Drop)]
 pub struct Env {
-    switches: NumberMap<UpPorts>,
-    hosts: NumberMap<Place>,
-    links: SortedMap<Place, Place>,
-    tables: TableMap,
-    alloc: Global,
+    pub(crate) switches: NumberMap<UpPorts>,
+    pub(crate) hosts: NumberMap<Place>,
+    pub(crate) links: SortedMap<Place, Place>,
+    pub(crate) tables: TableMap,
+    pub(crate) alloc: Global,
 }
 
 impl Model for Env {
@@ -158,7 +156,7 @@ impl Env {
         })
     }
 
-    fn is_up(&self, switch: u64, port: u64) -> bool
+    pub(crate) fn is_up(&self, switch: u64, port: u64) -> bool
         ensures { Flag result ≡ value_in self.now (Up switch port) }
     {
         match self.switches.get(switch) {
@@ -167,7 +165,7 @@ impl Env {
         }
     }
 
-    fn number(&self, table: &Name, key: u64) -> Value
+    pub(crate) fn number(&self, table: &Name, key: u64) -> Value
         ensures { result ≡ value_in self.now (Num table.now key) }
     {
         match self.tables.get(table) {
@@ -208,9 +206,8 @@ impl Env {
     fn set_switch(&mut self, switch: u64, ports: &Ports) -> Result<(), UpdateError>
         ensures { Answers self.old (updates.Switch switch ports.now) result self.new }
     {
-        check_room(self.switches.len_with(switch), MOST_SWITCHES)?;
         let up = UpPorts::listed(self.alloc, ports.items())?;
-        check_room(up.len(), MOST_UP_PORTS)?;
+        self.check_listed(switch, &up)?;
         self.switches.insert(switch, up)?;
         Ok(())
     }
@@ -218,11 +215,7 @@ impl Env {
     fn raise_port(&mut self, switch: u64, port: u16) -> Result<(), UpdateError>
         ensures { Answers self.old (updates.Port switch port true) result self.new }
     {
-        let Some(up) = self.switches.get(switch) else {
-            return Err(UpdateError::Refused(UpdateRefused::UnknownSwitch));
-        };
-        check_port(u64::from(port))?;
-        check_room(up.len_with(port), MOST_UP_PORTS)?;
+        self.check_raised(switch, port)?;
         self.switches.raise(switch, port)?;
         Ok(())
     }
@@ -230,8 +223,7 @@ impl Env {
     fn lower_port(&mut self, switch: u64, port: u16) -> Result<(), UpdateError>
         ensures { Answers self.old (updates.Port switch port false) result self.new }
     {
-        self.check_switch(switch)?;
-        check_port(u64::from(port))?;
+        self.check_lowered(switch, port)?;
         self.switches.lower(switch, port);
         Ok(())
     }
@@ -239,9 +231,7 @@ impl Env {
     fn set_host(&mut self, mac: u64, place: Place) -> Result<(), UpdateError>
         ensures { Answers self.old (updates.Host mac place) result self.new }
     {
-        self.check_switch(place.switch)?;
-        check_port(place.port)?;
-        check_room(self.hosts.len_with(mac), MOST_HOSTS)?;
+        self.check_host(mac, place)?;
         self.hosts.insert(mac, place)?;
         Ok(())
     }
@@ -255,11 +245,7 @@ impl Env {
     fn set_link(&mut self, from: Place, to: Place) -> Result<(), UpdateError>
         ensures { Answers self.old (updates.Link from to) result self.new }
     {
-        self.check_switch(from.switch)?;
-        self.check_switch(to.switch)?;
-        check_port(from.port)?;
-        check_port(to.port)?;
-        check_room(self.links.len_with(&from), MOST_LINKS)?;
+        self.check_link(from, to)?;
         self.links.insert(from, to)?;
         Ok(())
     }
@@ -267,8 +253,7 @@ impl Env {
     fn remove_link(&mut self, from: Place) -> Result<(), UpdateError>
         ensures { Answers self.old (updates.NoLink from) result self.new }
     {
-        self.check_switch(from.switch)?;
-        check_port(from.port)?;
+        self.check_start(from)?;
         self.links.remove(&from);
         Ok(())
     }
@@ -276,10 +261,7 @@ impl Env {
     fn set_number(&mut self, table: &Name, key: u64, value: u64) -> Result<(), UpdateError>
         ensures { Answers self.old (updates.Set table.now key value) result self.new }
     {
-        let Some(numbers) = self.tables.get(table) else {
-            return Err(UpdateError::Refused(UpdateRefused::UnknownTable));
-        };
-        check_room(numbers.len_with(key), MOST_NUMBERS)?;
+        self.check_number(table, key)?;
         self.tables.set(table, key, value)?;
         Ok(())
     }
@@ -287,9 +269,7 @@ impl Env {
     fn remove_number(&mut self, table: &Name, key: u64) -> Result<(), UpdateError>
         ensures { Answers self.old (updates.Unset table.now key) result self.new }
     {
-        if !self.tables.has(table) {
-            return Err(UpdateError::Refused(UpdateRefused::UnknownTable));
-        }
+        self.check_table(table)?;
         self.tables.unset(table, key);
         Ok(())
     }
@@ -300,35 +280,5 @@ impl Env {
     {
         self.tables.declare(names.items())?;
         Ok(())
-    }
-
-    fn check_switch(&self, switch: u64) -> Result<(), UpdateRefused>
-        ensures { result ≡ (if knows self.now switch then Ok tt else Err UnknownSwitch) }
-    {
-        if self.knows(switch) {
-            Ok(())
-        } else {
-            Err(UpdateRefused::UnknownSwitch)
-        }
-    }
-}
-
-fn check_port(number: u64) -> Result<(), UpdateRefused>
-    ensures { result ≡ (if is_port number then Ok tt else Err PortRange) }
-{
-    if is_port(number) {
-        Ok(())
-    } else {
-        Err(UpdateRefused::PortRange)
-    }
-}
-
-fn check_room(count: u64, limit: u64) -> Result<(), UpdateRefused>
-    ensures { Tells result (full count limit) }
-{
-    if count <= limit {
-        Ok(())
-    } else {
-        Err(UpdateRefused::Full { count, limit })
     }
 }

@@ -85,6 +85,13 @@ impl<K: Key, V: Drop> SortedMap<K, V> {
         &self.entries
     }
 
+    /// The keys with their values, in the keys' order, and no map any more.
+    pub fn into_entries(self) -> Vec<(K, V)>
+        ensures { result.items ≡ map.entries (map_of K.order self) }
+    {
+        self.entries
+    }
+
     /// How many values there are.
     pub fn len(&self) -> u64
         ensures count { result ≡ map.len (map_of K.order self.now) }

@@ -61,7 +61,8 @@ fn give<S: Subject>(alloc: Global, subject: &mut S, line: &str) -> Result<(), Fa
     }
 }
 
-fn words(alloc: Global, text: &str) -> Result<Vec<&str>, AllocError> {
+/// The words of a text.
+pub fn words(alloc: Global, text: &str) -> Result<Vec<&str>, AllocError> {
     let mut words = Vec::new(alloc);
     for word in text.split_whitespace() {
         words.push(word)?;

@@ -1,5 +1,6 @@
 -- The links of an environment, in their order, and where an update changes no next hop.
-use Rattle.std.proofs.Common.{◌≡◌, ◌≤◌, true, false, not, cond, eqb, ltb, ◌&&◌, List, [], ◌∷◌, ◌++◌, All, get_or, Some, None, Contains, sym, ap, ◌∙◌, subst, ⊎_elim, arith}
+use Rattle.std.proofs.Common.{◌≡◌, ◌≤◌, Bool, true, false, not, cond, eqb, ltb, ◌&&◌, List, [], ◌∷◌, ◌++◌, All, get_or, Option, Some, None, MatchOption, Contains, sym, ap, ◌∙◌, subst, ⊎_elim, arith}
+use Rattle.std.specs.Prelude.{unwrap_or}
 use Rattle.std.specs.declared.cmp.Ordering.{Ordering}
 use Rattle.std.specs.declared.cmp.Ordering.TheVariants.{Less, Equal, Greater}
 use Rattle.std.specs.Ordering.{is_eq}
@@ -19,17 +20,19 @@ use Rattle.maple_base.specs.declared.cells.Place.{Place}
 use Rattle.env_cells.specs.declared.updates.Update.TheVariants.{Link as LinkUpdate, NoLink}
 use Rattle.env_cells.specs.Environment.{Environment, place_cmp}
 use Rattle.env_cells.specs.Changes.{applied}
+use Rattle.env_cells.specs.Limits.{IsWithinLimits}
 use Rattle.env_cells.specs.Lists.{RiseByPlace}
 use Rattle.env_cells.specs.KeyOrders.{place_order_total, place_order_apart}
+use Rattle.env_cells.proofs.LinkFacts.{links_apart, links_named, links_ports}
 use Rattle.env_cells.proofs.Maps.{insert_same}
 use Rattle.env_cells.proofs.SortedLists.{remove_absent}
 use Rattle.topo_paths.specs.declared.hop_table.HopTable.{HopTable}
 use Rattle.topo_paths.specs.Walks.{Link}
 use Rattle.topo_paths.specs.Beside.{is_beside, IsBeside, HasBeside, AreAmong, AreLeast, IsKept, StartOnce, KeepsHops}
-use Rattle.topo_paths.specs.Graphs.{RisePorts}
+use Rattle.topo_paths.specs.Graphs.{IsGraph, RisePorts}
 use Rattle.topo_paths.specs.NextHops.{next_hop}
 use Rattle.topo_paths.specs.Scenes.{links_in}
-use Rattle.topo_paths.specs.Tables.{IsTableOf}
+use Rattle.topo_paths.specs.Tables.{HasTable, IsTableOf}
 use Rattle.topo_paths.proofs.Moved.{itself, next_hop_same, place_same}
 use Rattle.topo_paths.proofs.LeastHops.{contains_there, contains_cases}
 
@@ -80,6 +83,15 @@ module _ (e : Environment) (from to : Place) where
 pub table_kept : (links others : List Link) (table : HopTable) → KeepsHops links others → IsTableOf links table → IsTableOf others table
 table_kept links others table keeps t =
     record { square = t.square; hops = λ from to lf lt. t.hops from to lf lt ∙ sym (keeps.hops _ _); others = λ from to out. keeps.hops from to ∙ t.others from to out }
+
+-- the links of an environment have next hops
+pub graph_within : (e : Environment) → IsWithinLimits e → IsGraph (links_in e)
+graph_within e w = record { apart = links_apart e w; few = links_named e w; ports = links_ports e w }
+
+-- a table of its own, or one that serves
+pub own_or : (e : Environment) → IsWithinLimits e → (table : HopTable) (own : Option HopTable) (changed : Bool) → (changed ≡ false → IsTableOf (links_in e) table) → MatchOption own (changed ≡ false) (HasTable (links_in e)) → HasTable (links_in e) (unwrap_or own table)
+own_or e w table None changed kept same = record { graph = graph_within e w; hops = kept same }
+own_or e w table (Some own) changed kept is = is
 
 pub least_none : AreLeast [] []
 least_none = record { all = All-nil (Contains []); beside = All-nil (HasBeside []); rise = λ i j d less short. absurd (omega (arith, short)); few = omega arith }

@@ -5,13 +5,9 @@ use Rattle.std.proofs.lemmas.Bool.{both_ways, eq-eqb, eqb-true, and_from, and_pa
 use Rattle.std.proofs.lemmas.List.Elements.{All-contains}
 use Rattle.std.proofs.lemmas.Option.{none-some}
 use Rattle.maple_base.specs.declared.cells.Place.{Place}
-use Rattle.maple_base.specs.declared.cells.Cell.{Cell}
-use Rattle.maple_base.specs.declared.cells.Cell.TheVariants.{Hop}
-use Rattle.maple_base.specs.declared.cells.Value.TheVariants.{Nothing, At}
-use Rattle.maple_base.specs.Kinds.{of_kind}
 use Rattle.env_cells.specs.Values.{at_or_nothing}
 use Rattle.topo_paths.specs.Graphs.{IsGraph}
-use Rattle.topo_paths.specs.Scenes.{HopIsShown}
+use Rattle.topo_paths.specs.Tables.{IsShown}
 use Rattle.topo_paths.specs.Walks.{Link, IsWalk, NoWalk, IsShortest, IsNextHop}
 use Rattle.env_cells.specs.Lists.{IsAmong, IsBetweenPorts}
 use Rattle.maple_base.specs.Paths.{is_hop}
@@ -137,11 +133,7 @@ pub hop_facts : (links : List Link) (from to : ℕ) (r : Option Place) → All I
 hop_facts links from to None ports e = (tt, hop_none links from to (sym e), tt)
 hop_facts links from to (Some hop) ports e = (hop_some links from to hop (sym e), tt, hop_port links from to ports hop (sym e))
 
--- a scene's cells of next hops
-module _ (links : List Link) (graph : IsGraph links) (cell : Cell) (from to : ℕ) (is : cell ≡ Hop from to) where
-  pub shown : (r : Option Place) → r ≡ next_hop links from to → IsTrue (of_kind cell (at_or_nothing r)) × HopIsShown links cell (at_or_nothing r)
-  shown None h = (ap (λ (x : Cell). of_kind x Nothing) is, subst (λ (x : Cell). HopIsShown links x Nothing) (sym is) (refl, hop_none links from to (sym h)))
-  shown (Some hop) h = (
-    ap (λ (x : Cell). of_kind x (At hop)) is ∙ hop_port links from to graph.ports hop (sym h),
-    subst (λ (x : Cell). HopIsShown links x (At hop)) (sym is) (hop_some links from to hop (sym h)),
-  )
+-- what a cell of a next hop has
+pub shown : (links : List Link) → IsGraph links → (from to : ℕ) (r : Option Place) → r ≡ next_hop links from to → IsShown links from to (at_or_nothing r)
+shown links graph from to None h = record { told = ap at_or_nothing h; kind = refl; hop = (refl, hop_none links from to (sym h)) }
+shown links graph from to (Some hop) h = record { told = ap at_or_nothing h; kind = hop_port links from to graph.ports hop (sym h); hop = hop_some links from to hop (sym h) }

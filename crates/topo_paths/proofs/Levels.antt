@@ -148,9 +148,6 @@ module _ (links : List Link) (switches : List ℕ) (ends : List Ends) (are : Are
   same_names : (a b : ℕ) → a < length switches → b < length switches → eqb a b ≡ eqb (name a) (name b)
   same_names a b la lb = same_tests _ _ (λ h. eq-eqb _ _ (ap name (eqb-true _ _ h))) (λ h. eq-eqb _ _ (name_one a b la lb (eqb-true _ _ h)))
 
-  pub grown_start : (level : ℕ) (masks : List ℕ) (rows : List (List (Option Place))) → IsLevel links switches level masks rows → IsGrown links switches level 0 masks rows
-  grown_start level masks rows l = record { reached = λ from to lf lt. l.reached from to lf lt ∙ or_none (near links level (name from) (name to)); hops = l.hops }
-
   -- a further link is joined
   pub grown_more : (level count : ℕ) (link : Link) (e : Ends) (before masks masks' : List ℕ) (first rows rows' : List (List (Option Place))) → count < length links → get_or links count link ≡ link → get_or ends count e ≡ e → IsLevel links switches level before first → IsJoined e (hop_over link) before masks rows masks' rows' → IsGrown links switches level count masks rows → IsGrown links switches level (count + 1) masks' rows'
   grown_more level count link e before masks masks' first rows rows' short at here l j g =

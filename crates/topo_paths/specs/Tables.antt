@@ -1,6 +1,11 @@
 -- A table of next hops between the switches that links name.
-use Rattle.std.specs.Prelude.{◌≡◌, ℕ, ◌≤◌, List, length, None, Contains}
+use Rattle.std.specs.Prelude.{◌≡◌, ℕ, ◌≤◌, List, length, None, Contains, IsTrue}
 use Rattle.std.specs.Vec.{vec_capacity}
+use Rattle.maple_base.specs.declared.cells.Cell.TheVariants.{Hop}
+use Rattle.maple_base.specs.declared.cells.Value.{Value}
+use Rattle.maple_base.specs.Kinds.{of_kind}
+use Rattle.env_cells.specs.Values.{at_or_nothing}
+use Rattle.topo_paths.specs.Scenes.{HopIsShown}
 use Rattle.topo_paths.specs.Walks.{Link}
 use Rattle.topo_paths.specs.declared.hop_table.HopTable.{HopTable}
 use Rattle.env_cells.specs.Most.{most_switches}
@@ -30,3 +35,9 @@ pub record IsTableOf (links : List Link) (table : HopTable) : Type 0 where
 pub record HasTable (links : List Link) (table : HopTable) : Type 0 where
   pub graph : IsGraph links
   pub hops : IsTableOf links table
+
+-- a cell of the next hop has this value
+pub record IsShown (links : List Link) (from to : ℕ) (value : Value) : Type 0 where
+  pub told : value ≡ at_or_nothing (next_hop links from to)
+  pub kind : IsTrue (of_kind (Hop from to) value)
+  pub hop : HopIsShown links (Hop from to) value

@@ -4,13 +4,13 @@ ghost use Rattle.env_cells.specs.Lists.{NamesFewSwitches};
 ghost use Rattle.topo_paths.specs.Beside.{StartOnce};
 ghost use Rattle.topo_paths.specs.Graphs.{RisePorts};
 ghost use Rattle.topo_paths.specs.NextHops.{next_hop};
-ghost use Rattle.topo_paths.specs.Tables.{HasRoom, IsSquare, IsTableOf};
+ghost use Rattle.topo_paths.specs.Tables.{HasRoom, HasTable, IsShown, IsSquare, IsTableOf};
 ghost use Rattle.topo_paths.specs.Walks.{Link};
 
 use crate::least::keep_least;
 use crate::rows::{Ends, Row, SWITCHES, find_hops};
 use crate::switches::{find_ends, index_of};
-use maple_base::{NoMemory, Place};
+use maple_base::{NoMemory, Place, Value};
 use std::alloc::Global;
 
 /// The links without another beside them, the switches that they name, and for each place of these a
@@ -59,6 +59,17 @@ impl HopTable {
         let row = index_of(&self.switches, to)?;
         let column = index_of(&self.switches, from)?;
         self.rows[row][column]
+    }
+
+    /// What a cell of the next hop from one switch to another has.
+    pub fn shown(&self, from: u64, to: u64) -> Value
+        requires { IsSquare self.now }
+        ensures { (links : List Link) → HasTable links self.now → IsShown links from to result }
+    {
+        match self.hop(from, to) {
+            Some(place) => Value::At(place),
+            None => Value::Nothing,
+        }
     }
 
     /// A table of the same links, with room for so many.

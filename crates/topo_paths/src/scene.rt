@@ -1,5 +1,5 @@
 // The environment with next hops.
-ghost use Rattle.std.specs.Prelude.{◌≡◌, ◌≤◌, true, false, length, None, Some, Err, IsTrue, IfOk, OnOk, OnErr};
+ghost use Rattle.std.specs.Prelude.{◌≡◌, ◌≤◌, false, length, None, Some, Err, IsTrue, IfOk, OnOk, OnErr};
 ghost use Rattle.maple_base.specs.Kinds.{of_kind};
 ghost use Rattle.maple_base.specs.declared.update_refused.UpdateRefused.{UpdateRefused};
 ghost use Rattle.env_cells.specs.declared.updates.UpdateError.TheVariants.{Refused};
@@ -10,11 +10,12 @@ ghost use Rattle.env_cells.specs.Refusals.{refusal_of, HasRoomForTables};
 ghost use Rattle.env_cells.specs.Most.{most_links};
 ghost use Rattle.env_cells.specs.Lists.{NamesFewSwitches};
 ghost use Rattle.env_cells.specs.Limits.{IsWithinLimits};
-ghost use Rattle.env_cells.specs.Values.{at_or_nothing};
 ghost use Rattle.topo_paths.specs.Beside.{KeepsHops, StartOnce};
 ghost use Rattle.topo_paths.specs.Graphs.{IsGraph, RisePorts};
 ghost use Rattle.topo_paths.specs.Scenes.{links_in, cell_in, HopIsShown};
+ghost use Rattle.topo_paths.specs.Tables.{HasTable};
 
+use crate::behind::Behind;
 use crate::hop_table::HopTable;
 use crate::least::has_beside;
 use env_cells::{Env, MOST_LINKS, Update, UpdateError};
@@ -78,6 +79,21 @@ impl Scene {
         Ok(())
     }
 
+    /// What the environment would be after an update, which is refused as `apply` refuses it. The scene
+    /// isn't changed, and isn't copied.
+    #[tactic(auto, using(crate::proofs::Beside::table_kept))]
+    pub fn behind<'a>(&'a self, update: &'a Update) -> Result<Behind<'a>, UpdateError>
+        requires tables { HasRoomForTables update.now }
+        ensures accepted { OnOk result (refusal_of self.now update.now ≡ None) }
+        ensures behind { IfOk result (λ behind. behind ≡ applied self.now update.now) }
+        ensures limits { IfOk result (λ behind. IsWithinLimits behind) }
+        ensures refused { (r : UpdateRefused) → result ≡ Err (Refused r) → refusal_of self.now update.now ≡ Some r }
+    {
+        let changed = self.changes_hops(update);
+        let env = self.env.behind(update)?;
+        Ok(Behind::new(env, &self.table, changed)?)
+    }
+
     /// Whether next hops may be others after an update.
     #[tactic(auto, using(crate::proofs::Beside::keeps_same, crate::proofs::Beside::link_gone))]
     fn changes_hops(&self, update: &Update) -> bool
@@ -117,6 +133,12 @@ impl Scene {
         self.env.links()
     }
 
+    fn table(&self) -> &HopTable
+        ensures { HasTable (links_in self.now) result.now }
+    {
+        &self.table
+    }
+
     /// An equal scene.
     pub fn copy(&self) -> Result<Scene, NoMemory>
         ensures equal { IfOk result (λ scene. scene ≡ self.now) }
@@ -138,18 +160,9 @@ impl EnvNow for Scene {
         ensures hop { HopIsShown (links_in self.now) cell result }
     {
         match cell {
-            Cell::Hop { from, to } => at_or_nothing(self.table.hop(from, to)),
+            Cell::Hop { from, to } => self.table().shown(from, to),
             _ => self.env.value(cell),
         }
-    }
-}
-
-fn at_or_nothing(place: Option<Place>) -> Value
-    ensures { result ≡ at_or_nothing place }
-{
-    match place {
-        Some(place) => Value::At(place),
-        None => Value::Nothing,
     }
 }
 

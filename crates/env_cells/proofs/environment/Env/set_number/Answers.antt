@@ -1,18 +1,15 @@
-use Rattle.std.proofs.Common.{◌≡◌, ◌≤◌, true, ap, sym, subst, arith}
-use Rattle.std.specs.Prelude.{is_some, unwrap_or}
-use Rattle.std.specs.FinMap as map
-use Rattle.env_cells.specs.Environment.{environment_of, Environment}
-use Rattle.env_cells.specs.Named.{numbers_in}
+use Rattle.std.proofs.Common.{sym, subst, ap, ◌∙◌}
+use Rattle.env_cells.specs.declared.updates.Update.TheVariants.{Set}
+use Rattle.env_cells.specs.Environment.{environment_of, Environment, declares}
 use Rattle.env_cells.specs.Limits.{IsWithinLimits}
-use Rattle.env_cells.proofs.Limits.{within_full, limits_numbers}
+use Rattle.env_cells.proofs.Accepted.{go_on, stays_within}
 use Rattle.env_cells.proofs.environment.Env.set_number.Goals as goal
 
 pub invariant_of-self-2 : goal.invariant_of-self-2
 invariant_of-self-2 c =
     let e : Environment = environment_of c.self.inside.switches c.self.inside.hosts c.self.inside.links c.self.inside.tables in
-    let name = c.args.table.now in
-    let declared : map.contains_key e.tables name ≡ true = sym (ap is_some c.in-Some.ensures) in
-    let same : map.len (map.insert c.in-Some.numbers.now c.args.key c.args.value) ≡ map.len (map.insert (numbers_in e.tables name) c.args.key c.args.value) =
-    ap (λ x. map.len (map.insert (unwrap_or x map.empty) c.args.key c.args.value)) c.in-Some.ensures in
-    let small : map.len (map.insert (numbers_in e.tables name) c.args.key c.args.value) ≤ 65536 = omega (arith, same, c.len_with.ensures c.args.value, within_full _ 65536 c.in_ok-check_room.ensures) in
-    subst (λ s. IsWithinLimits (record e { tables = s })) (sym c.in_ok-set.ensures.ok) (limits_numbers e c.self.invariant name _ declared small)
+    subst (λ s. IsWithinLimits (record e { tables = s })) (sym c.in_ok-set.ensures.ok) (stays_within e _ c.self.view_is c.self.invariant (Set c.args.table.now c.args.key c.args.value) (c.in_ok-check_number.ensures c.args.value) tt)
+
+pub set-requires : goal.set-requires
+set-requires c =
+    record { declared = ap (λ (x : Environment). declares x c.args.table.now) c.self.view_is ∙ (go_on (declares c.args.self.now c.args.table.now) _ _ (c.in_ok-check_number.ensures c.args.value)).0 }
