@@ -16,7 +16,7 @@ pub record State : Type 0 where
   -- how many rules the switch has room for
   pub capacity : ℕ
   pub phase : Phase
-  -- the switch's number, once it was heard
+  -- the switch's number, once it was heard and not given up
   pub dpid : Option ℕ
   -- the first clearing was acknowledged
   pub ready : Bool
@@ -112,6 +112,14 @@ goes_live update s = record (put set_config s) { phase = phases.Live; next = fir
 
 abbrev pub accepted : Update → State → State
 accepted update s = leaves (record { from = s.target; to = s.target }) (Clearing ∷ []) (goes_live update s)
+
+-- what was prepared last is given up, and in the second phase the switch's number too, as if no FEATURES_REPLY had come
+abbrev pub forgets_number : Phase → Option ℕ → Option ℕ
+forgets_number phases.Second dpid = None
+forgets_number phase dpid = dpid
+
+abbrev pub forgotten : State → State
+forgotten s = record s { prepared = None; dpid = forgets_number s.phase s.dpid }
 
 -- the reply to the outstanding barrier was heard, that of a part of an update with these lists
 abbrev pub acknowledged : Lists → State → State

@@ -38,6 +38,7 @@ mod log;
 mod outbox;
 mod part;
 mod parts;
+mod seen;
 mod session;
 mod told;
 

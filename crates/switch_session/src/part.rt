@@ -1,9 +1,9 @@
 // The parts of an update.
 ghost use Rattle.std.specs.Prelude.{◌≡◌};
 
+use crate::seen::Seen;
 use maple_base::{Mods, RuleList};
 use std::marker::Model;
-use std::snapshot::Snapshot;
 
 /// A part of an update, which leaves with a barrier behind it.
 #[derive(Drop)]
@@ -17,8 +17,8 @@ pub enum Part {
 /// The lists from and to which an update leads. Only proofs read them.
 #[derive(Drop)]
 pub struct UpdateLists {
-    from: Snapshot<RuleList>,
-    to: Snapshot<RuleList>,
+    from: Seen<RuleList>,
+    to: Seen<RuleList>,
 }
 
 impl Model for UpdateLists {
@@ -46,8 +46,8 @@ impl UpdateLists {
         ensures { result ≡ record { from = from.now; to = to.now } }
     {
         UpdateLists {
-            from: Snapshot::of(from),
-            to: Snapshot::of(to),
+            from: Seen::of(from),
+            to: Seen::of(to),
         }
     }
 }

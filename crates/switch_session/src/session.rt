@@ -10,13 +10,13 @@ mod sending;
 use crate::outbox::Outbox;
 use crate::part::UnderWay;
 use crate::parts::{Aim, CLEARING_ROOM, Parts, no_rules};
+use crate::seen::Seen;
 use crate::told::Phase;
 pub use aiming::Start;
 use maple_base::{NoMemory, RuleList};
 use of10_codec::{BodyRef, MessageRef, VERSION};
 use std::alloc::Global;
 use std::marker::Model;
-use std::snapshot::Snapshot;
 
 /// The session of a switch on a connection.
 #[derive(Drop)]
@@ -32,7 +32,7 @@ pub struct Session {
     to_come: Parts,
     target: RuleList,
     next: Option<Aim>,
-    prepared: Option<Snapshot<Aim>>,
+    prepared: Option<Seen<Aim>>,
     prepared_room: usize,
     used: u32,
     taken: u32,
@@ -132,7 +132,7 @@ impl Session {
     }
 
     /// The switch's number, that of the last FEATURES_REPLY that was told as `Features`; `None`
-    /// exactly before the first.
+    /// before the first, and where `forget` gave it up since.
     pub fn dpid(&self) -> Option<u64>
         ensures { result ≡ self.now.dpid }
     {

@@ -8,11 +8,11 @@ ghost use Rattle.switch_session.specs.Room.{start_room};
 use super::{Session, owed};
 use crate::part::UpdateLists;
 use crate::parts::{Aim, CLEARING_ROOM, Parts, aim_at};
+use crate::seen::Seen;
 use crate::told::Phase;
 use maple_base::{NoMemory, RuleList};
 use of10_codec::{BodyRef, MessageRef};
 use std::marker::Model;
-use std::snapshot::Snapshot;
 
 // The bytes of a SET_CONFIG.
 const CONFIG: usize = 12;
@@ -21,7 +21,7 @@ const CONFIG: usize = 12;
 const WHOLE: u16 = 0xffff;
 
 impl Session {
-    ghost use Rattle.switch_session.specs.Sessions.{aimed, accepted};
+    ghost use Rattle.switch_session.specs.Sessions.{aimed, accepted, forgotten};
     ghost use Rattle.switch_session.specs.Calls.{IsUpdate, IsGood, CanStart, Accepts};
 
     // Plans an update to these rules from the target, and makes room for its parts and so much more.
@@ -38,7 +38,7 @@ impl Session {
         self.outbox
             .reserve(owed(&self.to_come, &self.next, room, self.quiet))?;
         self.prepared_room = room;
-        self.prepared = Some(Snapshot::of(&aim));
+        self.prepared = Some(Seen::of(&aim));
         Ok(aim)
     }
 
@@ -46,9 +46,9 @@ impl Session {
     /// running update leads to, and at rest from those that the switch was led to. The session is
     /// live, and the rules are none where it is quiet.
     ///
-    /// The aim is good until it is aimed at, another is prepared, or `end` is called, and until a
-    /// message is heard that gives `Acknowledged`, `Refused` with `quiet`, or `Ended`. Over all other
-    /// messages, `answer` and `take_out` it stays good.
+    /// The aim is good until it is aimed at, another is prepared, or `forget` or `end` is called, and
+    /// until a message is heard that gives `Acknowledged`, `Refused` with `quiet`, or `Ended`. Over
+    /// all other messages, `answer` and `take_out` it stays good.
     ///
     /// # Errors
     ///
@@ -83,8 +83,8 @@ impl Session {
     }
 
     /// Plans the first update of a session that waits to be accepted, and makes all room for its
-    /// start. Nothing that is told changes. The start is good until another is prepared or the
-    /// session ends.
+    /// start. Nothing that is told changes. The start is good until another is prepared, `forget` is
+    /// called, or the session ends.
     ///
     /// # Errors
     ///
@@ -137,6 +137,18 @@ impl Session {
         let start = self.prepare_start(rules)?;
         self.start(start);
         Ok(())
+    }
+
+    /// Gives up what was prepared last, and, where the session waits to be accepted, the switch's
+    /// number. It takes no memory.
+    pub fn forget(&mut self)
+        ensures { self.new ≡ forgotten self.old }
+    {
+        self.prepared = None;
+        self.prepared_room = 0;
+        if let Phase::Second = self.phase {
+            self.dpid = None;
+        }
     }
 }
 
