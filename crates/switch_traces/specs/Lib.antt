@@ -1,0 +1,5 @@
+-- A reader must believe: Traces (the traces of a switch), Lists (the rules of traces, and which traces a switch can be led to), Laws.
+pub mod Coding
+pub mod Laws
+pub mod Lists
+pub mod Traces

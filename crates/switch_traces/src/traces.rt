@@ -1,0 +1,166 @@
+// The traces of a switch.
+ghost use Rattle.std.specs.Prelude.{◌≡◌, ◌≤◌, ◌<◌, ◌+◌, ◌^◌, ◌++◌, [], ◌∷◌, length, IsTrue, IfOk, IfErr, OnOk, OnErr, option_copied};
+ghost use Rattle.std.specs.Option.{option_map};
+ghost use Rattle.maple_base.specs.Limits.{most_items};
+ghost use Rattle.maple_base.specs.Questions.{asks_once};
+ghost use Rattle.topo_paths.specs.Scenes.{cell_in};
+ghost use Rattle.trace_tree.specs.Bounds.{items_within};
+ghost use Rattle.trace_tree.specs.Growth.{scratch, admits, leaf_found};
+ghost use Rattle.tree_prune.specs.Current.{is_current};
+ghost use Rattle.priority_plan.specs.Rules.{level_limit, levels_of, rules_needed};
+ghost use Rattle.switch_traces.specs.Traces.{those, with_those};
+ghost use Rattle.switch_traces.specs.Lists.{AreRulesOf};
+
+use crate::list::TraceList;
+use maple_base::{EnvNow, Key, NoMemory, RuleList};
+use priority_plan::{levels, rules_needed};
+use rule_builder::{rules, rules_where};
+use std::alloc::Global;
+use std::marker::Model;
+use topo_paths::Scene;
+use trace_tree::{Leaf, Trace, Tree, scratch_laws};
+use tree_prune::{count_current, prune};
+
+/// The traces of a switch, in the order in which they were learned, as a tree.
+#[derive(Drop)]
+pub struct SwitchTraces {
+    alloc: Global,
+    switch: u64,
+    tree: Tree,
+    list: TraceList,
+}
+
+impl Model for SwitchTraces {
+    ghost use Rattle.std.specs.Coded.{codes};
+    ghost use Rattle.switch_traces.specs.Coding.{traces_code};
+    ghost use Rattle.switch_traces.specs.Traces.{Learnings};
+    ghost use Rattle.trace_tree.specs.Stands.{StandsFor};
+
+    ghost Value = { Learnings };
+
+    ghost coded = { Prim.hlevel (codes, traces_code) };
+
+    ghost view = { λ a. record { switch = a.switch; traces = a.list.traces } };
+
+    ghost invariant = { λ a. StandsFor a.tree a.list.traces };
+}
+
+impl SwitchTraces {
+    /// A switch of this datapath id without traces.
+    pub fn new(alloc: Global, switch: u64) -> SwitchTraces
+        ensures { result ≡ record { switch = switch; traces = [] } }
+    {
+        scratch_laws();
+        SwitchTraces {
+            alloc,
+            switch,
+            tree: Tree::new(alloc),
+            list: TraceList::new(),
+        }
+    }
+
+    /// The switch's datapath id.
+    pub fn switch(&self) -> u64
+        ensures { result ≡ self.now.switch }
+    {
+        self.switch
+    }
+
+    /// How many traces there are.
+    pub fn len(&self) -> u32
+        ensures { result ≡ length self.now.traces }
+    {
+        scratch_laws();
+        self.tree.leaves()
+    }
+
+    /// How many traces have in each recorded cell its recorded value.
+    pub fn count_current<E: EnvNow>(&self, env: &E) -> u32
+        ensures { result ≡ length (those (is_current (E.has env.now)) self.now.traces) }
+    {
+        scratch_laws();
+        count_current(&self.tree, env)
+    }
+
+    /// How many priorities the rules take.
+    pub fn levels(&self) -> u64
+        ensures { result ≡ levels_of (scratch self.now.traces) }
+    {
+        levels(&self.tree)
+    }
+
+    /// How many rules there are.
+    pub fn rules_needed(&self) -> u64
+        ensures { result ≡ rules_needed (scratch self.now.traces) }
+    {
+        rules_needed(&self.tree)
+    }
+
+    /// The rules, facts and barriers each in the order of rules.
+    ///
+    /// # Errors
+    ///
+    /// `NoMemory`.
+    pub fn rules(&self) -> Result<RuleList, NoMemory>
+        requires levels { levels_of (scratch self.now.traces) ≤ level_limit }
+        ensures { IfOk result (λ list. AreRulesOf self.now.traces list) }
+    {
+        rules(self.alloc, &self.tree)
+    }
+
+    /// The rules without the traces of which a recorded cell has another value.
+    ///
+    /// # Errors
+    ///
+    /// `NoMemory`.
+    pub fn rules_where<E: EnvNow>(&self, env: &E) -> Result<RuleList, NoMemory>
+        requires levels { levels_of (scratch self.now.traces) ≤ level_limit }
+        ensures { IfOk result (λ list. AreRulesOf (those (is_current (E.has env.now)) self.now.traces) list) }
+    {
+        scratch_laws();
+        rules_where(self.alloc, &self.tree, env)
+    }
+
+    /// Adds a trace behind the others. Where memory runs out it comes back, and nothing changes.
+    pub fn augment(&mut self, trace: Trace) -> Result<(), Trace>
+        requires admitted { IsTrue (admits trace.items (scratch self.old.traces)) }
+        requires within { IsTrue (items_within trace.items) }
+        requires once { IsTrue (asks_once [] trace.items) }
+        requires short { length trace.items ≤ most_items }
+        requires room { length self.old.traces + 1 < 2 ^ 32 }
+        ensures ok { OnOk result (self.new ≡ with_those (self.old.traces ++ trace ∷ []) self.old) }
+        ensures err { IfErr result (λ back. back ≡ trace) }
+        ensures unchanged { OnErr result (self.new ≡ self.old) }
+    {
+        let more = self.list.then(&trace);
+        scratch_laws();
+        self.tree.augment(trace)?;
+        self.list = more;
+        Ok(())
+    }
+
+    /// Removes the traces of which a recorded cell has another value.
+    pub fn prune(&mut self, scene: &Scene)
+        ensures { self.new ≡ with_those (those (is_current (cell_in scene.now)) self.old.traces) self.old }
+    {
+        self.list = self.list.current(scene);
+        let _gone = prune(&mut self.tree, scene);
+    }
+
+    /// Removes all traces.
+    pub fn clear(&mut self)
+        ensures { self.new ≡ with_those [] self.old }
+    {
+        scratch_laws();
+        self.tree = Tree::new(self.alloc);
+        self.list = TraceList::new();
+    }
+
+    /// The leaf of the trace that a key meets.
+    pub fn search(&self, key: &Key) -> Option<&Leaf>
+        ensures { option_copied result ≡ leaf_found self.now.traces key.now }
+    {
+        scratch_laws();
+        self.tree.search(key)
+    }
+}
