@@ -1,10 +1,9 @@
 //! The machine of the controller: what it does at each entry.
 #![tactic(auto)]
 
-pub mod entry;
-pub mod note;
-pub mod reply;
+mod connection;
+mod machine;
+mod parts;
 
-pub use entry::{Entry, Input, JobItem};
-pub use note::Note;
-pub use reply::{Differs, Reply};
+pub use machine::Core;
+pub use machine_steps::{Differs, Entry, Input, JobItem, Note, Reply};

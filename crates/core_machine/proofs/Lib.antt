@@ -1,0 +1,14 @@
+pub mod Aiming
+pub mod Closing
+pub mod Features
+pub mod Heard
+pub mod Hearing
+pub mod Joining
+pub mod Keyed
+pub mod Listing
+pub mod OneSession
+pub mod Opening
+pub mod Reaching
+pub mod Retiring
+pub mod Sessions
+pub mod Taking

@@ -1,0 +1,15 @@
+use Rattle.std.proofs.Common.{◌≡◌, sym, ap, ◌∙◌, subst, None}
+use Rattle.std.specs.Prelude.{MatchOption, position}
+use Rattle.core_machine.specs.declared.connection.Connection.{Connection}
+use Rattle.core_machine.specs.Kept.{IsKeptAt, is_kept}
+use Rattle.machine_steps.specs.Machine.{State}
+use Rattle.core_machine.specs.Seen.{session_of}
+use Rattle.machine_steps.specs.Steps.{kept_at}
+use Rattle.core_machine.proofs.Sessions.{kept_place_is}
+use Rattle.core_machine.proofs.parts.Parts.kept_index.Goals as goal
+
+pub returns : goal.returns
+returns c =
+    let place = c.kept_place.ensures ∙ ap (position (λ (k : Connection). is_kept c.args.connection (session_of k))) c.deref.ensures.value in
+    subst (λ o. MatchOption o (kept_at c.args.connection c.args.self.now ≡ None) (λ at. IsKeptAt c.args.connection at c.args.self.now))
+    (sym place) (kept_place_is c.self.inside.sessions.items c.args.self.now (ap (λ (m : State). m.sessions) c.self.view_is) c.args.connection)

@@ -1,0 +1,8 @@
+use Rattle.std.proofs.Common.{◌≤◌, sym, ◌∙◌, subst, length}
+use Rattle.env_cells.specs.FewNames.{few_names}
+use Rattle.core_machine.proofs.parts.reaching.tables_of.Goals as goal
+
+pub returns-clause-room : goal.returns-clause-room
+returns-clause-room c =
+    let e = c.new-names.ensures ∙ c.in_ok-from_slice.ensures.items ∙ c.items.ensures ∙ c.tables.ensures.tables in
+    few_names c.new-names.result (subst (λ l. length l ≤ 16) (sym e) c.tables.ensures.few)

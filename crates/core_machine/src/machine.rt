@@ -1,0 +1,94 @@
+// The machine, a step an entry.
+ghost use Rattle.std.specs.Prelude.{◌≡◌, false, IfOk, OnOk};
+ghost use Rattle.env_cells.specs.Changes.{applied};
+ghost use Rattle.env_cells.specs.declared.updates.Update.TheVariants.{Tables as TablesOf};
+ghost use Rattle.machine_steps.specs.Admitting.{Admits};
+ghost use Rattle.machine_steps.specs.Laws.{is_to_come};
+ghost use Rattle.machine_steps.specs.Machine.{opening};
+ghost use Rattle.machine_steps.specs.Sound.{AreInRange};
+ghost use Rattle.machine_steps.specs.Steps.{Steps};
+
+use crate::parts::Parts;
+use env_cells::Update;
+use machine_steps::{Entry, Reply, machine_laws};
+use maple_base::{Names, NoMemory, Settings};
+use policy_lang::Policy;
+use std::alloc::Global;
+use std::marker::Model;
+use std::sync::Arc;
+use topo_paths::Scene;
+
+/// The machine of the controller: connections of switches with their sessions, what is known of the network, the policy
+/// in force, and the report. Between steps it is sound: each live session heads for the rules of its switch's traces.
+#[derive(Drop)]
+pub struct Core {
+    parts: Parts,
+}
+
+impl Model for Core {
+    ghost use Rattle.std.specs.Coded.{codes};
+    ghost use Rattle.core_machine.specs.contracts.parts.Parts as parts_of;
+    ghost use Rattle.machine_steps.specs.Machine.{State};
+    ghost use Rattle.machine_steps.specs.Sound.{IsSound};
+
+    ghost Value = { State };
+
+    ghost coded = { parts_of.the_row.coded };
+
+    ghost view = { λ a. a.parts };
+
+    ghost invariant = { λ a. IsSound a.parts };
+}
+
+impl Core {
+    /// A machine without connections, in state 0, in which the policy's tables are empty.
+    ///
+    /// # Errors
+    ///
+    /// `NoMemory`.
+    pub fn new(alloc: Global, policy: Policy, settings: Settings) -> Result<Core, NoMemory>
+        requires ranges { AreInRange settings }
+        ensures { IfOk result (λ core. core ≡ opening policy settings) }
+    {
+        machine_laws();
+        let mut scene = Scene::new(alloc)?;
+        declare_tables(alloc, &mut scene, &policy)?;
+        let parts = Parts {
+            alloc,
+            settings,
+            earlier: Vec::new(alloc),
+            policy: Arc::new(alloc, policy)?,
+            states: Vec::new(alloc),
+            scene,
+            learned: Vec::new(alloc),
+            sessions: Vec::new(alloc),
+            opened: Vec::new(alloc),
+            jobs: Vec::new(alloc),
+            job_count: 0,
+            trace_count: 0,
+            lines: Vec::new(alloc),
+        };
+        Ok(Core { parts })
+    }
+
+    /// Does what an entry asks, and answers. Where memory doesn't suffice nothing changes.
+    pub fn step(&mut self, entry: Entry) -> Reply
+        requires admits { Admits self.old entry }
+        requires now { is_to_come entry ≡ false }
+        ensures step { Steps self.old entry result self.new }
+    {
+        machine_laws();
+        self.parts.step(entry)
+    }
+}
+
+// The tables that the policy names are there and no others.
+fn declare_tables(alloc: Global, scene: &mut Scene, policy: &Policy) -> Result<(), NoMemory>
+    ensures { OnOk result (scene.new ≡ applied scene.old (TablesOf policy.now.tables)) }
+{
+    let names = Names::new(Vec::from_slice(alloc, policy.tables().items())?);
+    let Ok(()) = scene.apply(&Update::Tables(names)) else {
+        return Err(NoMemory);
+    };
+    Ok(())
+}
