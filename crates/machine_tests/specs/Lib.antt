@@ -1,2 +1,3 @@
 -- Tests of what the calls that are tested require.
+pub mod Entries
 pub mod Targets

@@ -1,10 +1,18 @@
-//! Tests of how switches are led from one list of rules to another.
+//! Tests of how switches are led from one list of rules to another, and of the machine that leads them.
 #![tactic(auto)]
 
 #[cfg(test)]
+mod entries;
+#[cfg(test)]
 mod hexadecimal;
 #[cfg(test)]
+mod machine;
+#[cfg(test)]
+mod notes;
+#[cfg(test)]
 mod plans;
+#[cfg(test)]
+mod replies;
 #[cfg(test)]
 mod rules;
 #[cfg(test)]

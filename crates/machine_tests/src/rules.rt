@@ -77,6 +77,16 @@ pub fn number(word: &str) -> Result<u16, Fail> {
     Ok(u16::try_from(long_number(word)?)?)
 }
 
+/// A number of 8 bits.
+pub fn small_number(word: &str) -> Result<u8, Fail> {
+    Ok(u8::try_from(long_number(word)?)?)
+}
+
+/// A number of 32 bits.
+pub fn middle_number(word: &str) -> Result<u32, Fail> {
+    Ok(u32::try_from(long_number(word)?)?)
+}
+
 /// A number of 64 bits.
 pub fn long_number(word: &str) -> Result<u64, Fail> {
     match value_of(word.as_bytes()) {

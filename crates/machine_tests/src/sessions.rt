@@ -9,6 +9,7 @@ use maple_base::{Actions, Bytes, Port};
 use of10_codec::{Message, decode};
 use std::alloc::{AllocError, Global};
 use std::test::Fail;
+use std::thread::{Threads, join};
 use switch_session::{End, Heard, Phase, Session};
 
 // Calls, one after the other, with what each tells. `open` begins a session, for a switch with room for so many rules.
@@ -252,6 +253,31 @@ hear 010c00400000000002000000000000000003000000000000000000000000000000000000000
 hear 010c0040000000000200000000000000ff0000000000000000000000000000000000000000000000000000000000000000000000000000000000000000000000 = port 65280 true
 hear 010c0040000000000000000000000000ff0100000000000000000000000000000000000000000000000000000000000000000000000000000000000000000000 = passed
 hear 010c0040000000000000000000000000000000000000000000000000000000000000000000000000000000000000000000000000000000000000000000000000 = passed
+# a start that is given up leaves the session as it was before the switch's number came, an update that is given up behind a part as it was before
+open 5
+hear 0100000800000007 = passed
+hear 0106002000000001000000000000000700000000000000000000000000000000 = features 7
+prepare 1 out2 tcp 3 drop ssh 2 barrier ssh
+stands = false false 7
+forget
+phase = second
+stands = false false 0
+hear 0106002000000001000000000000000700000000000000000000000000000000 = features 7
+stands = false false 7
+accept
+list = 0 0 8,5 0 8,9 0 12,14 1 72,18 2 8,
+hear 0113000800000002 = ready
+aim 1 out2 tcp 3 drop ssh 2 barrier ssh
+list = 14 3 80,18 4 8,
+prepare 1 out3 in1
+forget
+phase = live
+stands = true false 7
+hear 0113000800000004 = done
+list = 14 5 80,14 6 72,18 7 8,
+hear 0113000800000007 = done
+stands = false false 7
+list
 # an addition carries its rule's cookie and idle time, a deletion none
 open 1
 hear 0100000800000007 = passed
@@ -294,6 +320,8 @@ fn told(alloc: Global, session: &mut Session, call: &str, argument: &str) -> Res
         "hear" => push_heard(&mut text, &hear(alloc, session, argument)?)?,
         "accept" => accept(alloc, session, argument)?,
         "aim" => aim(alloc, session, argument)?,
+        "prepare" => prepare(alloc, session, argument)?,
+        "forget" => session.forget(),
         "answer" => answer(alloc, session, argument)?,
         "longest" => answer_longest(alloc, session)?,
         "end" => session.end(),
@@ -315,7 +343,8 @@ fn hear(alloc: Global, session: &mut Session, digits: &str) -> Result<Heard, Fai
     Ok(heard)
 }
 
-fn message_of(alloc: Global, bytes: &[u8]) -> Result<Message, Fail>
+/// The message that bytes spell.
+pub fn message_of(alloc: Global, bytes: &[u8]) -> Result<Message, Fail>
     ensures { IfOk result (λ message. CanBeHeard message) }
 {
     match decode(alloc, bytes) {
@@ -346,7 +375,21 @@ fn aim(alloc: Global, session: &mut Session, rules: &str) -> Result<(), Fail> {
     let Ok(aim) = session.prepare(&list) else {
         return Err(Fail::from("memory"));
     };
-    session.aim(sent(aim));
+    session.aim(aim);
+    Ok(())
+}
+
+// Plans an update, or the first one of a session that waits to be accepted, and has none of it sent.
+fn prepare(alloc: Global, session: &mut Session, rules: &str) -> Result<(), Fail> {
+    let list = session_list(alloc, rules, session.capacity())?;
+    let lacks = match session.phase() {
+        Phase::Second => session.prepare_start(&list).is_err(),
+        Phase::Live if !session.quiet() => session.prepare(&list).is_err(),
+        _ => return Err(Fail::from("phase")),
+    };
+    if lacks {
+        return Err(Fail::from("memory"));
+    }
     Ok(())
 }
 
@@ -440,8 +483,8 @@ fn push_end(text: &mut String, end: End) -> Result<(), AllocError> {
     }
 }
 
-// The messages of an outbox: type, number and length of each.
-fn push_list(text: &mut String, bytes: &[u8]) -> Result<(), AllocError> {
+/// Appends the type, the number and the length of each message of an outbox.
+pub fn push_list(text: &mut String, bytes: &[u8]) -> Result<(), AllocError> {
     let mut rest = bytes;
     while rest.len() >= 8 {
         let len = (rest[2] as usize * 256 + rest[3] as usize).clamp(8, rest.len());
@@ -472,10 +515,9 @@ fn step(alloc: Global, session: &mut Session, line: &str) -> Result<(), Fail> {
     }
 }
 
-// The value itself, of a type that may go to another thread.
-fn sent<T: Send>(value: T) -> T
-    ensures { result ≡ value }
-{
+/// The value, behind a stay in another thread.
+pub fn and_back<T: Drop + Send>(rt: &impl Threads, value: T) -> T {
+    let (value, ()) = join(rt, move || value, || ());
     value
 }
 
@@ -486,14 +528,14 @@ fn open(alloc: Global, capacity: &str) -> Result<Session, Fail> {
     }
 }
 
-fn play(alloc: Global, rows: &str) -> Result<(), Fail> {
+fn play(rt: &impl Threads, alloc: Global, rows: &str) -> Result<(), Fail> {
     let mut session = open(alloc, "0")?;
     for line in rows.split('\n') {
         if line.starts_with('#') {
             continue;
         }
         match line.strip_prefix("open ") {
-            Some(capacity) => session = open(alloc, capacity)?,
+            Some(capacity) => session = and_back(rt, open(alloc, capacity)?),
             None => step(alloc, &mut session, line)?,
         }
     }
@@ -502,5 +544,5 @@ fn play(alloc: Global, rows: &str) -> Result<(), Fail> {
 
 #[test]
 fn sessions(rt: HostRuntime) -> Result<(), Fail> {
-    play(rt.alloc(), ROWS)
+    play(&rt, rt.alloc(), ROWS)
 }
