@@ -13,12 +13,11 @@ mod takes;
 
 use crate::connection::Connection;
 use machine_steps::Job;
-use maple_base::Settings;
+use maple_base::{Settings, Witness};
 use policy_lang::Policy;
 use report_text::Line;
 use std::alloc::Global;
 use std::marker::Model;
-use std::snapshot::Snapshot;
 use std::sync::Arc;
 use switch_traces::SwitchTraces;
 use topo_paths::Scene;
@@ -26,8 +25,8 @@ use topo_paths::Scene;
 /// A state that was, which only proofs read.
 #[derive(Drop)]
 pub struct Past {
-    pub policy: Snapshot<u64>,
-    pub scene: Snapshot<Scene>,
+    pub policy: Witness<u64>,
+    pub scene: Witness<Scene>,
 }
 
 /// All that the machine keeps.
@@ -35,7 +34,7 @@ pub struct Past {
 pub struct Parts {
     pub alloc: Global,
     pub settings: Settings,
-    pub earlier: Vec<Snapshot<Policy>>,
+    pub earlier: Vec<Witness<Policy>>,
     pub policy: Arc<Policy>,
     pub states: Vec<Past>,
     pub scene: Scene,

@@ -38,7 +38,6 @@ mod log;
 mod outbox;
 mod part;
 mod parts;
-mod seen;
 mod session;
 mod told;
 

@@ -1,8 +1,7 @@
 // The parts of an update.
 ghost use Rattle.std.specs.Prelude.{◌≡◌};
 
-use crate::seen::Seen;
-use maple_base::{Mods, RuleList};
+use maple_base::{Mods, RuleList, Witness};
 use std::marker::Model;
 
 /// A part of an update, which leaves with a barrier behind it.
@@ -17,8 +16,8 @@ pub enum Part {
 /// The lists from and to which an update leads. Only proofs read them.
 #[derive(Drop)]
 pub struct UpdateLists {
-    from: Seen<RuleList>,
-    to: Seen<RuleList>,
+    from: Witness<RuleList>,
+    to: Witness<RuleList>,
 }
 
 impl Model for UpdateLists {
@@ -46,8 +45,8 @@ impl UpdateLists {
         ensures { result ≡ record { from = from.now; to = to.now } }
     {
         UpdateLists {
-            from: Seen::of(from),
-            to: Seen::of(to),
+            from: Witness::of(from),
+            to: Witness::of(to),
         }
     }
 }

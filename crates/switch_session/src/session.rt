@@ -10,10 +10,9 @@ mod sending;
 use crate::outbox::Outbox;
 use crate::part::UnderWay;
 use crate::parts::{Aim, CLEARING_ROOM, Parts, no_rules};
-use crate::seen::Seen;
 use crate::told::Phase;
 pub use aiming::Start;
-use maple_base::{NoMemory, RuleList};
+use maple_base::{NoMemory, RuleList, Witness};
 use of10_codec::{BodyRef, MessageRef, VERSION};
 use std::alloc::Global;
 use std::marker::Model;
@@ -32,7 +31,7 @@ pub struct Session {
     to_come: Parts,
     target: RuleList,
     next: Option<Aim>,
-    prepared: Option<Seen<Aim>>,
+    prepared: Option<Witness<Aim>>,
     prepared_room: usize,
     used: u32,
     taken: u32,

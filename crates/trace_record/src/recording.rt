@@ -11,13 +11,12 @@ ghost use Rattle.trace_record.specs.declared.recording.RecordError.TheVariants.{
 
 use crate::recorder::walked;
 use expr_eval::Refusal;
-use maple_base::{Cells, EnvView, Items, Key, NoMemory, Outcome};
+use maple_base::{Cells, EnvView, Items, Key, NoMemory, Outcome, Witness};
 use policy_lang::Policy;
 use policy_meaning::laws::meaning_laws;
 use question_tree::laws::reading_laws;
 use std::alloc::Global;
 use std::marker::Model;
-use std::snapshot::Snapshot;
 use thiserror::Error;
 
 /// A run of a policy: what it asked of its packet and of its environment, with the answers, and what it
@@ -31,7 +30,7 @@ pub struct Run {
     cells: Cells,
     outcome: Outcome,
     budget: u32,
-    policy: Snapshot<Policy>,
+    policy: Witness<Policy>,
 }
 
 impl Model for Run {
@@ -183,6 +182,6 @@ pub fn record<V: EnvView>(
         cells: notes.cells.into_cells(),
         outcome,
         budget,
-        policy: Snapshot::of(policy),
+        policy: Witness::of(policy),
     })
 }

@@ -21,11 +21,10 @@ use super::{Parts, Past};
 use crate::connection::Connection;
 use env_cells::{Update, UpdateError};
 use machine_steps::Reply;
-use maple_base::{Names, NoMemory};
+use maple_base::{Names, NoMemory, Witness};
 use policy_lang::Policy;
 use report_text::Line;
 use std::alloc::Global;
-use std::snapshot::Snapshot;
 use std::sync::Arc;
 use topo_paths::Scene;
 
@@ -106,7 +105,7 @@ impl Parts {
         let state = make_room_for_state(&mut self.lines, &mut self.states, &self.sessions)?;
         self.earlier.reserve(1)?;
         let past = past_of(self.earlier.len() as u64, &self.scene);
-        let before = Snapshot::of(&*self.policy);
+        let before = Witness::of(&*self.policy);
         let policy = Arc::new(self.alloc, policy)?;
         let pruned = count_gone(&self.learned, &Left::Nothing)?;
         make_ready(
@@ -141,8 +140,8 @@ fn past_of(policy: u64, scene: &Scene) -> Past
     ensures { seen_past result ≡ record { policy = policy; scene = scene.now } }
 {
     Past {
-        policy: Snapshot::of(&policy),
-        scene: Snapshot::of(scene),
+        policy: Witness::of(&policy),
+        scene: Witness::of(scene),
     }
 }
 

@@ -8,9 +8,8 @@ ghost use Rattle.switch_session.specs.Room.{start_room};
 use super::{Session, owed};
 use crate::part::UpdateLists;
 use crate::parts::{Aim, CLEARING_ROOM, Parts, aim_at};
-use crate::seen::Seen;
 use crate::told::Phase;
-use maple_base::{NoMemory, RuleList};
+use maple_base::{NoMemory, RuleList, Witness};
 use of10_codec::{BodyRef, MessageRef};
 use std::marker::Model;
 
@@ -38,7 +37,7 @@ impl Session {
         self.outbox
             .reserve(owed(&self.to_come, &self.next, room, self.quiet))?;
         self.prepared_room = room;
-        self.prepared = Some(Seen::of(&aim));
+        self.prepared = Some(Witness::of(&aim));
         Ok(aim)
     }
 

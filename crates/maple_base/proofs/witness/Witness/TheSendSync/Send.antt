@@ -1,7 +1,7 @@
--- A seen value owns nothing, so it may go to another thread.
+-- A witness owns nothing, so it may go to another thread.
 use denote.RattleType.{RattleType}
 use denote.Param.Send.{IsSend}
-use Rattle.switch_session.specs.contracts.seen.Seen.{the_row}
+use Rattle.maple_base.specs.contracts.witness.Witness.{the_row}
 
 pub send : (T : RattleType) → IsSend (the_row T)
 send T = record { owned = λ d vs. ((λ vss. (tt, ((λ uss. (tt, tt)), tt))), tt); leaving = λ k d w. tt }

@@ -33,10 +33,10 @@ use denote.Triple.Entry.{on_entry, alive}
 use denote.Triple.Spec.{Meets, triple_of}
 use denote.Triple.Table.{entered}
 use denote.Triple.Walked.{says, Stays, stay_dropped, walk_of, ends_at, Goes-dropped, walk_Meets}
-use Rattle.switch_session.specs.contracts.seen.Seen.of.{ended, clauses}
-use Rattle.switch_session.specs.contracts.seen.Seen.of.Key.{name as #self}
-use Rattle.switch_session.proofs.seen.Seen.of.Statement as stated
-use Rattle.switch_session.proofs.seen.Seen.of.Code as code
+use Rattle.maple_base.specs.contracts.witness.Witness.of.{ended, clauses}
+use Rattle.maple_base.specs.contracts.witness.Witness.of.Key.{name as #self}
+use Rattle.maple_base.proofs.witness.Witness.of.Statement as stated
+use Rattle.maple_base.proofs.witness.Witness.of.Code as code
 
 module _ (Y : RattleType) where
   abbrev R : RattleType

@@ -6,24 +6,24 @@ use std::marker::{Model, PhantomData};
 
 /// A value as it was seen. It takes no memory, and may go to another thread whatever the value may.
 #[derive(Drop)]
-pub struct Seen<T> {
+pub struct Witness<T> {
     marker: PhantomData<T>,
     pub ghost value: { T },
 }
 
-impl<T> Model for Seen<T> {
+impl<T> Model for Witness<T> {
     ghost also_owns = { λ _. ftrue };
 }
 
 // It owns nothing.
-unsafe impl<T> Send for Seen<T> {}
+unsafe impl<T> Send for Witness<T> {}
 
-impl<T> Seen<T> {
-    pub fn of(x: &T) -> Seen<T>
+impl<T> Witness<T> {
+    pub fn of(x: &T) -> Witness<T>
         ensures { result.value ≡ x.now }
     {
         let _ = x;
-        Seen {
+        Witness {
             marker: PhantomData,
         }
     }
