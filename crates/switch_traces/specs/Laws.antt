@@ -1,8 +1,10 @@
--- What holds of the rules of traces that a switch can be led to.
-use Rattle.std.specs.Prelude.{◌≡◌, ℕ, Bool, List, []}
+-- What holds of traces, and of the rules of traces that a switch can be led to.
+use Rattle.std.specs.Prelude.{◌≡◌, ℕ, ◌<◌, Bool, List, [], ◌∷◌, ◌++◌}
+use Rattle.std.specs.List.{AllByRecursion}
 use Rattle.maple_base.specs.RuleLists.{Rules}
 use Rattle.trace_tree.specs.declared.node.Leaf.{Leaf}
 use Rattle.trace_tree.specs.declared.node.Trace.{Trace}
+use Rattle.trace_tree.specs.Stands.{has_other_number}
 use Rattle.update_plan.specs.Batches.{no_rules}
 use Rattle.switch_session.specs.Parts.{IsList}
 use Rattle.switch_traces.specs.Traces.{those}
@@ -21,3 +23,8 @@ pub record NoneAreFit : Type 0 where
   pub fit : (capacity : ℕ) → AreFit capacity []
   pub rules : AreRulesOf [] no_rules
   pub only : (rules : Rules) → AreRulesOf [] rules → rules ≡ no_rules
+
+-- the trace that was put in last is the one that its number takes out
+abbrev pub LastGoes : Type 0
+LastGoes = (traces : List Trace) (r : Trace) → AllByRecursion (λ (x : Trace). x.number < r.number) traces
+    → those (has_other_number r.number) (traces ++ r ∷ []) ≡ traces

@@ -2,6 +2,7 @@
 ghost use Rattle.std.specs.Prelude.{◌≡◌, List, [], ◌∷◌, ◌++◌};
 ghost use Rattle.std.specs.Borrow.{ftrue};
 ghost use Rattle.trace_tree.specs.declared.node.Trace.{Trace as TraceData};
+ghost use Rattle.trace_tree.specs.Stands.{has_other_number};
 ghost use Rattle.topo_paths.specs.Scenes.{cell_in};
 ghost use Rattle.tree_prune.specs.Current.{is_current};
 ghost use Rattle.switch_traces.specs.Coding.{traces_code};
@@ -34,6 +35,13 @@ impl TraceList {
     /// Those of which each recorded cell has its recorded value.
     pub fn current(&self, _scene: &Scene) -> TraceList
         ensures { result.traces ≡ those (is_current (cell_in _scene.now)) self.now.traces }
+    {
+        TraceList {}
+    }
+
+    /// Those that have another number.
+    pub fn others(&self, _number: u64) -> TraceList
+        ensures { result.traces ≡ those (has_other_number _number) self.now.traces }
     {
         TraceList {}
     }

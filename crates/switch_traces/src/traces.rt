@@ -1,19 +1,23 @@
 // The traces of a switch.
-ghost use Rattle.std.specs.Prelude.{◌≡◌, ◌≤◌, ◌<◌, ◌+◌, ◌^◌, ◌++◌, [], ◌∷◌, length, IsTrue, IfOk, IfErr, OnOk, OnErr, option_copied};
-ghost use Rattle.std.specs.Option.{option_map};
+ghost use Rattle.std.specs.Prelude.{◌≡◌, ◌≢◌, ◌≤◌, ◌<◌, ◌+◌, ◌^◌, ◌++◌, [], ◌∷◌, length, IsTrue, Ok, IfOk, IfErr, OnOk, OnErr, option_copied};
 ghost use Rattle.maple_base.specs.Limits.{most_items};
 ghost use Rattle.maple_base.specs.Questions.{asks_once};
 ghost use Rattle.topo_paths.specs.Scenes.{cell_in};
 ghost use Rattle.trace_tree.specs.Bounds.{items_within};
 ghost use Rattle.trace_tree.specs.Growth.{scratch, admits, leaf_found};
+ghost use Rattle.trace_tree.specs.Stands.{has_other_number};
 ghost use Rattle.tree_prune.specs.Current.{is_current};
 ghost use Rattle.priority_plan.specs.Rules.{level_limit, levels_of, rules_needed};
+ghost use Rattle.report_text.specs.declared.line.Learnt.TheVariants.{Learned};
 ghost use Rattle.switch_traces.specs.Traces.{those, with_those};
 ghost use Rattle.switch_traces.specs.Lists.{AreRulesOf};
+ghost use Rattle.switch_traces.specs.Learning.{CanTake, judged};
 
+use crate::laws::traces_laws;
 use crate::list::TraceList;
 use maple_base::{EnvNow, Key, NoMemory, RuleList};
 use priority_plan::{levels, rules_needed};
+use report_text::Learnt;
 use rule_builder::{rules, rules_where};
 use std::alloc::Global;
 use std::marker::Model;
@@ -137,6 +141,65 @@ impl SwitchTraces {
         self.tree.augment(trace)?;
         self.list = more;
         Ok(())
+    }
+
+    /// Puts a trace behind the others, where their rules with it keep to so many levels and rules and
+    /// the switch isn't `quiet`, and says what becomes of it.
+    ///
+    /// # Errors
+    ///
+    /// `NoMemory`.
+    pub fn learn(
+        &mut self,
+        trace: Trace,
+        levels: u32,
+        capacity: u32,
+        quiet: bool,
+    ) -> Result<Learnt, NoMemory>
+        requires can { CanTake self.old.traces trace }
+        ensures judged { IfOk result (λ learnt. learnt ≡ judged levels capacity quiet (self.old.traces ++ trace ∷ [])) }
+        ensures learned { result ≡ Ok Learned → self.new ≡ with_those (self.old.traces ++ trace ∷ []) self.old }
+        ensures kept { result ≢ Ok Learned → self.new ≡ self.old }
+    {
+        traces_laws();
+        let number = trace.number;
+        let Ok(()) = self.augment(trace) else {
+            return Err(NoMemory);
+        };
+        let learnt = self.judge(levels, capacity, quiet);
+        if learnt != Learnt::Learned {
+            self.retire(number);
+        }
+        Ok(learnt)
+    }
+
+    // What becomes of the last trace, where these are the limits.
+    fn judge(&self, levels: u32, capacity: u32, quiet: bool) -> Learnt
+        ensures { result ≡ judged levels capacity quiet self.now.traces }
+    {
+        let need = self.levels();
+        if need > levels as u64 {
+            return Learnt::Levels {
+                need,
+                limit: levels,
+            };
+        }
+        let need = self.rules_needed();
+        if need > capacity as u64 {
+            return Learnt::Rows { need, capacity };
+        }
+        if quiet {
+            return Learnt::Quiet;
+        }
+        Learnt::Learned
+    }
+
+    /// Takes out the trace of this number.
+    pub fn retire(&mut self, number: u64)
+        ensures { self.new ≡ with_those (those (has_other_number number) self.old.traces) self.old }
+    {
+        self.list = self.list.others(number);
+        self.tree.retire(number);
     }
 
     /// Removes the traces of which a recorded cell has another value.
