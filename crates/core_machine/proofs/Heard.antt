@@ -1,6 +1,7 @@
 -- What a session makes of a message: what stays of it, and how many lines are still due then.
 use Rattle.std.proofs.Common.{◌≡◌, ℕ, ◌+◌, ◌<◌, ◌≤◌, Bool, true, false, not, ◌&&◌, Option, Some, None, Ok, Err, List, [], ◌∷◌, length, inl, inr, refl, sym, ap, ◌∙◌, subst, arith}
 use Rattle.std.specs.Prelude.{if◌then◌else◌, ◌==◌, nat_le}
+use Rattle.std.proofs.Math.ListN.{length-drop}
 use Rattle.std.specs.List.{All}
 use Rattle.maple_base.specs.declared.cells.Port.{Port}
 use Rattle.maple_base.specs.NetworkOrder.{number_at}
@@ -24,9 +25,8 @@ use Rattle.maple_base.specs.RuleLists.{Rules}
 use Rattle.switch_session.specs.Parts.{Update, version_refusal}
 use Rattle.switch_session.specs.Sessions.{leaves, next_starts, onward, clears_behind, breaks_off, ended, put}
 use Rattle.switch_session.specs.Calls.{Answer, Passes, Lacks, HearsHello, HearsEcho, HearsFeatures, HearsPacket, HearsPort, HearsReply, HearsError, HearsBody, CanBeHeard, Hears, is_awaited, acknowledged_by, is_live as is_live_phase}
-use Rattle.machine_steps.specs.Laws.{is_packet}
 use Rattle.machine_steps.specs.Machine.{Session, is_live, is_open, has_ended}
-use Rattle.core_machine.specs.Seen.{due}
+use Rattle.machine_sessions.specs.Sessions.{due}
 use Rattle.machine_steps.specs.Steps.{is_spared}
 
 -- ---- what stays of a session
@@ -80,11 +80,17 @@ broken_alike s = cleared_alike s.under_way s.target (record s { quiet = true; ta
 
 -- ---- what is made of a message
 
+-- a PACKET_IN with this buffer, port and bytes
+pub record IsPacket (buffer in_port : ℕ) (frame : List ℕ) (b : Body) : Type 0 where
+  pub total : ℕ
+  pub reason : ℕ
+  pub is : b ≡ body.PacketIn buffer total in_port reason frame
+
 -- by what the session makes of a message with this body: what stays, and the cause
 abbrev pub MadeOf : Body → Heard → Session → Session → Type 0
 MadeOf b heard.Passed s t = Alike s t
 MadeOf b (heard.Features dpid ports) s t = (s.phase ≡ Second) × (t ≡ record s { dpid = Some dpid }) × (b ≡ body.FeaturesReply dpid ports)
-MadeOf b (heard.PacketIn buffer in_port frame) s t = (t ≡ s) × (is_packet b ≡ true)
+MadeOf b (heard.PacketIn buffer in_port frame) s t = (t ≡ s) × IsPacket buffer in_port frame b
 MadeOf b (heard.Port port up) s t = (t ≡ s) × (is_live s ≡ true)
 MadeOf b (heard.Acknowledged true) s t = Readied s t × (s.ready ≡ false)
 MadeOf b (heard.Acknowledged false) s t = Readied s t × (s.ready ≡ true)
@@ -129,7 +135,7 @@ made_features dpid ports b s t a is (inl (second, e, k)) = to b (heard.Features 
 made_features dpid ports b s t a is (inr (inl (second, l))) = lacked b s t a l
 made_features dpid ports b s t a is (inr (inr (later, p))) = passed b s t a p
 
-made_packet : (buffer in_port : ℕ) (frame : List ℕ) (b : Body) (s t : Session) (a : Answer) → is_packet b ≡ true → HearsPacket buffer in_port frame s a t → Made b a s t
+made_packet : (buffer in_port : ℕ) (frame : List ℕ) (b : Body) (s t : Session) (a : Answer) → IsPacket buffer in_port frame b → HearsPacket buffer in_port frame s a t → Made b a s t
 made_packet buffer in_port frame b s t a is (inl (live, e, k)) = to b (heard.PacketIn buffer in_port frame) s t a e (k, is)
 made_packet buffer in_port frame b s t a is (inr (inl (live, l))) = lacked b s t a l
 made_packet buffer in_port frame b s t a is (inr (inr (early, p))) = passed b s t a p
@@ -171,7 +177,7 @@ made_body xid (body.Hello version) s t a h = made_hello xid version _ s t a h
 made_body xid (body.Error kind code bytes) s t a h = made_error xid kind code bytes _ s t a refl h
 made_body xid (body.EchoRequest bytes) s t a h = made_echo xid bytes _ s t a h
 made_body xid (body.FeaturesReply dpid ports) s t a h = made_features dpid ports _ s t a refl h
-made_body xid (body.PacketIn buffer total in_port reason bytes) s t a h = made_packet buffer in_port bytes _ s t a refl h
+made_body xid (body.PacketIn buffer total in_port reason bytes) s t a h = made_packet buffer in_port bytes _ s t a (record { total = total; reason = reason; is = refl }) h
 made_body xid (body.PortStatus reason port) s t a h = made_port reason port _ s t a h
 made_body xid body.BarrierReply s t a h = made_reply xid _ s t a h
 made_body xid b s t a h = passed b s t a h
@@ -265,3 +271,11 @@ few_ports m dpid ports h e =
     let features = subst (λ (b : Body). SpellsBody b h.bytes) e h.spelled.body in
     let long : 4 ≤ length h.bytes = omega (arith, header.long) in
     omega (arith, two_bytes h.bytes h.are_bytes long, header.whole, features.len)
+
+-- the bytes of a packet are fewer than its message's
+pub small_packet : (m : Message) (buffer in_port : ℕ) (frame : List ℕ) → CanBeHeard m → IsPacket buffer in_port frame m.body → length frame ≤ 65535
+small_packet m buffer in_port frame h is =
+    let header = h.spelled.header in
+    let packet = subst (λ (b : Body). SpellsBody b h.bytes) is.is h.spelled.body in
+    let long : 4 ≤ length h.bytes = omega (arith, header.long) in
+    omega (arith, two_bytes h.bytes h.are_bytes long, header.whole, ap length packet.rest, length-drop 18 h.bytes)

@@ -1,11 +1,10 @@
 -- What hearing a message does to the machine's sessions, and the room for lines that it leaves.
-use Rattle.std.proofs.Common.{◌≡◌, ℕ, zero, suc, ◌+◌, ◌<◌, ◌≤◌, Bool, true, false, Option, Some, None, Result, Ok, Err, OnErr, List, [], ◌∷◌, ◌++◌, length, filter, not, map, set, get_or, append-nil, unwrap_or, inl, inr, refl, sym, ap, ap₂, ◌∙◌, subst, subst₂, arith}
+use Rattle.std.proofs.Common.{◌≡◌, ℕ, zero, suc, ◌+◌, ◌<◌, ◌≤◌, Bool, true, false, Option, Some, None, Result, Ok, Err, IfOk, OnErr, List, [], ◌∷◌, ◌++◌, length, filter, not, map, set, append-nil, unwrap_or, inl, inr, refl, sym, ap, ap₂, ◌∙◌, subst, subst₂, arith}
 use Rattle.std.specs.Prelude.{◌⊎◌, IfSome, if◌then◌else◌, ◌==◌}
 use Rattle.std.specs.List.{AllByRecursion, AllPairs, slice_get, list_any}
 use Rattle.std.proofs.lemmas.Bool.{eqb-true, and_parts}
-use Rattle.std.proofs.lemmas.List.{map-set, length-map}
-use Rattle.std.proofs.lemmas.Option.{same_Some, slice_get_read, slice_get-map, get_or_from_slice_get}
-use Rattle.std.specs.Option.{option_map}
+use Rattle.std.proofs.lemmas.List.{length-map}
+use Rattle.std.proofs.lemmas.Option.{same_Some, get_or_from_slice_get}
 use Rattle.of10_codec.specs.declared.message.Message.{Message}
 use Rattle.of10_codec.specs.declared.message.Body.{Body}
 use Rattle.maple_base.specs.declared.cells.Port.{Port}
@@ -27,15 +26,19 @@ use Rattle.machine_steps.specs.declared.reply.Reply.{Reply}
 use Rattle.machine_steps.specs.declared.reply.Reply.TheVariants.{Done, NoMemory, Ended}
 use Rattle.core_machine.specs.Joining.{change_at, unheard, IsJoining, Joined}
 use Rattle.switch_session.specs.Sessions.{forgotten, forgets_number}
-use Rattle.machine_steps.specs.Steps.{HearsMessage, LacksForMessage, HearsOf, HearsFeatures, Updates, Lacks, is_spared, switch_of, why_of, error_lines}
-use Rattle.core_machine.specs.declared.connection.Connection.{Connection}
-use Rattle.core_machine.specs.Hearing.{HearsAt, LacksMemory, ready_lines, ready_count}
-use Rattle.machine_steps.specs.Machine.{Session, State, is_of, is_open, is_live, session_at, with_session, traces_in, put_traces}
-use Rattle.machine_steps.specs.Places.{IsAt, IsHeading, CanReach}
-use Rattle.core_machine.specs.Seen.{session_of, due, due_all}
+use Rattle.machine_steps.specs.Steps.{HearsMessage, LacksForMessage, HearsOf, HearsFeatures, HearsPacket, Updates, Lacks, is_spared, switch_of, why_of, error_lines}
+use Rattle.machine_sessions.specs.declared.connection.Connection.{Connection}
+use Rattle.core_machine.specs.Packets.{HearsPacketOf}
+use Rattle.machine_sessions.specs.Hearing.{HearsAt}
+use Rattle.core_machine.specs.Hearing.{LacksMemory}
+use Rattle.machine_report.specs.Ready.{ready_lines, ready_count}
+use Rattle.machine_steps.specs.Machine.{Session, State, is_of, is_open, session_at, with_session, traces_in, put_traces}
+use Rattle.machine_steps.specs.Places.{IsAt, CanReach}
+use Rattle.machine_sessions.specs.Sessions.{session_of, due, due_all}
 use Rattle.machine_steps.specs.Sound.{IsSound, IsInOrder, AreOthers}
-use Rattle.core_machine.proofs.Keyed.{set_by_key, find_passes}
-use Rattle.core_machine.proofs.Heard.{MadeOf, made, brings, due_made, connection_made, few_ports}
+use Rattle.machine_steps.proofs.Sound.Stepping.{can_reach}
+use Rattle.machine_sessions.proofs.Keyed.{set_by_key, find_passes}
+use Rattle.core_machine.proofs.Heard.{MadeOf, made, brings, due_made, connection_made, few_ports, small_packet}
 
 -- ---- lists
 
@@ -43,10 +46,6 @@ pub all_at : {X : Type 0} (P : X → Type 0) (xs : List X) (at : ℕ) (x : X) �
 all_at P [] at x all e = absurd (cc)
 all_at P (y ∷ ys) zero x all e = subst P (same_Some y x e) all.0
 all_at P (y ∷ ys) (suc n) x all e = all_at P ys n x all.1 e
-
-all_weaker : {X : Type 0} (P Q : X → Type 0) (xs : List X) → ((x : X) → P x → Q x) → AllByRecursion P xs → AllByRecursion Q xs
-all_weaker P Q [] f all = tt
-all_weaker P Q (x ∷ xs) f all = (f x all.0, all_weaker P Q xs f all.1)
 
 pub set_same : {X : Type 0} (xs : List X) (at : ℕ) (x : X) → slice_get xs at ≡ Some x → set xs at x ≡ xs
 set_same [] at x e = refl
@@ -79,17 +78,6 @@ due_set (u ∷ us) zero s t e = let h : due u ≡ due s = ap due (same_Some u s 
 due_set (u ∷ us) (suc n) s t e = let h = due_set us n s t e in omega (arith, h)
 
 -- ---- a message at a place
-
--- the session of an element of the machine's list
-pub heard_at : (cs : List Connection) (at : ℕ) (m : Message) (a : Answer) (entry : Connection) (t : Session) → at < length cs → entry ≡ get_or cs at entry
-    → Hears m entry.session a t → HearsAt at m (map session_of cs) a (map session_of (set cs at (record entry { session = t })))
-heard_at cs at m a entry t l e h = record {
-  session = entry.session;
-  behind = t;
-  there = slice_get-map session_of cs at ∙ ap (option_map session_of) (slice_get_read cs (length cs) at entry refl l e);
-  hears = h;
-  now_is = map-set session_of cs at (record entry { session = t });
-}
 
 behind_at : {at : ℕ} {m : Message} {xs : List Session} {a : Answer} {ys : List Session} (w : HearsAt at m xs a ys) → slice_get ys at ≡ Some w.behind
 behind_at {at = at} {xs = xs} w = ap (λ (ss : List Session). slice_get ss at) w.now_is ∙ set_there xs at w.session w.behind w.there
@@ -234,13 +222,6 @@ module _ {old : State} {c at : ℕ} {m : Message} {ys : List Session} {dpid : �
 
 -- ---- an update of a port
 
-can_reach : (m : State) → IsSound m → CanReach m
-can_reach m so = record {
-  ranges = so.ranges;
-  learned = so.learned;
-  sessions = all_weaker (IsInOrder m) (λ (s : Session). is_live s ≡ true → IsHeading m s) m.sessions (λ s o live. record { right = o.live live; idle = o.idle }) so.sessions;
-}
-
 module _ {old : State} {c at : ℕ} {m : Message} {ys : List Session} {port : ℕ} {up : Bool} (f : HasHeard old c at m ys (heard.Port port up)) where
   pub can_change : CanReach (record old { sessions = ys })
   can_change = subst CanReach (sym (stays f (made_of f).0)) (can_reach old f.sound)
@@ -249,6 +230,27 @@ module _ {old : State} {c at : ℕ} {m : Message} {ys : List Session} {port : �
       → Updates (PortUpdate switch port up) (record old { sessions = ys }) reply new → HearsMessage c m old reply new
   port_there switch {reply = reply} {new = new} k u =
       message_heard f (inl (subst₂ (λ (n : ℕ) (o : State). Updates (PortUpdate n port up) o reply new) (its_switch f k) (stays f (made_of f).0) u))
+
+-- ---- a packet
+
+module _ {old : State} {c at : ℕ} {m : Message} {ys : List Session} {buffer in_port : ℕ} {frame : List ℕ} (f : HasHeard old c at m ys (heard.PacketIn buffer in_port frame)) where
+  pub sound_there : IsSound (record old { sessions = ys })
+  sound_there = subst IsSound (sym (stays f (made_of f).0)) f.sound
+
+  pub small_there : CanBeHeard m → length frame ≤ 65535
+  small_there k = small_packet m buffer in_port frame k (made_of f).1
+
+  pub packet_heard : {now : State} (switch : ℕ) (new : State) → old ≡ now → IfSome (slice_get ys at) (λ (s : Session). switch ≡ switch_of s) → (r : Result Reply NoMemoryError)
+      → IfOk r (λ reply. HearsPacketOf c switch buffer in_port frame (record old { sessions = ys }) reply new) → IfOk r (λ reply. HearsMessage c m now reply new)
+  packet_heard switch new v k (Ok reply) h =
+      let does = h f.hears.behind (sym (its_connection f)) (sym (its_switch f k)) in
+      back v (message_heard f (inl (subst (λ (o : State). HearsPacket f.hears.behind buffer in_port frame o reply new) (stays f (made_of f).0) does)))
+  packet_heard switch new v k (Err e) h = tt
+
+  pub packet_lacks : {now : State} (new : State) → old ≡ now → (r : Result Reply NoMemoryError) → OnErr r (new ≡ record old { sessions = ys }) → OnErr r (LacksMemory c m now new)
+  packet_lacks new v (Ok reply) h = tt
+  packet_lacks new v (Err e) h =
+      inl (back v (message_heard f (inr (ap (λ (b : Body). is_spared b (heard.PacketIn buffer in_port frame)) (made_of f).1.is, (refl, h ∙ stays f (made_of f).0)))))
 
 -- ---- lines, traces and jobs
 

@@ -1,6 +1,6 @@
 -- A switch joins: what the machine does while the session has its number already and a start prepared is what its relation says of the machine as it was before.
 use Rattle.std.proofs.Common.{◌≡◌, ◌≢◌, ℕ, zero, suc, ◌+◌, ◌-◌, ◌<◌, ◌≤◌, Bool, true, false, true≢false, cond, not, ◌&&◌, ◌||◌, List, [], ◌∷◌, ◌++◌, length, map, get_or, Option, Some, None, Result, Ok, Err, OnErr, sym, ap, ap₂, refl, ◌∙◌, subst, inl, inr, ⊎_elim, arith, eq-eqb, ne_eqb, eqb-true}
-use Rattle.std.specs.Prelude.{◌==◌, find, if◌then◌else◌}
+use Rattle.std.specs.Prelude.{◌==◌, if◌then◌else◌}
 use Rattle.std.specs.List.{AllByRecursion, AllPairs, list_any, slice_get}
 use Rattle.std.proofs.lemmas.List.Folds.{list_any-append}
 use Rattle.maple_base.specs.declared.cells.Port.{Port}
@@ -38,10 +38,11 @@ use Rattle.machine_steps.specs.Machine.{Session, State, state_number, has_ended,
 use Rattle.machine_steps.specs.Places.{IsHeading, CanReach}
 use Rattle.machine_steps.specs.Steps.{AimsBy, AimsOne, AimsAll, Reaches, updated, reached, closes, switch_of, Joins}
 use Rattle.machine_steps.specs.Sound.{IsSound, IsCurrent, AreLearned, IsInOrder, AreOthers}
-use Rattle.core_machine.specs.Aiming.{ReachesBy}
+use Rattle.core_machine.specs.Reaching.{ReachesBy}
 use Rattle.switch_session.specs.Sessions.{forgotten}
 use Rattle.machine_steps.specs.declared.reply.Reply.{Reply}
-use Rattle.core_machine.specs.Joining.{IsJoining, Joined, HasStart, Prepares, EndsAt, Enters, EntersOrLacks, change_at, changed_at, closes_at, unheard, is_list_of, is_listed, no_traces, with_list, with_new, with_plan, traces_behind}
+use Rattle.core_machine.specs.Joining.{IsJoining, Joined, HasStart, Prepares, EndsAt, Enters, EntersOrLacks, change_at, changed_at, closes_at, unheard, no_traces, with_list, with_new, with_plan, traces_behind}
+use Rattle.machine_sessions.specs.Finding.{is_listed}
 
 -- ---- a list with one element changed
 
@@ -258,22 +259,6 @@ kept_in p switch (l ∷ ls) = go (l.switch == switch) (kept_in p switch ls)
     go false more = more
 
 -- a list that is found is that of the switch's traces
-pub found_traces : (dpid : ℕ) (ls : List Learnings) (l : Learnings) → Some l ≡ find (is_list_of dpid) ls → l.traces ≡ traces_in ls dpid
-found_traces dpid [] l h = absurd (cc)
-found_traces dpid (k ∷ ks) l h = go (is_list_of dpid k) h (found_traces dpid ks l)
-  where
-    go : (b : Bool) → Some l ≡ cond b (Some k) (find (is_list_of dpid) ks) → (Some l ≡ find (is_list_of dpid) ks → l.traces ≡ traces_in ks dpid) → l.traces ≡ cond b k.traces (traces_in ks dpid)
-    go true here more = ap (λ x. x.traces) (same_Some l k here)
-    go false here more = more here
-
-pub no_traces_found : (dpid : ℕ) (ls : List Learnings) → None ≡ find (is_list_of dpid) ls → traces_in ls dpid ≡ []
-no_traces_found dpid [] h = refl
-no_traces_found dpid (k ∷ ks) h = go (is_list_of dpid k) h (no_traces_found dpid ks)
-  where
-    go : (b : Bool) → None ≡ cond b (Some k) (find (is_list_of dpid) ks) → (None ≡ find (is_list_of dpid) ks → traces_in ks dpid ≡ []) → cond b k.traces (traces_in ks dpid) ≡ []
-    go true here more = absurd (cc)
-    go false here more = more here
-
 pub rules_moved : (e f : Environment) (ts us : List Trace) (rules : Rules) → e ≡ f → ts ≡ us → AreRulesOf (those (is_current (cell_in e)) ts) rules → AreRulesOf (those (is_current (cell_in f)) us) rules
 rules_moved e f ts us rules same tied are =
     subst (λ g. AreRulesOf (those (is_current (cell_in g)) us) rules) same (subst (λ vs. AreRulesOf (those (is_current (cell_in e)) vs) rules) tied are)

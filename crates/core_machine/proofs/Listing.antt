@@ -1,10 +1,9 @@
 -- The traces of a switch, looked up, and the lines that list their rules.
-use Rattle.std.proofs.Common.{◌≡◌, ℕ, ◌≤◌, ◌==◌, true, false, cond, List, [], ◌∷◌, ◌++◌, length, Some, None, refl, sym, ap, ◌∙◌, subst, arith}
-use Rattle.std.specs.List.{AllByRecursion, find}
+use Rattle.std.proofs.Common.{◌≡◌, ℕ, ◌≤◌, ◌==◌, List, [], ◌∷◌, ◌++◌, length, ap, ◌∙◌, arith}
+use Rattle.std.specs.List.{AllByRecursion}
 use Rattle.std.specs.List.Sorted.{IsPermutation}
 use Rattle.std.proofs.lemmas.Bool.{cond_both}
-use Rattle.std.proofs.lemmas.List.Sorted.{IsPermutation-refl, IsPermutation-trans, length_permutation}
-use Rattle.std.proofs.lemmas.Option.{none-some, same_Some}
+use Rattle.std.proofs.lemmas.List.Sorted.{IsPermutation-trans, length_permutation}
 use Rattle.maple_base.specs.declared.decision.Rule.{Rule}
 use Rattle.of10_codec.specs.RuleOrder.{ArePut}
 use Rattle.priority_plan.specs.Rules.{level_limit, levels_of, rules_of, rules_needed}
@@ -16,22 +15,6 @@ use Rattle.core_machine.specs.declared.parts.Parts.TheInside.{Inside}
 use Rattle.machine_steps.specs.Machine.{State, tells_all, traces_in}
 use Rattle.core_machine.specs.Seen.{seen}
 use Rattle.machine_steps.specs.Sound.{AreLearned, IsSound}
-
-pub traces_found : (ls : List Learnings) (switch : ℕ) (l : Learnings) → find (λ (k : Learnings). k.switch == switch) ls ≡ Some l → traces_in ls switch ≡ l.traces
-traces_found [] switch l e = absurd (none-some l e)
-traces_found (k ∷ ks) switch l e =
-    elim (k.switch == switch) as (λ b. cond b (Some k) (find (λ (n : Learnings). n.switch == switch) ks) ≡ Some l → cond b k.traces (traces_in ks switch) ≡ l.traces) [
-      | true ↦ λ here. ap (λ (n : Learnings). n.traces) (same_Some k l here)
-      | false ↦ λ behind. traces_found ks switch l behind
-    ] e
-
-pub traces_nowhere : (ls : List Learnings) (switch : ℕ) → find (λ (k : Learnings). k.switch == switch) ls ≡ None → traces_in ls switch ≡ []
-traces_nowhere [] switch e = refl
-traces_nowhere (k ∷ ks) switch e =
-    elim (k.switch == switch) as (λ b. cond b (Some k) (find (λ (n : Learnings). n.switch == switch) ks) ≡ None → cond b k.traces (traces_in ks switch) ≡ []) [
-      | true ↦ λ here. absurd (none-some k (sym here))
-      | false ↦ λ behind. traces_nowhere ks switch behind
-    ] e
 
 -- what holds of the traces of each switch, and of none, holds of those looked up
 looked_up : (P : List Trace → Type 0) → P [] → (ls : List Learnings) (switch : ℕ) → AllByRecursion (λ (l : Learnings). P l.traces) ls → P (traces_in ls switch)
@@ -53,10 +36,6 @@ few_rules m sound switch =
 pub few_listed : (m : State) → IsSound m → (switch : ℕ) (some put : List Rule) → IsPermutation (rules_of (scratch (traces_in m.learned switch))) some → ArePut some put → length put ≤ 65535
 few_listed m sound switch some put are order =
     omega (arith, few_rules m sound switch, sound.ranges.capacity, length_permutation _ some are, length_permutation some put order.same)
-
--- no traces have no rules
-pub none_to_list : (rs : List Trace) (list : List Rule) → rs ≡ [] → list ≡ [] → IsPermutation (rules_of (scratch rs)) list
-none_to_list rs list none empty = subst (λ ts. IsPermutation (rules_of (scratch ts)) list) (sym none) (subst (λ l. IsPermutation [] l) (sym empty) (IsPermutation-refl []))
 
 pub put_of : (m : State) (switch : ℕ) (some put : List Rule) → IsPermutation (rules_of (scratch (traces_in m.learned switch))) some → ArePut some put → ArePut (rules_of (scratch (traces_in m.learned switch))) put
 put_of m switch some put are order = record { same = IsPermutation-trans _ some put are order.same; order = order.order }

@@ -1,8 +1,8 @@
 -- One session is changed where it stands among the connections.
-use Rattle.std.proofs.Common.{◌≡◌, ℕ, zero, suc, ◌+◌, ◌<◌, ◌≤◌, Bool, true, cond, not, List, [], ◌∷◌, ◌++◌, ◌||◌, length, map, get_or, set, Some, Result, Ok, Err, IfOk, OnErr, None, sym, ap, ◌∙◌, refl, subst, arith}
+use Rattle.std.proofs.Common.{◌≡◌, ℕ, zero, suc, ◌+◌, ◌<◌, ◌≤◌, true, cond, not, List, [], ◌∷◌, ◌++◌, length, map, get_or, set, Some, Result, Ok, Err, IfOk, OnErr, None, sym, ap, ◌∙◌, refl, subst, arith}
 use Rattle.std.specs.Prelude.{◌==◌, filter, vec_len, vec_capacity}
 use Rattle.std.specs.Vec.{with_item}
-use Rattle.std.specs.List.{AllByRecursion, list_any, slice_get}
+use Rattle.std.specs.List.{AllByRecursion, slice_get}
 use Rattle.std.specs.Option.{option_map}
 use Rattle.std.proofs.lemmas.List.{length-map}
 use Rattle.std.proofs.lemmas.Option.{slice_get-get_or, slice_get-map, same_Some}
@@ -15,18 +15,15 @@ use Rattle.switch_session.specs.declared.told.Phase.TheVariants.{Second}
 use Rattle.switch_session.specs.Parts.{Update as Plan}
 use Rattle.switch_session.specs.Sessions.{accepted, ended}
 use Rattle.switch_session.specs.Calls.{IsUpdate}
-use Rattle.core_machine.specs.declared.connection.Connection.{Connection}
+use Rattle.machine_sessions.specs.declared.connection.Connection.{Connection}
 use Rattle.core_machine.specs.declared.parts.Parts.TheInside.{Inside}
 use Rattle.machine_steps.specs.Machine.{Session, State, has_ended, is_open}
 use Rattle.machine_steps.specs.declared.job.Job.{Job}
 use Rattle.machine_steps.specs.Steps.{why_of}
-use Rattle.core_machine.specs.Seen.{session_of, seen, due, due_all, IsRoomy}
+use Rattle.core_machine.specs.Seen.{seen, IsRoomy}
+use Rattle.machine_sessions.specs.Sessions.{session_of, due, due_all}
 use Rattle.core_machine.specs.Joining.{change_at, changed_at, closes_at, with_plan, Prepares}
 use Rattle.core_machine.proofs.Joining.{changed_same, all_there}
-
-pub any_map : {X Y : Type 0} (p : Y → Bool) (v : X → Y) (xs : List X) → list_any p (map v xs) ≡ list_any (λ x. p (v x)) xs
-any_map p v [] = refl
-any_map p v (x ∷ xs) = ap (λ b. p (v x) || b) (any_map p v xs)
 
 set_all : {X : Type 0} (P : X → Type 0) (xs : List X) (i : ℕ) (x : X) → AllByRecursion P xs → P x → AllByRecursion P (set xs i x)
 set_all P [] i x all here = tt

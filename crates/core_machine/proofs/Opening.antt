@@ -1,19 +1,19 @@
 -- A connection is opened, or refused since as many are open as may be.
-use Rattle.std.proofs.Common.{◌≡◌, ℕ, ◌+◌, ◌≤◌, true, false, cond, List, [], ◌∷◌, ◌++◌, length, map, refl, sym, ap, ◌∙◌, arith}
-use Rattle.std.specs.Cmp.{nat_cmp_total}
-use Rattle.std.specs.FinSet.{insert, from_list, from_list_push, contains-from_list_nat, nat_cmp-IsAntisymmetric}
-use Rattle.std.specs.List.{filter, list_any}
-use Rattle.std.specs.Prelude.{nat_eq}
+use Rattle.std.proofs.Common.{◌≡◌, ℕ, ◌+◌, ◌≤◌, true, false, cond, List, [], ◌∷◌, ◌++◌, length, map, refl, ap, ◌∙◌, arith}
+use Rattle.std.specs.FinSet.{FinSet, insert}
+use Rattle.std.specs.List.{filter}
+use Rattle.std.specs.Ordering.{nat_cmp}
 use Rattle.std.proofs.lemmas.List.{map_push}
 use Rattle.report_text.specs.declared.line.Line.{Line}
 use Rattle.report_text.specs.declared.line.Line.TheVariants.{Closed, Open}
 use Rattle.report_text.specs.declared.line.Why.TheVariants.{Full}
 use Rattle.switch_session.specs.Calls.{opened}
-use Rattle.core_machine.specs.declared.connection.Connection.{Connection}
+use Rattle.machine_sessions.specs.declared.connection.Connection.{Connection}
 use Rattle.core_machine.specs.declared.parts.Parts.TheInside.{Inside}
-use Rattle.machine_steps.specs.Machine.{State, is_open, open_count, tells, was_opened}
-use Rattle.core_machine.specs.Seen.{seen, session_of, due_all}
-use Rattle.core_machine.proofs.Sessions.{due_push, due_small}
+use Rattle.machine_steps.specs.Machine.{State, is_open, open_count, tells}
+use Rattle.core_machine.specs.Seen.{seen}
+use Rattle.machine_sessions.specs.Sessions.{session_of, due_all}
+use Rattle.machine_sessions.proofs.Sessions.{due_push, due_small}
 
 count_seen : (xs : List Connection) → length (filter (λ (k : Connection). is_open (session_of k)) xs) ≡ length (filter is_open (map session_of xs))
 count_seen [] = refl
@@ -28,25 +28,22 @@ due_more xs ys k e =
     omega (arith, ap (λ ks. due_all (map session_of ks)) e, ap due_all (map_push session_of xs k), due_push (map session_of xs) (session_of k), due_small (session_of k))
 
 module _ (a : Inside) (m : State) (view : seen a ≡ m) where
-  pub opened_told : (c : ℕ) → was_opened c m ≡ list_any (λ y. nat_eq y c) a.opened.items
-  opened_told c = ap (λ (n : State). was_opened c n) (sym view) ∙ contains-from_list_nat a.opened.items c
-
   pub counted : (n : ℕ) (xs : List Connection) → n ≡ length (filter (λ (k : Connection). is_open (session_of k)) xs) → xs ≡ a.sessions.items → n ≡ open_count m
   counted n xs e same =
       e ∙ ap (λ ks. length (filter (λ (k : Connection). is_open (session_of k)) ks)) same ∙ count_seen a.sessions.items ∙ ap open_count view
 
-  numbered : (c : ℕ) (numbers : List ℕ) → numbers ≡ a.opened.items ++ c ∷ [] → from_list numbers ≡ insert m.opened c
-  numbered c numbers e = ap from_list e ∙ from_list_push nat_cmp_total nat_cmp-IsAntisymmetric a.opened.items c ∙ ap (λ (n : State). insert n.opened c) view
+  numbered : (c : ℕ) (numbers : FinSet nat_cmp) → numbers ≡ insert a.opened c → numbers ≡ insert m.opened c
+  numbered c numbers e = e ∙ ap (λ (n : State). insert n.opened c) view
 
-  pub refused_is : (c : ℕ) (numbers : List ℕ) (lines : List Line) → numbers ≡ a.opened.items ++ c ∷ [] → lines ≡ a.lines.items ++ Closed c Full ∷ []
-      → record (seen a) { opened = from_list numbers; lines = lines } ≡ tells (Closed c Full) (record m { opened = insert m.opened c })
+  pub refused_is : (c : ℕ) (numbers : FinSet nat_cmp) (lines : List Line) → numbers ≡ insert a.opened c → lines ≡ a.lines.items ++ Closed c Full ∷ []
+      → record (seen a) { opened = numbers; lines = lines } ≡ tells (Closed c Full) (record m { opened = insert m.opened c })
   refused_is c numbers lines en el =
       let told : lines ≡ m.lines ++ Closed c Full ∷ [] = el ∙ ap (λ (n : State). n.lines ++ Closed c Full ∷ []) view in
       λ i. record (view i) { opened = numbered c numbers en i; lines = told i }
 
-  pub opened_is : (c : ℕ) (numbers : List ℕ) (ks : List Connection) (k : Connection) (lines : List Line) → numbers ≡ a.opened.items ++ c ∷ []
+  pub opened_is : (c : ℕ) (numbers : FinSet nat_cmp) (ks : List Connection) (k : Connection) (lines : List Line) → numbers ≡ insert a.opened c
       → ks ≡ a.sessions.items ++ k ∷ [] → session_of k ≡ opened c a.settings.capacity → lines ≡ a.lines.items ++ Open c ∷ []
-      → record (seen a) { opened = from_list numbers; sessions = map session_of ks; lines = lines }
+      → record (seen a) { opened = numbers; sessions = map session_of ks; lines = lines }
       ≡ tells (Open c) (record m { opened = insert m.opened c; sessions = m.sessions ++ opened c m.settings.capacity ∷ [] })
   opened_is c numbers ks k lines en ek es el =
       let told : lines ≡ m.lines ++ Open c ∷ [] = el ∙ ap (λ (n : State). n.lines ++ Open c ∷ []) view in

@@ -8,16 +8,18 @@ use Rattle.policy_lang.specs.declared.Policy.{Policy}
 use Rattle.report_text.specs.declared.line.Line.{Line}
 use Rattle.report_text.specs.declared.line.Line.TheVariants as lines
 use Rattle.switch_traces.specs.Traces.{Learnings}
-use Rattle.core_machine.specs.declared.connection.Connection.{Connection}
+use Rattle.machine_sessions.specs.declared.connection.Connection.{Connection}
 use Rattle.core_machine.specs.declared.parts.Parts.TheInside.{Inside}
+use Rattle.machine_steps.specs.declared.job.Job.{Job}
 use Rattle.machine_steps.specs.declared.reply.Reply.{Reply}
 use Rattle.machine_steps.specs.declared.reply.Reply.TheVariants.{NewState}
 use Rattle.machine_steps.specs.Machine.{Session, State, PolicyState, is_live, state_number, tells}
 use Rattle.machine_steps.specs.Places.{CanReach, IsHeading}
-use Rattle.core_machine.specs.Seen.{IsRoomy, seen, session_of}
+use Rattle.core_machine.specs.Seen.{IsRoomy, seen}
+use Rattle.machine_sessions.specs.Sessions.{session_of}
 use Rattle.machine_steps.specs.Steps.{AimsAll, Reaches, gone, reached}
-use Rattle.core_machine.specs.Aiming.{turns, gives_up, CanReady, AreReadied}
-use Rattle.core_machine.proofs.Aiming.{all_aimed, all_back, can_aim}
+use Rattle.machine_sessions.specs.Aiming.{turns, gives_up, CanReady, AreReadied}
+use Rattle.machine_sessions.proofs.Aiming.{all_aimed, all_back, can_aim}
 
 abbrev pub IsIdle : Connection → Type 0
 IsIdle c = c.aim ≡ None
@@ -47,15 +49,11 @@ pub one_longer : {X Y : Type 0} (f : X → Y) (xs : List X) (s : Y) → length (
 one_longer f [] s = refl
 one_longer f (x ∷ xs) s = let rest = one_longer f xs s in omega (arith, rest)
 
-pub seen_again : (m : State) (earlier : List Policy) (states : List PolicyState) (scene : Environment) (sessions : List Session) (lines : List Line)
-    → earlier ≡ m.earlier → states ≡ m.states → scene ≡ m.scene → sessions ≡ m.sessions → lines ≡ m.lines
-    → record m { earlier = earlier; states = states; scene = scene; sessions = sessions; lines = lines } ≡ m
-seen_again m earlier states scene sessions lines a b c d e =
-    subst (λ (x : List Policy). record m { earlier = x; states = states; scene = scene; sessions = sessions; lines = lines } ≡ m) (sym a)
-    (subst (λ (x : List PolicyState). record m { states = x; scene = scene; sessions = sessions; lines = lines } ≡ m) (sym b)
-    (subst (λ (x : Environment). record m { scene = x; sessions = sessions; lines = lines } ≡ m) (sym c)
-    (subst (λ (x : List Session). record m { sessions = x; lines = lines } ≡ m) (sym d)
-    (subst (λ (x : List Line). record m { lines = x } ≡ m) (sym e) refl))))
+pub seen_again : (m : State) (earlier : List Policy) (states : List PolicyState) (scene : Environment) (sessions : List Session) (jobs : List Job) (lines : List Line)
+    → earlier ≡ m.earlier → states ≡ m.states → scene ≡ m.scene → sessions ≡ m.sessions → jobs ≡ m.jobs → lines ≡ m.lines
+    → record m { earlier = earlier; states = states; scene = scene; sessions = sessions; jobs = jobs; lines = lines } ≡ m
+seen_again m earlier states scene sessions jobs lines a b c d e f =
+    λ i. record m { earlier = a i; states = b i; scene = c i; sessions = d i; jobs = e i; lines = f i }
 
 pub next_seen : (m : State) (line : Line) (ss : List Session) (earlier : List Policy) (policy : Policy) (states : List PolicyState) (scene : Environment) (learned : List Learnings) (sessions : List Session) (lines : List Line)
     → earlier ≡ m.earlier → policy ≡ m.policy → states ≡ m.states → scene ≡ m.scene → learned ≡ m.learned → sessions ≡ ss → lines ≡ m.lines ++ line ∷ []

@@ -1,6 +1,6 @@
 -- What the machine does behind a FEATURES_REPLY, seen from the state in which the session at a place has heard its switch's number already.
-use Rattle.std.specs.Prelude.{◌≡◌, ◌⊎◌, ℕ, zero, suc, Bool, true, not, ◌&&◌, ◌==◌, List, [], ◌∷◌, ◌++◌, filter, Some}
-use Rattle.std.specs.List.{list_any, slice_get}
+use Rattle.std.specs.Prelude.{◌≡◌, ◌⊎◌, ℕ, zero, suc, true, not, ◌==◌, List, [], ◌∷◌, ◌++◌, filter, Some}
+use Rattle.std.specs.List.{slice_get}
 use Rattle.maple_base.specs.declared.cells.Port.{Port}
 use Rattle.maple_base.specs.RuleLists.{Rules}
 use Rattle.env_cells.specs.declared.updates.Update.{Update}
@@ -18,7 +18,7 @@ use Rattle.switch_session.specs.Parts.{Update as Plan, IsList}
 use Rattle.switch_session.specs.Calls.{IsUpdate, CanStart}
 use Rattle.machine_steps.specs.declared.reply.Reply.{Reply}
 use Rattle.machine_steps.specs.declared.reply.Reply.TheVariants.{Ended}
-use Rattle.machine_steps.specs.Machine.{Session, State, tells, is_live, is_open, has_switch, traces_of, with_traces}
+use Rattle.machine_steps.specs.Machine.{Session, State, tells, is_open, traces_of, with_traces}
 use Rattle.machine_steps.specs.declared.job.Job.{Job}
 use Rattle.machine_steps.specs.Steps.{Lacks, why_of, updated, reached, Joins, HearsFeatures}
 use Rattle.machine_steps.specs.Sound.{IsSound}
@@ -67,17 +67,6 @@ closes_at at s end m =
 abbrev pub EndsAt : ℕ → End → State → Reply → State → Type 0
 EndsAt at end old reply new =
     (t : Session) → slice_get old.sessions at ≡ Some t → (reply ≡ Ended end) × (new ≡ closes_at at t end old)
-
--- a live session that has this switch
-abbrev pub serves : ℕ → Session → Bool
-serves dpid s = is_live s && has_switch dpid s
-
--- the list of this switch's traces
-abbrev pub is_list_of : ℕ → Learnings → Bool
-is_list_of dpid l = l.switch == dpid
-
-abbrev pub is_listed : ℕ → List Learnings → Bool
-is_listed dpid ls = list_any (is_list_of dpid) ls
 
 abbrev pub no_traces : ℕ → Learnings
 no_traces dpid = record { switch = dpid; traces = [] }

@@ -1,6 +1,8 @@
 -- The machine is seen as the `State` of machine_steps. Seen says how; the others serve private contracts.
-pub mod Aiming
+pub mod Concluding
+pub mod Following
 pub mod Hearing
 pub mod Joining
-pub mod Kept
+pub mod Packets
+pub mod Reaching
 pub mod Seen

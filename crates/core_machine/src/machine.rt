@@ -1,17 +1,17 @@
 // The machine, a step an entry.
-ghost use Rattle.std.specs.Prelude.{◌≡◌, false, IfOk, OnOk};
+ghost use Rattle.std.specs.Prelude.{◌≡◌, IfOk, OnOk};
 ghost use Rattle.env_cells.specs.Changes.{applied};
 ghost use Rattle.env_cells.specs.declared.updates.Update.TheVariants.{Tables as TablesOf};
 ghost use Rattle.machine_steps.specs.Admitting.{Admits};
-ghost use Rattle.machine_steps.specs.Laws.{is_to_come};
 ghost use Rattle.machine_steps.specs.Machine.{opening};
-ghost use Rattle.machine_steps.specs.Sound.{AreInRange};
+ghost use Rattle.machine_steps.specs.Sound.{AreInRange, IsSound};
 ghost use Rattle.machine_steps.specs.Steps.{Steps};
 
 use crate::parts::Parts;
-use env_cells::Update;
+use crate::parts::reaching::tables_of;
+use machine_sessions::Opened;
 use machine_steps::{Entry, Reply, machine_laws};
-use maple_base::{Names, NoMemory, Settings};
+use maple_base::{NoMemory, Settings};
 use policy_lang::Policy;
 use std::alloc::Global;
 use std::marker::Model;
@@ -26,7 +26,6 @@ pub struct Core {
 }
 
 impl Model for Core {
-    ghost use Rattle.std.specs.Coded.{codes};
     ghost use Rattle.core_machine.specs.contracts.parts.Parts as parts_of;
     ghost use Rattle.machine_steps.specs.Machine.{State};
     ghost use Rattle.machine_steps.specs.Sound.{IsSound};
@@ -62,7 +61,7 @@ impl Core {
             scene,
             learned: Vec::new(alloc),
             sessions: Vec::new(alloc),
-            opened: Vec::new(alloc),
+            opened: Opened::none(alloc),
             jobs: Vec::new(alloc),
             job_count: 0,
             trace_count: 0,
@@ -74,11 +73,17 @@ impl Core {
     /// Does what an entry asks, and answers. Where memory doesn't suffice nothing changes.
     pub fn step(&mut self, entry: Entry) -> Reply
         requires admits { Admits self.old entry }
-        requires now { is_to_come entry ≡ false }
         ensures step { Steps self.old entry result self.new }
     {
         machine_laws();
         self.parts.step(entry)
+    }
+
+    /// What holds of each machine.
+    pub fn law(&self)
+        ensures { IsSound self.now }
+    {
+        let _ = &self.parts;
     }
 }
 
@@ -86,8 +91,8 @@ impl Core {
 fn declare_tables(alloc: Global, scene: &mut Scene, policy: &Policy) -> Result<(), NoMemory>
     ensures { OnOk result (scene.new ≡ applied scene.old (TablesOf policy.now.tables)) }
 {
-    let names = Names::new(Vec::from_slice(alloc, policy.tables().items())?);
-    let Ok(()) = scene.apply(&Update::Tables(names)) else {
+    let update = tables_of(alloc, policy)?;
+    let Ok(()) = scene.apply(&update) else {
         return Err(NoMemory);
     };
     Ok(())

@@ -1,17 +1,20 @@
 // All that the machine keeps.
-mod aims;
+mod concluding;
 mod dispatch;
 mod ends;
 mod hearing;
 mod joining;
+mod next;
 mod notes;
 mod open;
-mod reaching;
+mod packets;
+pub mod reaching;
 mod reads;
+mod runs;
 mod shared;
 mod takes;
 
-use crate::connection::Connection;
+use machine_sessions::{Connection, Opened};
 use machine_steps::Job;
 use maple_base::{Settings, Witness};
 use policy_lang::Policy;
@@ -40,7 +43,7 @@ pub struct Parts {
     pub scene: Scene,
     pub learned: Vec<SwitchTraces>,
     pub sessions: Vec<Connection>,
-    pub opened: Vec<u32>,
+    pub opened: Opened,
     pub jobs: Vec<Job>,
     pub job_count: u64,
     pub trace_count: u64,

@@ -1,1 +1,5 @@
+pub mod Later
+pub mod Learning
+pub mod Running
+pub mod Sending
 pub mod Sound

@@ -1,33 +1,14 @@
 -- What each step of the machine keeps.
-use Rattle.std.specs.Prelude.{◌≡◌, Bool, true, false}
+use Rattle.std.specs.Prelude.{◌≡◌}
 use Rattle.maple_base.specs.declared.decision.Settings.{Settings}
-use Rattle.of10_codec.specs.declared.message.Body.{Body}
-use Rattle.of10_codec.specs.declared.message.Body.TheVariants as body
 use Rattle.policy_lang.specs.declared.Policy.{Policy}
+use Rattle.trace_record.specs.Runs.{Recorded, IsRun}
 use Rattle.machine_steps.specs.declared.entry.Entry.{Entry}
-use Rattle.machine_steps.specs.declared.entry.Entry.TheVariants as entries
-use Rattle.machine_steps.specs.declared.entry.Input.{Input}
-use Rattle.machine_steps.specs.declared.entry.Input.TheVariants.{Message as Whole, Bad}
 use Rattle.machine_steps.specs.declared.reply.Reply.{Reply}
-use Rattle.machine_steps.specs.Machine.{State, opening}
+use Rattle.machine_steps.specs.Machine.{State, opening, policy_number}
 use Rattle.machine_steps.specs.Steps.{Steps}
-use Rattle.machine_steps.specs.Admitting.{Admits}
+use Rattle.machine_steps.specs.Admitting.{Admits, IsOfHistory}
 use Rattle.machine_steps.specs.Sound.{AreInRange, IsSound}
-
-abbrev pub is_packet : Body → Bool
-is_packet (body.PacketIn buffer total in_port reason bytes) = true
-is_packet other = false
-
-abbrev pub hears_packet : Input → Bool
-hears_packet (Whole m) = is_packet m.body
-hears_packet (Bad place bad) = false
-
--- the entries that the machine doesn't make yet: packets, and the runs for them
-abbrev pub is_to_come : Entry → Bool
-is_to_come (entries.Heard c input) = hears_packet input
-is_to_come (entries.Commit job run) = true
-is_to_come (entries.Decide job) = true
-is_to_come entry = false
 
 -- the opening state is sound
 abbrev pub OpensSound : Type 0
@@ -35,4 +16,12 @@ OpensSound = (policy : Policy) (settings : Settings) → AreInRange settings →
 
 -- and each step within its condition keeps that
 abbrev pub KeepsSound : Type 0
-KeepsSound = (old : State) (entry : Entry) (reply : Reply) (new : State) → IsSound old → Admits old entry → is_to_come entry ≡ false → Steps old entry reply new → IsSound new
+KeepsSound = (old : State) (entry : Entry) (reply : Reply) (new : State) → IsSound old → Admits old entry → Steps old entry reply new → IsSound new
+
+-- a run of the history's stays one, whatever comes
+abbrev pub RunsStay : Type 0
+RunsStay = (old : State) (entry : Entry) (reply : Reply) (new : State) (run : Recorded) → Steps old entry reply new → IsOfHistory run old → IsOfHistory run new
+
+-- a run of the policy in force, with its number, within the machine's budget is one
+abbrev pub LentRuns : Type 0
+LentRuns = (m : State) (run : Recorded) → IsRun run → run.budget ≡ m.settings.budget → run.number ≡ policy_number m → run.policy ≡ m.policy → IsOfHistory run m

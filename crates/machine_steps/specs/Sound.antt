@@ -1,12 +1,15 @@
 -- What holds of the machine behind each legal history of entries.
 use Rattle.std.specs.Prelude.{◌≡◌, ◌≢◌, ℕ, ◌≤◌, ◌==◌, true, false, [], length, Some, None}
+use Rattle.std.specs.FinMap as map
 use Rattle.std.specs.List.{AllByRecursion, AllPairs, list_any}
+use Rattle.maple_base.specs.declared.cells.Place.{Place}
 use Rattle.maple_base.specs.declared.key.Key.{Key}
 use Rattle.maple_base.specs.declared.decision.Outcome.TheVariants.{Decided}
 use Rattle.maple_base.specs.declared.decision.Settings.{Settings}
 use Rattle.maple_base.specs.Keys.{valid_key}
 use Rattle.maple_base.specs.Limits.{most_budget}
-use Rattle.env_cells.specs.Environment.{knows}
+use Rattle.maple_base.specs.Ports.{is_port}
+use Rattle.env_cells.specs.Environment.{Environment, knows}
 use Rattle.topo_paths.specs.Scenes.{cell_in}
 use Rattle.policy_meaning.specs.Meaning.{meaning}
 use Rattle.policy_meaning.specs.Laws.{begins_at, decides_ports}
@@ -89,11 +92,16 @@ pub record IsServed (m : State) (j : Job) : Type 0 where
   pub number : j.number ≤ m.job_count
   pub frame : j.buffer ≡ no_buffer → length j.frame ≤ most_sent_back
 
+-- each link begins at a port that a switch may have
+abbrev pub BeginAtPorts : Environment → Type 0
+BeginAtPorts e = (from : Place) → map.contains_key e.links from ≡ true → is_port from.port ≡ true
+
 pub record IsSound (m : State) : Type 0 where
   pub ranges : AreInRange m.settings
   pub learned : AllByRecursion (AreLearned m) m.learned
   pub lists : AllPairs (λ (k l : Learnings). k.switch ≢ l.switch) m.learned
   pub switches : AllByRecursion (λ (l : Learnings). knows m.scene l.switch ≡ true) m.learned
+  pub links : BeginAtPorts m.scene
   pub sessions : AllByRecursion (IsInOrder m) m.sessions
   pub others : AllPairs AreOthers m.sessions
   pub few_sessions : open_count m ≤ most_sessions

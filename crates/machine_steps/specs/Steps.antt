@@ -49,9 +49,10 @@ use Rattle.trace_tree.specs.declared.node.Leaf.{Leaf}
 use Rattle.trace_tree.specs.Growth.{found, scratch}
 use Rattle.tree_prune.specs.Current.{is_current, same_value}
 use Rattle.switch_traces.specs.Traces.{Learnings}
+use Rattle.switch_traces.specs.Learning.{judged}
 use Rattle.switch_traces.specs.Lists.{AreRulesOf}
 use Rattle.tree_prune.specs.Stale.{stale_in}
-use Rattle.priority_plan.specs.Rules.{rules_of, rules_needed, levels_of}
+use Rattle.priority_plan.specs.Rules.{rules_of}
 use Rattle.report_text.specs.declared.line.Line.{Line}
 use Rattle.report_text.specs.declared.line.Line.TheVariants as lines
 use Rattle.report_text.specs.declared.line.PolicyRefusal.TheVariants.{Fault as PolicyFaulty}
@@ -61,7 +62,7 @@ use Rattle.report_text.specs.Report.{spelled}
 use Rattle.report_text.specs.declared.line.Why.{Why}
 use Rattle.report_text.specs.declared.line.Why.TheVariants as why
 use Rattle.report_text.specs.declared.line.Learnt.{Learnt}
-use Rattle.report_text.specs.declared.line.Learnt.TheVariants.{Learned, Known, Levels, Rows, Quiet}
+use Rattle.report_text.specs.declared.line.Learnt.TheVariants.{Learned, Known}
 use Rattle.switch_session.specs.declared.told.End.{End}
 use Rattle.switch_session.specs.declared.told.End.TheVariants as ends
 use Rattle.switch_session.specs.declared.told.Heard.{Heard}
@@ -346,11 +347,7 @@ next_trace items cells d m = record { number = m.trace_count + 1; items = items;
 
 -- what is learned of a trace: nothing where one is found, where the tree with it would need too many levels, or else too many rules, or where the switch gets no more rules
 abbrev pub learnt : State → Bool → List Trace → Key → Trace → Learnt
-learnt m quiet traces k r =
-    if is_some (found traces k) then Known
-    else (if nat_lt m.settings.levels (levels_of (scratch (traces ++ r ∷ []))) then Levels (levels_of (scratch (traces ++ r ∷ []))) m.settings.levels
-    else (if nat_lt m.settings.capacity (rules_needed (scratch (traces ++ r ∷ []))) then Rows (rules_needed (scratch (traces ++ r ∷ []))) m.settings.capacity
-    else (if quiet then Quiet else Learned)))
+learnt m quiet traces k r = if is_some (found traces k) then Known else judged m.settings.levels m.settings.capacity quiet (traces ++ r ∷ [])
 
 -- the packet is sent as the decision says, unless it says to send it nowhere
 abbrev pub sends : Job → Decision → Session → Session

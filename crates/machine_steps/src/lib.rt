@@ -11,6 +11,6 @@ pub mod reply;
 pub use entry::{Entry, Input};
 pub use item::JobItem;
 pub use job::Job;
-pub use laws::machine_laws;
+pub use laws::{machine_laws, running_laws};
 pub use note::Note;
 pub use reply::{Differs, Reply};

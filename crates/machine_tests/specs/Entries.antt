@@ -1,10 +1,8 @@
 -- Entries that the machine takes at any moment.
-use Rattle.std.specs.Prelude.{◌≡◌, false}
 use Rattle.machine_steps.specs.declared.entry.Entry.{Entry}
 use Rattle.machine_steps.specs.Admitting.{Admits}
-use Rattle.machine_steps.specs.Laws.{is_to_come}
 use Rattle.machine_steps.specs.Machine.{State}
 
--- an entry may come at any moment, and the machine makes it
+-- an entry may come at any moment
 abbrev pub IsPlain : Entry → Type 0
-IsPlain e = ((m : State) → Admits m e) × (is_to_come e ≡ false)
+IsPlain e = (m : State) → Admits m e

@@ -1,17 +1,17 @@
 // Entries of the machine as text.
-ghost use Rattle.std.specs.Prelude.{◌≡◌, false, IfOk};
+ghost use Rattle.std.specs.Prelude.{IfOk};
 ghost use Rattle.machine_steps.specs.Admitting.{IsHeard, IsOperators};
-ghost use Rattle.machine_steps.specs.Laws.{hears_packet};
 ghost use Rattle.machine_tests.specs.Entries.{IsPlain};
 
 use crate::hexadecimal::unhex;
 use crate::notes::note_of;
+use crate::packet_ins::{is_packet, packet_entry};
 use crate::rules::{long_number, middle_number, number, small_number, words};
 use crate::sessions::message_of;
 use core_machine::{Entry, Input};
 use env_cells::Update;
 use maple_base::{Cell, Name, Place};
-use of10_codec::{Bad, Body};
+use of10_codec::Bad;
 use policy_lang::Policy;
 use policy_text::read_policy;
 use std::alloc::{AllocError, Global};
@@ -27,12 +27,16 @@ pub fn entry_of(alloc: Global, text: &str) -> Result<Entry, Fail>
     if let Some(policy) = text.strip_prefix("policy ") {
         return Ok(Entry::NewPolicy(policy_of(alloc, policy)?));
     }
+    if is_packet(text) {
+        return packet_entry(alloc, text);
+    }
     let words = words(alloc, text)?;
     match words.as_slice() {
         ["cell", cell @ ..] => Ok(Entry::ReadCell(cell_of(cell)?)),
         ["force"] => Ok(Entry::ReadPolicy),
         ["rules", switch] => Ok(Entry::ReadRules(long_number(switch)?)),
         ["jobs"] => Ok(Entry::OpenJobs),
+        ["decide", job] => Ok(Entry::Decide(long_number(job)?)),
         ["note", note @ ..] => Ok(Entry::Note(note_of(alloc, note)?)),
         [call, connection, told @ ..] if is_of_connection(call) => {
             connection_entry(alloc, call, middle_number(connection)?, told)
@@ -81,17 +85,11 @@ fn connection_entry(
     }
 }
 
-// A message but a PACKET_IN.
 fn heard(alloc: Global, digits: &str) -> Result<Input, Fail>
-    ensures heard { IfOk result (λ input. IsHeard input) }
-    ensures no_packet { IfOk result (λ input. hears_packet input ≡ false) }
+    ensures { IfOk result (λ input. IsHeard input) }
 {
     let bytes = unhex(alloc, digits)?;
-    let message = message_of(alloc, &bytes)?;
-    match message.body {
-        Body::PacketIn { .. } => Err(Fail::from("a packet")),
-        _ => Ok(Input::Message(message)),
-    }
+    Ok(Input::Message(message_of(alloc, &bytes)?))
 }
 
 // A FEATURES_REPLY, as hexadecimal digits, of a switch whose ports are up. They count from 1 on.

@@ -2,6 +2,8 @@
 #![tactic(auto)]
 
 #[cfg(test)]
+mod driver;
+#[cfg(test)]
 mod entries;
 #[cfg(test)]
 mod hexadecimal;
@@ -10,7 +12,13 @@ mod machine;
 #[cfg(test)]
 mod notes;
 #[cfg(test)]
+mod packet_ins;
+#[cfg(test)]
+mod packets;
+#[cfg(test)]
 mod plans;
+#[cfg(test)]
+mod recording;
 #[cfg(test)]
 mod replies;
 #[cfg(test)]
@@ -19,3 +27,5 @@ mod rules;
 mod sessions;
 #[cfg(test)]
 mod targets;
+#[cfg(test)]
+mod threads;

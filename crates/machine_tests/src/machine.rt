@@ -1,19 +1,8 @@
 // The machine, entry by entry: its replies, its report, and what is taken out for its connections.
-ghost use Rattle.std.specs.Prelude.{IfOk};
-ghost use Rattle.machine_steps.specs.Sound.{AreInRange};
-
-use crate::entries::{entry_of, policy_of};
-use crate::replies::{push_lines, push_reply};
-use crate::rules::{long_number, middle_number};
-use crate::sessions::and_back;
-use core_machine::{Core, Entry, JobItem, Reply};
-use maple_base::{MOST_BUDGET, Settings};
-use std::alloc::{AllocError, Global};
+use crate::driver::play;
 use std::test::Fail;
 
-// Entries, one after the other. Behind ` = ` stand the reply, `done` where none is written, and behind ` ; ` the lines
-// of the report. `new` begins a machine of this capacity, these levels and this budget, with this policy. What stands
-// behind `A B each` is given for each number from A up to B, in the place of `#`.
+// Entries, one after the other, as `play` goes through them.
 const ROWS: &str =
     "# a handshake, with an echo in each phase; what comes out of its phase is passed over
 new 100 50 1000 policy { drop; }
@@ -403,114 +392,7 @@ note line 5 3 = done ; refused script 5 Switch
 note line 3 4
 note line 3 255";
 
-// A machine of this capacity, these levels and this budget, with a policy.
-fn machine(alloc: Global, text: &str) -> Result<Core, Fail> {
-    let (capacity, rest) = text.split_once(' ').ok_or("a capacity")?;
-    let (levels, rest) = rest.split_once(' ').ok_or("levels")?;
-    let (budget, policy) = rest.split_once(' ').ok_or("a budget")?;
-    let settings = settings(
-        middle_number(capacity)?,
-        middle_number(levels)?,
-        middle_number(budget)?,
-    )?;
-    let Ok(core) = Core::new(alloc, policy_of(alloc, policy)?, settings) else {
-        return Err(Fail::from("memory"));
-    };
-    Ok(core)
-}
-
-fn settings(capacity: u32, levels: u32, budget: u32) -> Result<Settings, Fail>
-    ensures { IfOk result (λ settings. AreInRange settings) }
-{
-    if capacity <= 65_535
-        && 1 <= levels
-        && levels <= 65_000
-        && 1 <= budget
-        && budget <= MOST_BUDGET
-    {
-        Ok(Settings {
-            capacity,
-            levels,
-            budget,
-            workers: 0,
-        })
-    } else {
-        Err(Fail::from("a limit"))
-    }
-}
-
-// The reply to an entry, and the lines that it gives.
-fn told(alloc: Global, core: &mut Core, asked: &str) -> Result<String, Fail> {
-    let mut text = String::new(alloc);
-    let reply = core.step(entry_of(alloc, asked)?);
-    push_reply(alloc, &mut text, &reply, asked.starts_with("list "))?;
-    let Reply::Lines(report) = core.step(Entry::TakeReport) else {
-        return Err(Fail::from("no report"));
-    };
-    push_lines(&mut text, report.items())?;
-    Ok(text)
-}
-
-fn step(alloc: Global, core: &mut Core, line: &str) -> Result<(), Fail> {
-    let (asked, wanted) = line.split_once(" = ").unwrap_or((line, "done"));
-    let told = told(alloc, core, asked)?;
-    if told.as_str() == wanted {
-        Ok(())
-    } else {
-        Err(Fail::from(format!(in alloc; "{line}, but {told}")?))
-    }
-}
-
-fn step_each(alloc: Global, core: &mut Core, range: &str, line: &str) -> Result<(), Fail> {
-    let (first, end) = range.split_once(' ').ok_or("a range")?;
-    for turn in long_number(first)?..long_number(end)? {
-        step(alloc, core, filled(alloc, line, turn)?.as_str())?;
-    }
-    Ok(())
-}
-
-// The line with a number in the place of each `#`.
-fn filled(alloc: Global, line: &str, turn: u64) -> Result<String, AllocError> {
-    let mut text = String::new(alloc);
-    let mut is_first = true;
-    for part in line.split('#') {
-        if !is_first {
-            write!(text, "{turn}")?;
-        }
-        text.push_str(part)?;
-        is_first = false;
-    }
-    Ok(text)
-}
-
-fn play(alloc: Global, rows: &str) -> Result<(), Fail> {
-    let mut core = machine(alloc, "0 1 1 policy { drop; }")?;
-    for line in rows.split('\n') {
-        if line.starts_with('#') {
-            continue;
-        }
-        if let Some(text) = line.strip_prefix("new ") {
-            core = machine(alloc, text)?;
-        } else if let Some((range, line)) = line.split_once(" each ") {
-            step_each(alloc, &mut core, range, line)?;
-        } else {
-            step(alloc, &mut core, line)?;
-        }
-    }
-    Ok(())
-}
-
 #[test]
 fn entries(rt: HostRuntime) -> Result<(), Fail> {
     play(rt.alloc(), ROWS)
-}
-
-#[test]
-fn items_go_to_another_thread(rt: HostRuntime) -> Result<(), Fail> {
-    let items: Vec<JobItem> = and_back(&rt, Vec::new(rt.alloc()));
-    if items.is_empty() {
-        Ok(())
-    } else {
-        Err(Fail::from("items"))
-    }
 }

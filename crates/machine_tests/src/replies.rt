@@ -1,10 +1,11 @@
 // Replies of the machine as text.
 use crate::hexadecimal::push_hex;
 use crate::sessions::push_list;
-use core_machine::Reply;
-use maple_base::{UpdateRefused, Value};
+use core_machine::{Differs, JobItem, Reply};
+use maple_base::{Cell, Decision, Field, IP_TYPE, Key, NO_VLAN, TCP, UpdateRefused, Value};
 use policy_lang::Policy;
 use policy_text::print_policy;
+use report_text::Learnt;
 use std::alloc::{AllocError, Global};
 use std::test::Fail;
 use switch_session::End;
@@ -28,9 +29,133 @@ pub fn push_reply(
         }
         Reply::Count(count) => write!(text, "count {count}")?,
         Reply::Out(bytes) => push_bytes(text, bytes.items(), listed)?,
+        packet => push_packet_reply(text, packet)?,
+    }
+    Ok(())
+}
+
+// The reply to a packet, or to what answers one.
+fn push_packet_reply(text: &mut String, reply: &Reply) -> Result<(), Fail> {
+    match reply {
+        Reply::Job(item) => push_item(text, item)?,
+        Reply::Malformed(kind) => write!(text, "malformed {kind}")?,
+        Reply::TooBig(bytes) => write!(text, "toobig {bytes}")?,
+        Reply::Overload => text.push_str("overload")?,
+        Reply::Answered { decision, learnt } => {
+            text.push_str("answered ")?;
+            push_decision(text, decision)?;
+            push_learnt(text, *learnt)?;
+        }
+        Reply::Spent => text.push_str("spent")?,
+        Reply::Stale(differs) => push_difference(text, *differs)?,
+        Reply::NotOpen => text.push_str("notopen")?,
         _ => return Err(Fail::from("another reply")),
     }
     Ok(())
+}
+
+// A job's number, its switch, the packet's port, and each further field that isn't as usual: Ethernet addresses are in
+// hexadecimal digits.
+fn push_item(text: &mut String, item: &JobItem) -> Result<(), AllocError> {
+    let key = item.key();
+    write!(
+        text,
+        "job {} s{} {}",
+        item.job(),
+        item.switch(),
+        key.in_port
+    )?;
+    for field in Field::ALL {
+        if key.get(field) != usual(key, field) {
+            push_field(text, key, field)?;
+        }
+    }
+    Ok(())
+}
+
+// What a field is where a packet's line doesn't say it.
+fn usual(key: &Key, field: Field) -> u64 {
+    match field {
+        Field::InPort => key.in_port as u64,
+        Field::DlVlan => NO_VLAN as u64,
+        Field::DlType => IP_TYPE as u64,
+        Field::NwProto if key.dl_type == IP_TYPE => TCP as u64,
+        _ => 0,
+    }
+}
+
+fn push_field(text: &mut String, key: &Key, field: Field) -> Result<(), AllocError> {
+    let value = key.get(field);
+    match field {
+        Field::DlSrc | Field::DlDst => write!(text, " {}={value:012x}", field.name()),
+        Field::DlVlan => write!(text, " dl_vlan={value} dl_pcp={}", key.dl_pcp),
+        _ => write!(text, " {}={value}", field.name()),
+    }
+}
+
+// A decision, as reports spell it.
+fn push_decision(text: &mut String, decision: &Decision) -> Result<(), AllocError> {
+    match decision {
+        Decision::Drop => text.push_str("drop")?,
+        Decision::Flood => text.push_str("flood")?,
+        Decision::Out(actions) => {
+            let mut mark = "out ";
+            for port in actions.items() {
+                write!(text, "{mark}{port}")?;
+                mark = ",";
+            }
+        }
+        Decision::Path(path) => {
+            let mut mark = "path ";
+            for hop in path.items() {
+                write!(text, "{mark}s{}:{}", hop.switch, hop.port)?;
+                mark = ",";
+            }
+        }
+    }
+    Ok(())
+}
+
+fn push_learnt(text: &mut String, learnt: Learnt) -> Result<(), AllocError> {
+    match learnt {
+        Learnt::Learned => text.push_str(" learned"),
+        Learnt::Known => text.push_str(" known"),
+        Learnt::Levels { need, limit } => write!(text, " unlearned levels {need} {limit}"),
+        Learnt::Rows { need, capacity } => write!(text, " unlearned rows {need} {capacity}"),
+        Learnt::Quiet => text.push_str(" unlearned quiet"),
+    }
+}
+
+// What isn't so any more: what was recorded, and what is now.
+fn push_difference(text: &mut String, differs: Differs) -> Result<(), AllocError> {
+    text.push_str("stale ")?;
+    match differs {
+        Differs::OfPolicy { recorded, current } => write!(text, "policy: {recorded}, {current}"),
+        Differs::OfCell {
+            cell,
+            recorded,
+            current,
+        } => {
+            push_cell(text, cell)?;
+            text.push_str(": ")?;
+            push_value(text, recorded)?;
+            text.push_str(", ")?;
+            push_value(text, current)
+        }
+    }
+}
+
+fn push_cell(text: &mut String, cell: Cell) -> Result<(), AllocError> {
+    match cell {
+        Cell::Host(address) => write!(text, "host {address:012x}"),
+        Cell::Hop { from, to } => write!(text, "hop {from} {to}"),
+        Cell::Up { switch, port } => write!(text, "up {switch} {port}"),
+        Cell::Num { table, key } => {
+            text.push_str("num ")?;
+            push_text(text, table.text())?;
+            write!(text, " {key}")
+        }
+    }
 }
 
 fn push_end(text: &mut String, end: End) -> Result<(), AllocError> {

@@ -1,7 +1,6 @@
 // Each entry has its call.
-ghost use Rattle.std.specs.Prelude.{◌≡◌, false};
+ghost use Rattle.std.specs.Prelude.{◌≡◌};
 ghost use Rattle.machine_steps.specs.Admitting.{Admits};
-ghost use Rattle.machine_steps.specs.Laws.{is_to_come};
 ghost use Rattle.machine_steps.specs.Sound.{IsSound};
 ghost use Rattle.machine_steps.specs.Steps.{Steps, link_end};
 
@@ -14,7 +13,6 @@ impl Parts {
     pub fn step(&mut self, entry: Entry) -> Reply
         requires sound { IsSound self.old }
         requires admits { Admits self.old entry }
-        requires now { is_to_come entry ≡ false }
         ensures { Steps self.old entry result self.new }
     {
         match entry {
@@ -27,7 +25,8 @@ impl Parts {
             Entry::ReadPolicy => self.read_policy(),
             Entry::ReadRules(switch) => self.read_rules(switch),
             Entry::OpenJobs => self.open_jobs(),
-            Entry::Commit { .. } | Entry::Decide(_) => unreachable!(),
+            Entry::Commit { job, run } => self.commit(job, run),
+            Entry::Decide(job) => self.decide(job),
             Entry::TakeOut(connection) => self.take_out(connection),
             Entry::TakeReport => self.take_report(),
             Entry::Note(note) => self.note(&note),

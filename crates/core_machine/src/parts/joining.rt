@@ -1,6 +1,5 @@
 // A switch joins: a FEATURES_REPLY was heard from it.
-ghost use Rattle.std.specs.Prelude.{◌≡◌, ℕ, ◌<◌, ◌≤◌, Some, None, Err, find, length, map, IfOk, OnOk, OnErr, option_copied};
-ghost use Rattle.std.specs.List.{list_any};
+ghost use Rattle.std.specs.Prelude.{◌≡◌, ℕ, ◌<◌, ◌≤◌, Some, None, Err, length, IfOk, OnOk, OnErr};
 ghost use Rattle.maple_base.specs.declared.update_refused.UpdateRefused.{UpdateRefused};
 ghost use Rattle.env_cells.specs.declared.updates.UpdateError.TheVariants.{Refused};
 ghost use Rattle.env_cells.specs.Limits.{IsWithinLimits};
@@ -9,25 +8,21 @@ ghost use Rattle.env_cells.specs.Refusals.{refusal_of, HasRoomForTables};
 ghost use Rattle.trace_tree.specs.Growth.{scratch};
 ghost use Rattle.priority_plan.specs.Rules.{level_limit, levels_of};
 ghost use Rattle.switch_session.specs.Sessions.{accepted};
-ghost use Rattle.tree_prune.specs.Current.{is_current};
-ghost use Rattle.switch_traces.specs.Traces.{those};
 ghost use Rattle.switch_traces.specs.Lists.{AreRulesOf};
-ghost use Rattle.machine_steps.specs.declared.reply.Reply.TheVariants.{NoMemory as memory_reply};
-ghost use Rattle.machine_steps.specs.Machine.{State, is_served, traces_in, traces_of};
+ghost use Rattle.machine_steps.specs.Machine.{State, is_served, traces_of};
 ghost use Rattle.machine_steps.specs.Places.{CanReach};
-ghost use Rattle.core_machine.specs.Seen.{session_of};
 ghost use Rattle.machine_steps.specs.Steps.{Lacks};
-ghost use Rattle.core_machine.specs.Aiming.{ReachesBy};
-ghost use Rattle.core_machine.specs.Joining.{changed_at, unheard, IsJoining, Joined, serves, is_list_of, is_listed, with_list, with_new, traces_behind, CanPrepare, EndsAt, HasOpen, HasStart, Prepares, Enters, EntersOrLacks};
+ghost use Rattle.core_machine.specs.Reaching.{ReachesBy};
+ghost use Rattle.core_machine.specs.Joining.{changed_at, unheard, IsJoining, Joined, with_list, with_new, traces_behind, CanPrepare, EndsAt, HasOpen, HasStart, Prepares, Enters, EntersOrLacks};
 
-use super::ends::close;
-use crate::connection::Connection;
 use crate::parts::Parts;
 use env_cells::{Update, UpdateError};
+use machine_report::close;
+use machine_sessions::finding::any_serves;
+use machine_sessions::lists::{is_listed, rules_left};
 use machine_steps::Reply;
-use maple_base::{EnvNow, NoMemory, Ports, RuleList};
-use std::alloc::Global;
-use switch_session::{End, Phase, Start};
+use maple_base::{NoMemory, Ports, RuleList};
+use switch_session::{End, Start};
 use switch_traces::{SwitchTraces, traces_laws};
 
 impl Parts {
@@ -189,59 +184,5 @@ impl Parts {
         ensures { (m : State) (dpid : ℕ) → self.old ≡ with_new dpid m → self.new ≡ m }
     {
         self.learned.pop();
-    }
-}
-
-// The rules of a switch's traces without those of which a recorded cell has another value.
-fn rules_left<E: EnvNow>(
-    alloc: Global,
-    learned: &[SwitchTraces],
-    dpid: u64,
-    env: &E,
-) -> Result<RuleList, NoMemory>
-    requires levels { levels_of (scratch (traces_in learned.now dpid)) ≤ level_limit }
-    ensures { IfOk result (λ rules. AreRulesOf (those (is_current (E.has env.now)) (traces_in learned.now dpid)) rules) }
-{
-    match list_of(learned, dpid) {
-        Some(traces) => traces.rules_where(env),
-        None => SwitchTraces::new(alloc, dpid).rules_where(env),
-    }
-}
-
-// The list of a switch's traces, if it has one.
-fn list_of(learned: &[SwitchTraces], dpid: u64) -> Option<&SwitchTraces>
-    ensures { option_copied result ≡ find (is_list_of dpid) learned.now }
-{
-    learned.iter().find(|traces| is_list_of(traces, dpid))
-}
-
-fn is_list_of(traces: &SwitchTraces, dpid: u64) -> bool
-    ensures { result ≡ is_list_of dpid traces.now }
-{
-    traces.switch() == dpid
-}
-
-fn is_listed(learned: &[SwitchTraces], dpid: u64) -> bool
-    ensures { result ≡ is_listed dpid learned.now }
-{
-    learned.iter().any(|traces| is_list_of(traces, dpid))
-}
-
-fn any_serves(sessions: &[Connection], dpid: u64) -> bool
-    ensures { result ≡ list_any (serves dpid) (map session_of sessions.now) }
-{
-    sessions.iter().any(|connection| serves(connection, dpid))
-}
-
-fn serves(connection: &Connection, dpid: u64) -> bool
-    ensures { result ≡ serves dpid connection.now.session }
-{
-    let session = &connection.session;
-    if session.phase() != Phase::Live {
-        return false;
-    }
-    match session.dpid() {
-        Some(switch) => switch == dpid,
-        None => false,
     }
 }

@@ -1,14 +1,12 @@
 // A connection is opened.
-ghost use Rattle.std.specs.Prelude.{◌≡◌, IfOk, OnErr, length, filter};
-ghost use Rattle.core_machine.specs.declared.connection.Connection.{Connection as ConnectionData};
-ghost use Rattle.machine_steps.specs.Machine.{is_open};
-ghost use Rattle.core_machine.specs.Seen.{session_of};
+ghost use Rattle.std.specs.Prelude.{◌≡◌, IfOk, OnErr};
 ghost use Rattle.machine_steps.specs.Sound.{IsSound};
 ghost use Rattle.machine_steps.specs.Steps.{Opens};
 
 use super::Parts;
-use super::shared::{MOST_DUE, is_open, make_room};
-use crate::connection::Connection;
+use machine_report::{MOST_DUE, make_room};
+use machine_sessions::Connection;
+use machine_sessions::finding::open_count;
 use machine_steps::Reply;
 use maple_base::NoMemory;
 use report_text::{Line, Why};
@@ -34,13 +32,12 @@ impl Parts {
         ensures opened { IfOk result (λ reply. Opens connection self.old reply self.new) }
         ensures kept { OnErr result (self.new ≡ self.old) }
     {
-        if self.opened.contains(&connection) {
+        if self.opened.has(connection) {
             return Ok(Reply::Done);
         }
-        self.opened.reserve(1)?;
         if open_count(&self.sessions) >= MOST_SESSIONS {
             make_room(&mut self.lines, &self.sessions, 1)?;
-            self.opened.push_reserved(connection);
+            self.opened.insert(connection)?;
             self.lines.push_reserved(Line::Closed {
                 device: connection,
                 why: Why::Full,
@@ -50,17 +47,10 @@ impl Parts {
         self.sessions.reserve(1)?;
         make_room(&mut self.lines, &self.sessions, 1 + MOST_DUE)?;
         let session = Session::open(self.alloc, connection, self.settings.capacity)?;
-        self.opened.push_reserved(connection);
+        self.opened.insert(connection)?;
         self.sessions
             .push_reserved(Connection { session, aim: None });
         self.lines.push_reserved(Line::Open { device: connection });
         Ok(Reply::Done)
     }
-}
-
-// How many sessions are open.
-fn open_count(sessions: &[Connection]) -> usize
-    ensures { result ≡ length (filter (λ (c : ConnectionData). is_open (session_of c)) sessions.now) }
-{
-    sessions.iter().filter(|c| is_open(&c.session)).count()
 }

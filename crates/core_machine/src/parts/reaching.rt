@@ -1,25 +1,28 @@
 // How the next state is reached.
-ghost use Rattle.std.specs.Prelude.{◌≡◌, ◌≤◌, ◌+◌, [], ◌∷◌, ◌++◌, OnOk, OnErr, IfOk, Err, Some, map, length, vec_len, vec_capacity};
+ghost use Rattle.std.specs.Prelude.{◌≡◌, ◌≤◌, ◌+◌, [], ◌∷◌, ◌++◌, OnOk, OnErr, IfOk, Err, Some, map, vec_len, vec_capacity};
 ghost use Rattle.maple_base.specs.declared.update_refused.UpdateRefused.{UpdateRefused};
 ghost use Rattle.env_cells.specs.declared.updates.UpdateError.TheVariants.{Refused};
 ghost use Rattle.env_cells.specs.declared.updates.Update.TheVariants.{Tables};
 ghost use Rattle.env_cells.specs.Refusals.{refusal_of, HasRoomForTables};
 ghost use Rattle.report_text.specs.declared.line.Line.TheVariants.{State};
 ghost use Rattle.machine_steps.specs.declared.reply.Reply.TheVariants.{NewState};
-ghost use Rattle.core_machine.specs.Aiming.{ReachesBy, Renews, RenewsTo};
+ghost use Rattle.core_machine.specs.Following.{IsNext, ReachesThen};
+ghost use Rattle.core_machine.specs.Reaching.{ReachesBy, Renews, RenewsTo};
 ghost use Rattle.machine_steps.specs.Machine.{tells};
 ghost use Rattle.machine_steps.specs.Places.{CanReach};
-ghost use Rattle.core_machine.specs.Seen.{due_all, seen_past, session_of};
+ghost use Rattle.core_machine.specs.Seen.{seen_past};
+ghost use Rattle.machine_sessions.specs.Sessions.{due_all, session_of};
 ghost use Rattle.machine_steps.specs.Sound.{IsSound};
 ghost use Rattle.machine_steps.specs.Steps.{Updates};
 
-use super::aims::{
+use super::next::{Next, follow, make_room_to_follow};
+use super::{Parts, Past};
+use env_cells::{Update, UpdateError};
+use machine_report::make_room;
+use machine_sessions::Connection;
+use machine_sessions::aims::{
     Left, clear_all, count_gone, give_up_all, make_ready, make_ready_behind, prune_all, turn_all,
 };
-use super::shared::make_room;
-use super::{Parts, Past};
-use crate::connection::Connection;
-use env_cells::{Update, UpdateError};
 use machine_steps::Reply;
 use maple_base::{Names, NoMemory, Witness};
 use policy_lang::Policy;
@@ -41,6 +44,23 @@ impl Parts {
         ensures refused { (r : UpdateRefused) → result ≡ Err (Refused r) → refusal_of self.old.scene update.now ≡ Some r }
         ensures kept { OnErr result (self.new ≡ self.old) }
     {
+        self.reach_then(update, Next::Nothing)
+    }
+
+    /// As `reach`, and behind the line of the state it does what follows.
+    ///
+    /// # Errors
+    ///
+    /// Why the update is refused, or `NoMemory`. Nothing changes then.
+    pub(super) fn reach_then(&mut self, update: &Update, next: Next) -> Result<Reply, UpdateError>
+        requires can { CanReach self.old }
+        requires tables { HasRoomForTables update.now }
+        requires next { IsNext next self.old }
+        ensures reached { IfOk result (λ reply. ReachesThen update.now next self.old reply self.new) }
+        ensures refused { (r : UpdateRefused) → result ≡ Err (Refused r) → refusal_of self.old.scene update.now ≡ Some r }
+        ensures kept { OnErr result (self.new ≡ self.old) }
+    {
+        make_room_to_follow(&mut self.lines, &mut self.jobs, &self.sessions, 1)?;
         let state = make_room_for_state(&mut self.lines, &mut self.states, &self.sessions)?;
         let past = past_of(self.earlier.len() as u64, &self.scene);
         let pruned = make_ready_behind(
@@ -56,7 +76,9 @@ impl Parts {
         }
         prune_all(&mut self.learned, &self.scene);
         turn_all(&mut self.sessions);
-        Ok(enter(&mut self.lines, &mut self.states, past, state, pruned))
+        let reply = enter(&mut self.lines, &mut self.states, past, state, pruned);
+        follow(&mut self.lines, &mut self.jobs, &mut self.job_count, next);
+        Ok(reply)
     }
 
     /// Makes an update, or tells why it is refused.
@@ -75,8 +97,8 @@ impl Parts {
         }
     }
 
-    // Tells a line.
-    fn tell(&mut self, line: Line) -> Result<(), NoMemory>
+    /// Tells a line.
+    pub(super) fn tell(&mut self, line: Line) -> Result<(), NoMemory>
         ensures told { OnOk result (self.new ≡ tells line self.old) }
         ensures kept { OnErr result (self.new ≡ self.old) }
     {
@@ -126,8 +148,8 @@ impl Parts {
     }
 }
 
-// The update that declares a policy's tables.
-fn tables_of(alloc: Global, policy: &Policy) -> Result<Update, NoMemory>
+/// The update that declares a policy's tables.
+pub fn tables_of(alloc: Global, policy: &Policy) -> Result<Update, NoMemory>
     ensures named { IfOk result (λ update. update ≡ Tables policy.now.tables) }
     ensures room { IfOk result (λ update. HasRoomForTables update) }
 {

@@ -1,21 +1,17 @@
 // What is taken out: messages, and the lines of the report.
-ghost use Rattle.std.specs.Prelude.{◌≡◌, ◌<◌, ◌⊎◌, [], None, MatchOption, IfOk, OnErr, position, remove, vec_len};
+ghost use Rattle.std.specs.Prelude.{◌≡◌, ◌⊎◌, [], None, MatchOption, IfOk, OnErr};
 ghost use Rattle.std.specs.List.{flat_map};
 ghost use Rattle.report_text.specs.Report.{spelled};
-ghost use Rattle.core_machine.specs.declared.connection.Connection.{Connection as ConnectionData};
 ghost use Rattle.machine_steps.specs.declared.reply.Reply.TheVariants.{Lines};
-ghost use Rattle.core_machine.specs.Kept.{IsKeptAt, is_kept};
-ghost use Rattle.core_machine.specs.Seen.{session_of};
+ghost use Rattle.machine_sessions.specs.Finding.{IsKeptAt};
 ghost use Rattle.machine_steps.specs.Sound.{IsSound};
 ghost use Rattle.machine_steps.specs.Steps.{Lacks, TakesMessages, kept_at};
 
 use super::Parts;
-use super::shared::is_open;
-use crate::connection::Connection;
+use machine_report::written;
+use machine_sessions::finding::{is_open, kept_place, remove};
 use machine_steps::Reply;
 use maple_base::{Bytes, NoMemory};
-use report_text::{Line, write_line};
-use std::alloc::Global;
 
 impl Parts {
     /// Takes the messages for a connection. Its session goes with them where it ended.
@@ -65,32 +61,4 @@ impl Parts {
             Err(NoMemory) => Reply::NoMemory,
         }
     }
-}
-
-// The first place of a session of a connection.
-fn kept_place(sessions: &[Connection], connection: u32) -> Option<usize>
-    ensures { result ≡ position (λ (c : ConnectionData). is_kept connection (session_of c)) sessions.now }
-{
-    sessions
-        .iter()
-        .position(|c| c.session.connection() == connection)
-}
-
-// Drops the session at a place.
-fn remove(sessions: &mut Vec<Connection>, at: usize)
-    requires within { at < vec_len sessions.old }
-    ensures { sessions.new.items ≡ remove sessions.old.items at }
-{
-    let _gone = sessions.remove(at);
-}
-
-// Lines of a report, as they are spelled.
-fn written(alloc: Global, lines: &[Line]) -> Result<Bytes, NoMemory>
-    ensures { IfOk result (λ text. text ≡ flat_map spelled lines.now) }
-{
-    let mut text = Vec::new(alloc);
-    for line in lines {
-        write_line(line, &mut text)?;
-    }
-    Ok(Bytes::new(text))
 }

@@ -1,7 +1,8 @@
 -- What aiming leaves of a session.
-use Rattle.std.proofs.Common.{◌≡◌, ℕ, Bool, true, false, List, [], ◌∷◌, refl, ⊎_elim}
+use Rattle.std.proofs.Common.{◌≡◌, ℕ, Bool, true, false, List, [], ◌∷◌, refl, sym, ◌∙◌, subst, ⊎_elim}
 use Rattle.std.specs.Prelude.{Contains, Option, Some, None}
 use Rattle.std.specs.List.Sorted.{IsPermutation}
+use Rattle.std.proofs.lemmas.Bool.{cases_Bool}
 use Rattle.std.proofs.lemmas.List.Elements.{Contains-append_left, Contains-append_right, Contains-append_cases}
 use Rattle.std.proofs.lemmas.List.Sorted.{IsPermutation-sym, IsPermutation-trans, Contains-permutation}
 use Rattle.maple_base.specs.declared.decision.Rule.{Rule}
@@ -93,3 +94,12 @@ settled_rules law traces s X plan a b is settled facts barriers are =
       barriers = IsPermutation-trans (barriers_of (scratch traces) anything 0) X.barriers (heading s).barriers are.barriers (IsPermutation-sym (heading s).barriers X.barriers (same_barriers s.capacity (heading s) X a b same));
       barriers_order = barriers;
     }
+
+-- what is aimed at the rules of traces heads for them
+pub aimed_rules : SettledLaw → (traces : List Trace) (s : Session) (X : Rules) (plan : Plan) → IsTarget s.capacity (heading s) → IsTarget s.capacity X → IsUpdate s X plan → AreInOrder (heading s).facts → AreInOrder (heading s).barriers
+    → AreRulesOf traces X → AreRulesOf traces (heading (aimed plan s))
+aimed_rules law traces s X plan a b is facts barriers are =
+    ⊎_elim
+    (λ e. subst (AreRulesOf traces) (sym ((aimed_so plan s).same e)) (settled_rules law traces s X plan a b is e facts barriers are))
+    (λ e. subst (AreRulesOf traces) (sym ((aimed_so plan s).fresh e ∙ is.rules)) are)
+    (cases_Bool plan.settled)

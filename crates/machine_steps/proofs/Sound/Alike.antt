@@ -39,7 +39,7 @@ module _ (m n : State) (under : IsUnder m n) where
     number = let a = c.number in let b = under.count in omega (arith, a, b);
   }
 
-  all_current : n.scene ≡ m.scene → (s : ℕ) (rs : List Trace) → AllByRecursion (IsCurrent m s) rs → AllByRecursion (IsCurrent n s) rs
+  pub all_current : n.scene ≡ m.scene → (s : ℕ) (rs : List Trace) → AllByRecursion (IsCurrent m s) rs → AllByRecursion (IsCurrent n s) rs
   all_current same s [] h = tt
   all_current same s (r ∷ rs) h = (current_under s r (subst (λ e. Gives (cell_in e) r.cells) (sym same) h.0.cells) h.0, all_current same s rs h.1)
 

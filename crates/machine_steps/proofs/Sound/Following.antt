@@ -9,7 +9,7 @@ use Rattle.switch_traces.specs.Traces.{Learnings}
 use Rattle.machine_steps.specs.declared.job.Job.{Job}
 use Rattle.machine_steps.specs.Machine.{Session, State, most_jobs, has_ended, is_live, is_open, is_of}
 use Rattle.machine_steps.specs.Steps.{switch_of}
-use Rattle.machine_steps.specs.Sound.{AreInRange, AreLearned, IsInOrder, AreOthers, IsServed, IsSound}
+use Rattle.machine_steps.specs.Sound.{AreInRange, AreLearned, IsInOrder, AreOthers, IsServed, BeginAtPorts, IsSound}
 use Rattle.machine_steps.proofs.Sound.Zipped.{pairs_to, pairs_from, all_weaker, all_others, zip_all, zip_map, zip_pairs, zip_few, zip_find, find_passes, zip_weaker}
 
 -- a session stays of its connection and its switch, open or not, live or not
@@ -92,12 +92,13 @@ stays_others s t u v a b o = record {
 }
 
 pub sound_following : (m n : State) → IsSound m → AreInRange n.settings → AllByRecursion (AreLearned n) n.learned → AllPairs (λ (k l : Learnings). k.switch ≢ l.switch) n.learned
-    → AllByRecursion (λ (l : Learnings). knows n.scene l.switch ≡ true) n.learned → Follow m n → n.jobs ≡ m.jobs → m.job_count ≤ n.job_count → IsSound n
-sound_following m n h ranges learned lists switches follow jobs few = record {
+    → AllByRecursion (λ (l : Learnings). knows n.scene l.switch ≡ true) n.learned → BeginAtPorts n.scene → Follow m n → n.jobs ≡ m.jobs → m.job_count ≤ n.job_count → IsSound n
+sound_following m n h ranges learned lists switches links follow jobs few = record {
   ranges = ranges;
   learned = learned;
   lists = lists;
   switches = switches;
+  links = links;
   sessions = zip_all (λ s t. Stays s t × IsInOrder n t) (IsInOrder m) (IsInOrder n) (λ s t f o. f.1) m.sessions n.sessions follow h.sessions;
   others = pairs_from AreOthers n.sessions
       (zip_pairs (λ s t. Stays s t × IsInOrder n t) AreOthers AreOthers (λ s t u v a b o. stays_others s t u v a.0 b.0 o) m.sessions n.sessions follow (pairs_to AreOthers m.sessions h.others));

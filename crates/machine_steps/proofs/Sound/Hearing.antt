@@ -1,7 +1,7 @@
 -- What a message leaves sound.
-use Rattle.std.proofs.Common.{◌≡◌, ℕ, Bool, true, false, List, refl, sym, ap, ◌∙◌, subst, subst₂, inl, inr, ⊎_elim}
+use Rattle.std.proofs.Common.{◌≡◌, ℕ, ◌<◌, ◌^◌, Bool, true, false, List, refl, sym, ap, ◌∙◌, subst, subst₂, inl, inr, ⊎_elim}
 use Rattle.std.specs.Prelude.{◌&&◌, ◌==◌, not, nat_le, Some, Ok, Err, Result}
-use Rattle.std.proofs.lemmas.Bool.{and_parts}
+use Rattle.std.proofs.lemmas.Bool.{and_parts, eqb-true}
 use Rattle.maple_base.specs.declared.no_memory.NoMemory.{NoMemory}
 use Rattle.maple_base.specs.declared.cells.Port.{Port}
 use Rattle.of10_codec.specs.declared.message.Message.{Message}
@@ -15,7 +15,7 @@ use Rattle.switch_session.specs.declared.told.End.TheVariants as ends
 use Rattle.switch_session.specs.declared.told.Heard.{Heard}
 use Rattle.switch_session.specs.declared.told.Heard.TheVariants as heard
 use Rattle.switch_session.specs.declared.told.Phase.TheVariants as phases
-use Rattle.switch_session.specs.Calls.{HearsHello, HearsEcho, HearsFeatures as FeaturesHeard, HearsPort, HearsReply, HearsError, HearsBody, Passes as PassesOver, of_batch, acknowledged_now}
+use Rattle.switch_session.specs.Calls.{CanBeHeard, HearsHello, HearsEcho, HearsFeatures as FeaturesHeard, HearsPacket as PacketHeard, HearsPort, HearsReply, HearsError, HearsBody, Passes as PassesOver, of_batch, acknowledged_now, is_live as is_live_phase}
 use Rattle.switch_session.specs.Parts.{version_refusal}
 use Rattle.switch_session.specs.Sessions.{ended, put, breaks_off}
 use Rattle.switch_traces.specs.Lists.{AreRulesOf}
@@ -24,19 +24,21 @@ use Rattle.machine_steps.specs.declared.entry.Input.TheVariants.{Message as Whol
 use Rattle.machine_steps.specs.declared.reply.Reply.{Reply}
 use Rattle.machine_steps.specs.Machine.{Session, State, is_live, is_open, is_of, session_at, with_session, traces_of}
 use Rattle.machine_steps.specs.Steps.{switch_of, closes, Updates, HearsFeatures, HearsOf, HearsMessage, HearsInput, EndsSession}
+use Rattle.machine_steps.specs.Admitting.{IsHeard}
 use Rattle.machine_steps.specs.Sound.{IsInOrder, IsSound}
-use Rattle.machine_steps.specs.Laws.{is_packet, hears_packet}
 use Rattle.machine_steps.proofs.Sound.Zipped.{find_all, find_passes}
 use Rattle.machine_steps.proofs.Sound.Following.{Stays, stays_same, stays_in_phase}
+use Rattle.machine_steps.proofs.Sound.Keys.{AreBytes, behind, number_below}
 use Rattle.machine_steps.proofs.Sound.Kept.{LowerLaws}
 use Rattle.machine_steps.proofs.Sound.Moves.{order_outbox, greeted, order_greeted, stays_greeted, acknowledged_now_onward, order_onward, awaited_live}
+use Rattle.machine_steps.proofs.Sound.Packets.{sound_packet}
 use Rattle.machine_steps.proofs.Sound.Reached.{updated_sound}
 use Rattle.machine_steps.proofs.Sound.Replaced.{IsClosed, sound_told, sound_with, sound_closed, sound_quiet}
 use Rattle.machine_steps.proofs.Sound.Joined.{sound_joined}
 
 -- an update, accepted or refused
 pub sound_update : LowerLaws → (u : Update) (old : State) (reply : Reply) (new : State) → IsSound old → Updates u old reply new → IsSound new
-sound_update laws u old reply new h (inl a) = updated_sound laws u old new h a.2
+sound_update laws u old reply new h (inl a) = updated_sound laws u old new h a.0 a.2
 sound_update laws u old reply new h (inr (inl a)) = subst IsSound (sym a.3) (sound_told old _ h)
 sound_update laws u old reply new h (inr (inr a)) = subst IsSound (sym a.1) h
 
@@ -142,12 +144,21 @@ module _ (laws : LowerLaws) (old : State) (h : IsSound old) (c : ℕ) (s : Sessi
   features dpid ports x t (inr (inl (second, e))) d = let f = e.0 in absurd (cc)
   features dpid ports x t (inr (inr (other, e))) d = passed_over x t e d
 
-  pub sound_body : (xid : ℕ) (b : Body) (x : Heard) (t : Session) → is_packet b ≡ false → HearsBody xid b s (Ok x) t → Does x t → IsSound new
+  packet : (buffer in_port : ℕ) (frame : List ℕ) (x : Heard) (t : Session) → in_port < 2 ^ 16 → AreBytes frame → PacketHeard buffer in_port frame s (Ok x) t → Does x t → IsSound new
+  packet buffer in_port frame x t small are (inl (live, e, f)) d =
+      let its : s.connection ≡ c = eqb-true s.connection c (and_parts (s.connection == c) (is_open s) (find_passes (is_of c) old.sessions s found)).0 in
+      sound_packet laws s buffer in_port frame old h (ap (λ d. session_at d old) its ∙ found) (ap is_live_phase live) small are reply new (made x (heard.PacketIn buffer in_port frame) t s e f d)
+  packet buffer in_port frame x t small are (inr (inl (live, e))) d = let f = e.0 in absurd (cc)
+  packet buffer in_port frame x t small are (inr (inr (other, e))) d = passed_over x t e d
+
+  pub sound_body : (xid : ℕ) (b : Body) (x : Heard) (t : Session) → CanBeHeard (record { xid = xid; body = b }) → HearsBody xid b s (Ok x) t → Does x t → IsSound new
   sound_body xid (body.Hello version) x t n b d = hello xid version x t b d
   sound_body xid (body.Error kind code bytes) x t n b d = error xid kind code x t b d
   sound_body xid (body.EchoRequest bytes) x t n b d = echo xid bytes x t b d
   sound_body xid (body.FeaturesReply dpid ports) x t n b d = features dpid ports x t b d
-  sound_body xid (body.PacketIn buffer total in_port reason bytes) x t n b d = absurd (cc)
+  sound_body xid (body.PacketIn buffer total in_port reason bytes) x t n b d =
+      let spelled = n.spelled.body in
+      packet buffer in_port bytes x t (subst (λ p. p < 2 ^ 16) spelled.is_in_port (number_below 14 2 n.bytes n.are_bytes)) (subst AreBytes spelled.rest (behind 18 n.bytes n.are_bytes)) b d
   sound_body xid (body.PortStatus reason p) x t n b d = port reason p x t b d
   sound_body xid body.BarrierReply x t n b d = answer xid x t b d
   sound_body xid other x t n b d = passed_over x t b d
@@ -159,11 +170,11 @@ sound_end c end old reply new h (inr (s, found, r, e)) =
     subst IsSound (sym e) (sound_closed old (is_of c) s (ended s) end _ h found (record { connection = refl; shut = refl; idle = refl }))
 
 -- a message, or bytes that are none
-pub sound_heard : LowerLaws → (c : ℕ) (m : Message) (old : State) (reply : Reply) (new : State) → IsSound old → is_packet m.body ≡ false → HearsMessage c m old reply new → IsSound new
+pub sound_heard : LowerLaws → (c : ℕ) (m : Message) (old : State) (reply : Reply) (new : State) → IsSound old → CanBeHeard m → HearsMessage c m old reply new → IsSound new
 sound_heard laws c m old reply new h n r =
     ⊎_elim (λ d. sound_body laws old h c r.session r.there m reply new m.xid m.body r.heard r.behind n r.hears d) (λ l. subst IsSound (sym l.1.1) h) r.does
 
-pub sound_input : LowerLaws → (c : ℕ) (input : Input) (old : State) (reply : Reply) (new : State) → IsSound old → hears_packet input ≡ false → HearsInput c input old reply new → IsSound new
+pub sound_input : LowerLaws → (c : ℕ) (input : Input) (old : State) (reply : Reply) (new : State) → IsSound old → IsHeard input → HearsInput c input old reply new → IsSound new
 sound_input laws c (Bad place bad) old reply new h n r = sound_end c _ old reply new h r
 sound_input laws c (Whole m) old reply new h n (inl (found, e)) = subst IsSound (sym e.1) h
 sound_input laws c (Whole m) old reply new h n (inr (inl r)) = sound_heard laws c m old reply new h n r

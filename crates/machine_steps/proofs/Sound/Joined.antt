@@ -198,12 +198,13 @@ module _ (laws : LowerLaws) (m : State) (h : IsSound m) (p : Session → Bool) (
       pub sound_joined : IsSound joined
       sound_joined = record {
         ranges = h.ranges;
-        learned = all_kept laws now m joined refl current (put_traces dpid own m.learned) (all_put dpid own (AreLearned m) (learned_in laws m m.learned h.learned dpid) m.learned h.learned);
+        learned = all_kept laws now m joined refl current (put_traces dpid own m.learned) (all_put dpid own (AreLearned m) (learned_in laws.nil m m.learned h.learned dpid) m.learned h.learned);
         lists = pairs_from (λ (k l : Learnings). k.switch ≢ l.switch) joined.learned
             (pairs_kept now (put_traces dpid own m.learned) (pairs_put dpid own m.learned (pairs_to (λ (k l : Learnings). k.switch ≢ l.switch) m.learned h.lists)));
         switches = switches_kept (λ q. knows joined.scene q ≡ true) now (put_traces dpid own m.learned)
             (all_put dpid own (λ (l : Learnings). knows joined.scene l.switch ≡ true) (knows_new m.scene dpid ports) m.learned
             (all_weaker (λ (l : Learnings). knows m.scene l.switch ≡ true) (λ (l : Learnings). knows joined.scene l.switch ≡ true) (λ l k. knows_still m.scene u l.switch k) m.learned h.switches));
+        links = h.links;
         sessions = zip_all Moves (IsInOrder m) (IsInOrder joined) order m.sessions joined.sessions zip h.sessions;
         others = pairs_from AreOthers joined.sessions (zip_pairs Moves AreOthers AreOthers others m.sessions joined.sessions zip (pairs_to AreOthers m.sessions h.others));
         few_sessions = let b = zip_few Moves is_open opens m.sessions joined.sessions zip in let c = h.few_sessions in omega (arith, b, c);

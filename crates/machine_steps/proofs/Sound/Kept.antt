@@ -6,13 +6,15 @@ use Rattle.std.proofs.lemmas.Bool.{and_parts, or_cases, or_left, or_right, cases
 use Rattle.maple_base.specs.declared.cells.Cell.{Cell}
 use Rattle.maple_base.specs.declared.cells.Value.{Value}
 use Rattle.question_tree.specs.Cells.{Gives}
+use Rattle.question_tree.specs.Laws.{OwnTrace, NoClash, LawOfTraces, TracesEndSo}
+use Rattle.policy_meaning.specs.Laws.{BeginsHere, DecidesPorts}
 use Rattle.topo_paths.specs.Scenes.{cell_in}
 use Rattle.priority_plan.specs.Rules.{levels_of}
 use Rattle.priority_plan.specs.Laws.{KeptHasNoMore}
 use Rattle.trace_tree.specs.declared.node.Trace.{Trace}
 use Rattle.trace_tree.specs.declared.node.Leaf.{Leaf}
 use Rattle.trace_tree.specs.Growth.{scratch}
-use Rattle.trace_tree.specs.Laws.{ApartIsAdmitted, OnlyApartIsAdmitted, FewerAreAdmitted, KeptIsScratch}
+use Rattle.trace_tree.specs.Laws.{ApartIsAdmitted, OnlyApartIsAdmitted, FreeIsAdmitted, LeavesAreTraces, FewerAreAdmitted, KeptIsScratch}
 use Rattle.trace_tree.specs.Stands.{of_leaf}
 use Rattle.tree_prune.specs.Current.{same_value, are_current, is_current}
 use Rattle.tree_prune.specs.Laws.{SameIsEqual}
@@ -25,8 +27,26 @@ use Rattle.machine_steps.specs.Sound.{IsCurrent, AreLearned}
 use Rattle.machine_steps.proofs.Sound.Zipped.{Pairs, all_weaker, all_passing, all_from, zip_all, zip_pairs}
 use Rattle.machine_steps.proofs.Sound.Alike.{IsUnder, current_under}
 
--- what the lower crates prove
+-- what the lower crates prove of the traces that are put into a tree
+pub record TakingLaws : Type 0 where
+  pub nil : NoneAreFit
+  pub only : OnlyApartIsAdmitted
+  pub free : FreeIsAdmitted
+  pub leaves : LeavesAreTraces
+  pub clash : NoClash
+
+-- of the runs of each policy
+pub record RunningLaws : Type 0 where
+  pub own : OwnTrace
+  pub traces : LawOfTraces
+  pub ends : TracesEndSo
+  pub begins : BeginsHere
+  pub ports : DecidesPorts
+
+-- and of all that a step of the machine does
 pub record LowerLaws : Type 0 where
+  pub taking : TakingLaws
+  pub running : RunningLaws
   pub list : RulesAreList
   pub fewer : FewerAreFit
   pub nil : NoneAreFit
@@ -166,13 +186,13 @@ module _ (laws : LowerLaws) (p : Leaf → Bool) (m n : State) (settings : n.sett
   all_kept current ls h = zip_all (IsKept p) (AreLearned m) (AreLearned n) (λ k l e a. subst (AreLearned n) (sym e) (learned_kept k a (current k a))) ls (kept_of p ls) (kept_zip p ls) h
 
 -- no traces are as learned
-pub learned_nil : LowerLaws → (m : State) (switch : ℕ) → AreLearned m (record { switch = switch; traces = [] })
-learned_nil laws m switch = record { current = tt; apart = tt; fit = laws.nil.fit m.settings.capacity; levels = omega arith }
+pub learned_nil : NoneAreFit → (m : State) (switch : ℕ) → AreLearned m (record { switch = switch; traces = [] })
+learned_nil law m switch = record { current = tt; apart = tt; fit = law.fit m.settings.capacity; levels = omega arith }
 
 -- and so are those in the place of a switch
-pub learned_in : LowerLaws → (m : State) (ls : List Learnings) → AllByRecursion (AreLearned m) ls → (switch : ℕ) → AreLearned m (record { switch = switch; traces = traces_in ls switch })
-learned_in laws m [] h switch = learned_nil laws m switch
-learned_in laws m (l ∷ ls) h switch = step (l.switch == switch) refl (learned_in laws m ls h.1 switch)
+pub learned_in : NoneAreFit → (m : State) (ls : List Learnings) → AllByRecursion (AreLearned m) ls → (switch : ℕ) → AreLearned m (record { switch = switch; traces = traces_in ls switch })
+learned_in law m [] h switch = learned_nil law m switch
+learned_in law m (l ∷ ls) h switch = step (l.switch == switch) refl (learned_in law m ls h.1 switch)
   where
     step : (b : Bool) → (l.switch == switch) ≡ b → AreLearned m (record { switch = switch; traces = traces_in ls switch }) → AreLearned m (record { switch = switch; traces = cond b l.traces (traces_in ls switch) })
     step true e later = subst (λ q. AreLearned m (record { switch = q; traces = l.traces })) (eqb-true l.switch switch e) h.0

@@ -1,13 +1,13 @@
 -- What an accepted update leaves sound.
-use Rattle.std.proofs.Common.{◌≡◌, ◌≢◌, ℕ, ◌≤◌, Bool, true, false, List, [], ◌∷◌, refl, sym, ap, ◌∙◌, subst, inl, inr, ⊎_elim, le_refl}
-use Rattle.std.specs.Prelude.{◌&&◌, not, Some}
+use Rattle.std.proofs.Common.{◌≡◌, ◌≢◌, ℕ, ◌≤◌, Bool, true, false, List, [], ◌∷◌, refl, sym, ap, ◌∙◌, subst, inl, inr, le_refl}
+use Rattle.std.specs.Prelude.{◌&&◌, not, Some, None}
 use Rattle.std.specs.List.{AllByRecursion, AllPairs, AllZip}
 use Rattle.std.specs.FinSet as set
-use Rattle.std.proofs.lemmas.Bool.{cases_Bool}
 use Rattle.env_cells.specs.declared.updates.Update.{Update}
 use Rattle.env_cells.specs.declared.updates.Update.TheVariants.{Tables}
 use Rattle.env_cells.specs.Environment.{knows}
 use Rattle.env_cells.specs.Changes.{applied}
+use Rattle.env_cells.specs.Refusals.{refusal_of}
 use Rattle.topo_paths.specs.Scenes.{cell_in}
 use Rattle.policy_lang.specs.declared.Policy.{Policy}
 use Rattle.report_text.specs.declared.line.Line.TheVariants as lines
@@ -19,13 +19,14 @@ use Rattle.switch_traces.specs.Traces.{Learnings, those}
 use Rattle.switch_traces.specs.Lists.{AreRulesOf, AreFit}
 use Rattle.machine_steps.specs.Machine.{Session, State, is_live, was_opened, traces_in, traces_of, kept_of, state_number, tells}
 use Rattle.machine_steps.specs.Steps.{switch_of, HeadsFor, HeadsOn, AimsBy, AimsOne, AimsAll, updated, renewed, gone, Reaches}
-use Rattle.machine_steps.specs.Sound.{AreInRange, IsCurrent, AreLearned, HeadsRight, IsInOrder, IsSound}
+use Rattle.machine_steps.specs.Sound.{AreInRange, IsCurrent, AreLearned, HeadsRight, IsInOrder, BeginAtPorts, IsSound}
 use Rattle.machine_steps.proofs.Sound.Zipped.{pairs_to, pairs_from, all_weaker, zip_weaker, zip_with}
 use Rattle.machine_steps.proofs.Sound.Alike.{early_alike, fit_in}
 use Rattle.machine_steps.proofs.Sound.Following.{Stays, stays_same, stays_in_phase, same_switch, sound_following}
-use Rattle.machine_steps.proofs.Sound.Aims.{aimed_so, settled_rules}
+use Rattle.machine_steps.proofs.Sound.Aims.{aimed_so, aimed_rules}
 use Rattle.machine_steps.proofs.Sound.Kept.{LowerLaws, is_listed, traces_kept, listed_kept, current_stay, none_stay, all_kept, pairs_kept, switches_kept}
 use Rattle.machine_steps.proofs.Sound.Known.{knows_still}
+use Rattle.machine_steps.proofs.Sound.Linked.{links_still}
 
 -- of each switch's traces those are left of which p holds, and what is known of switches stays
 pub record IsPruned (p : Leaf → Bool) (m n : State) : Type 0 where
@@ -71,16 +72,10 @@ module _ (laws : LowerLaws) (p : Leaf → Bool) (m n : State) (pruned : IsPruned
   heads_for : (s : Session) → HeadsRight m s → s.quiet ≡ false → (t : Session) → HeadsFor (traces_of (switch_of s) n) s t → HeadsRight n t
   heads_for s h loud t f =
       let a = aimed_so f.plan s in
-      subst (HeadsRight n) (sym f.now_is) (heads_by s h loud (aimed f.plan s) a.dpid a.capacity a.quiet (⊎_elim settled fresh (cases_Bool f.plan.settled)))
-    where
-      settled : f.plan.settled ≡ true → AreRulesOf (traces_of (switch_of s) n) (heading (aimed f.plan s))
-      settled e =
-          let target = (laws.list s.capacity (traces_of (switch_of s) n) f.rules (subst (λ c. AreFit c (traces_of (switch_of s) n)) (sym h.capacity) (fit_left (switch_of s))) f.are_rules).target in
-          subst (AreRulesOf (traces_of (switch_of s) n)) (sym ((aimed_so f.plan s).same e))
-          (settled_rules laws.settled (traces_of (switch_of s) n) s f.rules f.plan (headed s h) target f.is_plan e h.rules.facts_order h.rules.barriers_order f.are_rules)
-
-      fresh : f.plan.settled ≡ false → AreRulesOf (traces_of (switch_of s) n) (heading (aimed f.plan s))
-      fresh e = subst (AreRulesOf (traces_of (switch_of s) n)) (sym ((aimed_so f.plan s).fresh e ∙ f.is_plan.rules)) f.are_rules
+      let target = (laws.list s.capacity (traces_of (switch_of s) n) f.rules (subst (λ c. AreFit c (traces_of (switch_of s) n)) (sym h.capacity) (fit_left (switch_of s))) f.are_rules).target in
+      subst (HeadsRight n) (sym f.now_is)
+      (heads_by s h loud (aimed f.plan s) a.dpid a.capacity a.quiet
+      (aimed_rules laws.settled (traces_of (switch_of s) n) s f.rules f.plan (headed s h) target f.is_plan h.rules.facts_order h.rules.barriers_order f.are_rules))
 
   -- a session that is aimed stays, and is in order
   pub aim_order : (s t : Session) → IsInOrder m s → AimsOne n.learned s t → Stays s t × IsInOrder n t
@@ -126,12 +121,13 @@ aims_connection ls s t aims = go (is_live s && not s.quiet) aims
     go false e = ap (λ (x : Session). x.connection) e
 
 pub sound_reached : LowerLaws → (p : Leaf → Bool) (m n : State) → IsSound m → n.settings ≡ m.settings → n.learned ≡ kept_of p m.learned → ((switch : ℕ) → knows m.scene switch ≡ true → knows n.scene switch ≡ true)
-    → n.opened ≡ m.opened → ((l : Learnings) → AreLearned m l → AllByRecursion (IsCurrent n l.switch) (those p l.traces)) → AimsAll n.learned m.sessions n.sessions → n.jobs ≡ m.jobs → m.job_count ≤ n.job_count → IsSound n
-sound_reached laws p m n h settings learned known opened current aims jobs few =
+    → BeginAtPorts n.scene → n.opened ≡ m.opened → ((l : Learnings) → AreLearned m l → AllByRecursion (IsCurrent n l.switch) (those p l.traces)) → AimsAll n.learned m.sessions n.sessions → n.jobs ≡ m.jobs → m.job_count ≤ n.job_count → IsSound n
+sound_reached laws p m n h settings learned known links opened current aims jobs few =
     sound_following m n h (subst AreInRange (sym settings) h.ranges) (subst (AllByRecursion (AreLearned n)) (sym learned) (all_kept laws p m n settings current m.learned h.learned))
     (subst (AllPairs (λ (k l : Learnings). k.switch ≢ l.switch)) (sym learned) (pairs_from (λ (k l : Learnings). k.switch ≢ l.switch) (kept_of p m.learned) (pairs_kept p m.learned (pairs_to (λ (k l : Learnings). k.switch ≢ l.switch) m.learned h.lists))))
     (subst (AllByRecursion (λ (l : Learnings). knows n.scene l.switch ≡ true)) (sym learned)
     (switches_kept (λ s. knows n.scene s ≡ true) p m.learned (all_weaker (λ (l : Learnings). knows m.scene l.switch ≡ true) (λ (l : Learnings). knows n.scene l.switch ≡ true) (λ l k. known l.switch k) m.learned h.switches)))
+    links
     (zip_weaker (λ s t. IsInOrder m s × AimsOne n.learned s t) (λ s t. Stays s t × IsInOrder n t) (λ s t b. aim_order laws p m n pruned s t b.0 b.1) m.sessions n.sessions
     (zip_with (IsInOrder m) (AimsOne n.learned) m.sessions n.sessions h.sessions (aims_zip n.learned m.sessions n.sessions aims)))
     jobs few
@@ -147,15 +143,15 @@ sound_reached laws p m n h settings learned known opened current aims jobs few =
     }
 
 -- an accepted update
-pub updated_sound : LowerLaws → (u : Update) (m n : State) → IsSound m → Reaches m (updated u m) n → IsSound n
-updated_sound laws u m n h r =
+pub updated_sound : LowerLaws → (u : Update) (m n : State) → IsSound m → refusal_of m.scene u ≡ None → Reaches m (updated u m) n → IsSound n
+updated_sound laws u m n h accepted r =
     let after = tells (lines.State (state_number (updated u m)) (gone m (updated u m))) (record (updated u m) { sessions = r.sessions }) in
     subst IsSound (sym r.now_is)
-    (sound_reached laws (is_current (cell_in (applied m.scene u))) m after h refl refl (knows_still m.scene u) refl
+    (sound_reached laws (is_current (cell_in (applied m.scene u))) m after h refl refl (knows_still m.scene u) (links_still m.scene u accepted h.links) refl
     (λ l a. current_stay laws.same m after (record { settings = refl; policy = refl; count = le_refl m.trace_count }) l a) r.aims refl (le_refl m.job_count))
 
 -- and another policy
 pub renewed_sound : LowerLaws → (policy : Policy) (m n : State) → IsSound m → Reaches m (renewed policy m) n → IsSound n
 renewed_sound laws policy m n h r =
     let after = tells (lines.State (state_number (renewed policy m)) (gone m (renewed policy m))) (record (renewed policy m) { sessions = r.sessions }) in
-    subst IsSound (sym r.now_is) (sound_reached laws (λ (l : Leaf). false) m after h refl refl (knows_still m.scene (Tables policy.tables)) refl (λ l a. none_stay after l.switch l.traces) r.aims refl (le_refl m.job_count))
+    subst IsSound (sym r.now_is) (sound_reached laws (λ (l : Leaf). false) m after h refl refl (knows_still m.scene (Tables policy.tables)) h.links refl (λ l a. none_stay after l.switch l.traces) r.aims refl (le_refl m.job_count))

@@ -15,13 +15,14 @@ use Rattle.switch_session.specs.declared.told.Phase.{Phase}
 use Rattle.switch_session.specs.declared.told.Phase.TheVariants as phases
 use Rattle.switch_session.specs.Calls.{opened, is_live as is_live_phase}
 use Rattle.switch_session.specs.Sessions.{breaks_off}
+use Rattle.trace_tree.specs.declared.node.Trace.{Trace}
 use Rattle.switch_traces.specs.Traces.{Learnings}
 use Rattle.switch_traces.specs.Lists.{AreRulesOf}
 use Rattle.update_plan.proofs.Members.{pairs_filter}
 use Rattle.machine_steps.specs.declared.job.Job.{Job}
 use Rattle.machine_steps.specs.Machine.{Session, State, most_sessions, has_ended, is_live, is_open, is_of, was_opened, open_count, with_session, without_session, with_traces, traces_in, traces_of}
 use Rattle.machine_steps.specs.Steps.{switch_of, closes}
-use Rattle.machine_steps.specs.Sound.{AreInRange, AreLearned, IsInOrder, AreOthers, IsServed, IsSound}
+use Rattle.machine_steps.specs.Sound.{AreInRange, AreLearned, HeadsRight, IsInOrder, AreOthers, IsServed, BeginAtPorts, IsSound}
 use Rattle.machine_steps.proofs.Sound.Zipped.{pairs_to, pairs_from, pairs_push, all_weaker, all_push, all_filter, all_passing, few_filter, few_among, all_others, find_all, find_append, find_among, zip_all, zip_few, zip_pairs, zip_refl, zip_weaker, zip_with}
 use Rattle.machine_steps.proofs.Sound.Alike.{IsUnder, IsAlike, learned_under, order_alike, heads_alike, early_alike}
 use Rattle.machine_steps.proofs.Sound.Following.{Stays, Serves, Put, Follow, stays_same, stays_in_phase, same_switch, serves_same, serves_still, others_turn, put_zip, sound_following}
@@ -66,7 +67,7 @@ order_beside m n b s o = order_alike m n s (alike_beside m n b s) o
 -- a state beside a sound one, whose sessions follow, is sound
 pub sound_beside : (m n : State) → IsSound m → IsBeside m n → Follow m n → n.jobs ≡ m.jobs → IsSound n
 sound_beside m n h b follow jobs =
-    sound_following m n h (subst AreInRange (sym b.settings) h.ranges) (learned_beside m n b h.learned) (lists_beside m n b h.lists) (switches_beside m n b h.switches) follow jobs b.job_count
+    sound_following m n h (subst AreInRange (sym b.settings) h.ranges) (learned_beside m n b h.learned) (lists_beside m n b h.lists) (switches_beside m n b h.switches) (subst BeginAtPorts (sym b.scene) h.links) follow jobs b.job_count
 
 -- the sessions are the same
 pub follow_same : (m n : State) → IsSound m → IsBeside m n → n.sessions ≡ m.sessions → Follow m n
@@ -87,6 +88,34 @@ module _ (m : State) (told : List Line) where
   -- the report is no part of what is sound
   pub sound_told : IsSound m → IsSound telling
   sound_told h = sound_beside m telling h telling_beside (follow_same m telling h telling_beside refl) refl
+
+-- ---- jobs that are closed
+
+module _ (m : State) (p : Job → Bool) (told : List Line) where
+  abbrev fewer : State
+  fewer = record m { jobs = filter p m.jobs; lines = told }
+
+  fewer_beside : IsBeside m fewer
+  fewer_beside = record { settings = refl; policy = refl; scene = refl; learned = refl; opened = λ c o. o; count = le_refl m.trace_count; job_count = le_refl m.job_count }
+
+  served_fewer : (j : Job) → IsServed m j → IsServed fewer j
+  served_fewer j v = serves_still m fewer (le_refl m.job_count) j (zip_refl (Serves j.connection) (serves_same j.connection) m.sessions) v
+
+  -- nothing else changes but the report
+  pub sound_fewer : IsSound m → IsSound fewer
+  sound_fewer h = record {
+    ranges = h.ranges;
+    learned = learned_beside m fewer fewer_beside h.learned;
+    lists = h.lists;
+    switches = h.switches;
+    links = h.links;
+    sessions = all_weaker (IsInOrder m) (IsInOrder fewer) (order_beside m fewer fewer_beside) m.sessions h.sessions;
+    others = h.others;
+    few_sessions = h.few_sessions;
+    jobs = all_filter (IsServed fewer) p m.jobs (all_weaker (IsServed m) (IsServed fewer) served_fewer m.jobs h.jobs);
+    numbers = pairs_filter (λ (i j : Job). i.number ≢ j.number) p m.jobs h.numbers;
+    few_jobs = let a = few_filter p m.jobs in let b = h.few_jobs in omega (arith, a, b);
+  }
 
 -- ---- one session
 
@@ -185,6 +214,7 @@ module _ (m : State) (p : Session → Bool) (s t : Session) (end : End) (told : 
       learned = learned_beside m closed_now closed_beside h.learned;
       lists = h.lists;
       switches = h.switches;
+      links = h.links;
       sessions = zip_all (Put s t) (IsInOrder m) (IsInOrder closed_now) closed_order m.sessions closed_now.sessions closed_zip h.sessions;
       others = pairs_from AreOthers closed_now.sessions (zip_pairs (Put s t) AreOthers AreOthers closed_others m.sessions closed_now.sessions closed_zip (pairs_to AreOthers m.sessions h.others));
       few_sessions = let a = zip_few (Put s t) is_open closed_opens m.sessions closed_now.sessions closed_zip in let b = h.few_sessions in omega (arith, a, b);
@@ -253,6 +283,7 @@ module _ (m : State) (c : ℕ) (told : List Line) where
     learned = learned_beside m longer longer_beside h.learned;
     lists = h.lists;
     switches = h.switches;
+    links = h.links;
     sessions = all_push (IsInOrder longer) m.sessions fresh (all_weaker (IsInOrder m) (IsInOrder longer) (order_beside m longer longer_beside) m.sessions h.sessions) order_fresh;
     others = pairs_from AreOthers longer.sessions (pairs_push AreOthers m.sessions fresh (pairs_to AreOthers m.sessions h.others) (all_weaker (IsInOrder m) (λ x. AreOthers x fresh) (apart_fresh new) m.sessions h.sessions));
     few_sessions = let e = one_more in omega (arith, e, few);
@@ -297,6 +328,7 @@ module _ (m : State) (p : Session → Bool) (s : Session) (c : ℕ) where
       learned = learned_beside m shorter shorter_beside h.learned;
       lists = h.lists;
       switches = h.switches;
+      links = h.links;
       sessions = all_filter (IsInOrder shorter) beside_it m.sessions (all_weaker (IsInOrder m) (IsInOrder shorter) (order_beside m shorter shorter_beside) m.sessions h.sessions);
       others = pairs_filter AreOthers beside_it m.sessions h.others;
       few_sessions = let a = few_among is_open beside_it m.sessions in let b = h.few_sessions in omega (arith, a, b);
@@ -305,66 +337,75 @@ module _ (m : State) (p : Session → Bool) (s : Session) (c : ℕ) where
       few_jobs = h.few_jobs;
     }
 
+-- ---- a live session's switch has other traces
+
+module _ (m : State) (p : Session → Bool) (s t : Session) (traces : List Trace) (count : ℕ) (told : List Line) where
+  abbrev its : ℕ
+  its = switch_of t
+
+  abbrev pub retraced : State
+  retraced = record (with_traces its traces (with_session t m)) { trace_count = count; lines = told }
+
+  pub traces_now : traces_of its retraced ≡ traces
+  traces_now = traces_put its traces m.learned
+
+  order_elsewhere : is_live s ≡ true → its ≡ switch_of s → (x : Session) → AreOthers x s → IsInOrder m x → IsInOrder retraced x
+  order_elsewhere l same x o a = record {
+    live = λ k. heads_alike m retraced x
+        (record {
+          settings = refl;
+          scene = refl;
+          traces = traces_beside its traces (switch_of x) (λ e. o.switches k l (e ∙ same)) m.learned;
+          listed = listed_still its traces (switch_of x) m.learned;
+          opened = λ q. q;
+        }) (a.live k);
+    early = λ k e. early_alike m retraced x refl (a.early k e);
+    idle = a.idle;
+    opened = a.opened;
+  }
+
+  pub order_retraced : is_live s ≡ true → Stays s t → HeadsRight retraced t → t.prepared ≡ None → IsInOrder m s → IsInOrder retraced t
+  order_retraced l stays heads idle o = record {
+    live = λ k. heads;
+    early = λ k e. (let g = stays.live_too in absurd (cc));
+    idle = idle;
+    opened = ap (λ c. was_opened c m) stays.connection ∙ o.opened;
+  }
+
+  -- the session heads for their rules
+  pub sound_retraced : IsSound m → find p m.sessions ≡ Some s → is_live s ≡ true → Stays s t → m.trace_count ≤ count → AreLearned retraced (record { switch = its; traces = traces }) → HeadsRight retraced t → t.prepared ≡ None
+      → IsSound retraced
+  sound_retraced h found l stays more learned heads idle =
+      let o = find_all (IsInOrder m) p m.sessions s h.sessions found in
+      sound_following m retraced h h.ranges
+      (all_put its traces (AreLearned retraced) learned m.learned
+      (all_weaker (AreLearned m) (AreLearned retraced) (learned_under m retraced (record { settings = refl; policy = refl; count = more }) refl) m.learned h.learned))
+      (pairs_from (λ (k l : Learnings). k.switch ≢ l.switch) retraced.learned (pairs_put its traces m.learned (pairs_to (λ (k l : Learnings). k.switch ≢ l.switch) m.learned h.lists)))
+      (all_put its traces (λ (l : Learnings). knows m.scene l.switch ≡ true) heads.known m.learned h.switches)
+      h.links
+      (follow_with m retraced p s t h found stays (order_elsewhere l (same_switch s t stays.dpid)) (order_retraced l stays heads idle o) refl) refl (le_refl m.job_count)
+
 -- ---- the first error of a batch
 
 module _ (laws : LowerLaws) (m : State) (p : Session → Bool) (s : Session) (told : List Line) where
   abbrev broken : Session
   broken = breaks_off s
 
-  abbrev its : ℕ
-  its = switch_of broken
-
   abbrev quieter : State
-  quieter = record (with_traces its [] (with_session broken m)) { lines = told }
-
-  stays_broken : Stays s broken
-  stays_broken = let b = breaks_so s in stays_in_phase s broken b.connection b.phase b.dpid
-
-  its_same : its ≡ switch_of s
-  its_same = same_switch s broken (breaks_so s).dpid
-
-  order_others : is_live s ≡ true → (x : Session) → AreOthers x s → IsInOrder m x → IsInOrder quieter x
-  order_others l x o a = record {
-    live = λ k. heads_alike m quieter x
-        (record {
-          settings = refl;
-          scene = refl;
-          traces = traces_beside its [] (switch_of x) (λ e. o.switches k l (e ∙ its_same)) m.learned;
-          listed = listed_still its [] (switch_of x) m.learned;
-          opened = λ q. q;
-        }) (a.live k);
-    early = λ k e. early_alike m quieter x refl (a.early k e);
-    idle = a.idle;
-    opened = a.opened;
-  }
-
-  no_traces : traces_of its quieter ≡ []
-  no_traces = traces_put its [] m.learned
-
-  order_broken : is_live s ≡ true → IsInOrder m s → IsInOrder quieter broken
-  order_broken l o =
-      let b = breaks_so s in
-      let was = o.live l in
-      record {
-        live = λ k. record {
-          rules = subst₂ AreRulesOf (sym no_traces) (sym b.heading) laws.nil.rules;
-          quiet = λ q. no_traces;
-          number = b.dpid ∙ was.number ∙ ap Some (sym its_same);
-          known = ap (knows m.scene) its_same ∙ was.known;
-          listed = listed_put its [] m.learned;
-          capacity = b.capacity ∙ was.capacity;
-        };
-        early = λ k e. (let g = stays_broken.live_too in absurd (cc));
-        idle = b.idle;
-        opened = ap (λ c. was_opened c m) b.connection ∙ o.opened;
-      }
+  quieter = retraced m p s broken [] m.trace_count told
 
   pub sound_quiet : IsSound m → find p m.sessions ≡ Some s → is_live s ≡ true → IsSound quieter
   sound_quiet h found l =
-      let o = find_all (IsInOrder m) p m.sessions s h.sessions found in
-      sound_following m quieter h h.ranges
-      (all_put its [] (AreLearned quieter) (learned_nil laws quieter its) m.learned
-      (all_weaker (AreLearned m) (AreLearned quieter) (learned_under m quieter (record { settings = refl; policy = refl; count = le_refl m.trace_count }) refl) m.learned h.learned))
-      (pairs_from (λ (k l : Learnings). k.switch ≢ l.switch) quieter.learned (pairs_put its [] m.learned (pairs_to (λ (k l : Learnings). k.switch ≢ l.switch) m.learned h.lists)))
-      (all_put its [] (λ (l : Learnings). knows m.scene l.switch ≡ true) (ap (knows m.scene) its_same ∙ (o.live l).known) m.learned h.switches)
-      (follow_with m quieter p s broken h found stays_broken (order_others l) (order_broken l o) refl) refl (le_refl m.job_count)
+      let b = breaks_so s in
+      let was = (find_all (IsInOrder m) p m.sessions s h.sessions found).live l in
+      let same = same_switch s broken b.dpid in
+      let none = traces_now m p s broken [] m.trace_count told in
+      sound_retraced m p s broken [] m.trace_count told h found l (stays_in_phase s broken b.connection b.phase b.dpid) (le_refl m.trace_count) (learned_nil laws.nil quieter (switch_of broken))
+      (record {
+        rules = subst₂ AreRulesOf (sym none) (sym b.heading) laws.nil.rules;
+        quiet = λ q. none;
+        number = b.dpid ∙ was.number ∙ ap Some (sym same);
+        known = ap (knows m.scene) same ∙ was.known;
+        listed = listed_put (switch_of broken) [] m.learned;
+        capacity = b.capacity ∙ was.capacity;
+      }) b.idle

@@ -1,6 +1,9 @@
 -- Each entry leaves a sound state.
 use Rattle.std.proofs.Common.{◌≡◌, ◌≢◌, ℕ, Bool, true, false, [], refl, sym, subst, inl, inr, arith}
 use Rattle.std.specs.Prelude.{◌==◌}
+use Rattle.std.specs.FinMap as map
+use Rattle.maple_base.specs.declared.cells.Place.{Place}
+use Rattle.env_cells.specs.Environment.{place_cmp}
 use Rattle.update_plan.proofs.Members.{pairs_none}
 use Rattle.switch_traces.specs.Traces.{Learnings}
 use Rattle.machine_steps.specs.declared.entry.Entry.TheVariants as entries
@@ -18,6 +21,8 @@ use Rattle.machine_steps.proofs.Sound.Kept.{LowerLaws}
 use Rattle.machine_steps.proofs.Sound.Moves.{order_outbox}
 use Rattle.machine_steps.proofs.Sound.Reached.{renewed_sound}
 use Rattle.machine_steps.proofs.Sound.Replaced.{sound_told, sound_with, sound_full, sound_opened, sound_gone}
+use Rattle.machine_steps.proofs.Sound.Answering.{sound_commit}
+use Rattle.machine_steps.proofs.Sound.Deciding.{sound_decide}
 use Rattle.machine_steps.proofs.Sound.Hearing.{sound_update, sound_end, sound_input}
 
 pub opens_sound : OpensSound
@@ -26,6 +31,7 @@ opens_sound policy settings ranges = record {
   learned = tt;
   lists = pairs_none (λ (k l : Learnings). k.switch ≢ l.switch);
   switches = tt;
+  links = λ from there. (let none = map.get-empty {X = Place} place_cmp from in absurd (cc));
   sessions = tt;
   others = pairs_none AreOthers;
   few_sessions = omega arith;
@@ -63,24 +69,24 @@ lends old NoMemory new h e = stays old new h e
 lends old other new h e = absurd e
 
 pub keeps_sound : LowerLaws → KeepsSound
-keeps_sound laws old (entries.Open c) reply new h a n s = opens c old reply new h s
-keeps_sound laws old (entries.Heard c input) reply new h a n s = sound_input laws c input old reply new h n s
-keeps_sound laws old (entries.Gone c fault) reply new h a n s = sound_end c _ old reply new h s
-keeps_sound laws old (entries.Change u) reply new h a n s = sound_update laws u old reply new h s
-keeps_sound laws old (entries.NewPolicy p) reply new h a n (inl s) = renewed_sound laws p old new h s.1
-keeps_sound laws old (entries.NewPolicy p) reply new h a n (inr s) = stays old new h s.1
-keeps_sound laws old (entries.ReadCell c) reply new h a n s = stays old new h s.1
-keeps_sound laws old entries.ReadPolicy reply new h a n s = lends old reply new h s
-keeps_sound laws old (entries.ReadRules switch) reply new h a n (inl s) = subst IsSound (sym s.3) (sound_told old _ h)
-keeps_sound laws old (entries.ReadRules switch) reply new h a n (inr s) = stays old new h s.1
-keeps_sound laws old entries.OpenJobs reply new h a n s = stays old new h s.1
-keeps_sound laws old (entries.Commit job run) reply new h a n s = absurd (cc)
-keeps_sound laws old (entries.Decide job) reply new h a n s = absurd (cc)
-keeps_sound laws old (entries.TakeOut c) reply new h a n s = takes c old reply new h s
-keeps_sound laws old entries.TakeReport reply new h a n (inl s) = subst IsSound (sym s.1) (sound_told old [] h)
-keeps_sound laws old entries.TakeReport reply new h a n (inr s) = stays old new h s.1
-keeps_sound laws old (entries.Note note) reply new h a n (inl s) = subst IsSound (sym s.1) (sound_told old _ h)
-keeps_sound laws old (entries.Note note) reply new h a n (inr s) = stays old new h s.1
+keeps_sound laws old (entries.Open c) reply new h a s = opens c old reply new h s
+keeps_sound laws old (entries.Heard c input) reply new h a s = sound_input laws c input old reply new h a s
+keeps_sound laws old (entries.Gone c fault) reply new h a s = sound_end c _ old reply new h s
+keeps_sound laws old (entries.Change u) reply new h a s = sound_update laws u old reply new h s
+keeps_sound laws old (entries.NewPolicy p) reply new h a (inl s) = renewed_sound laws p old new h s.1
+keeps_sound laws old (entries.NewPolicy p) reply new h a (inr s) = stays old new h s.1
+keeps_sound laws old (entries.ReadCell c) reply new h a s = stays old new h s.1
+keeps_sound laws old entries.ReadPolicy reply new h a s = lends old reply new h s
+keeps_sound laws old (entries.ReadRules switch) reply new h a (inl s) = subst IsSound (sym s.3) (sound_told old _ h)
+keeps_sound laws old (entries.ReadRules switch) reply new h a (inr s) = stays old new h s.1
+keeps_sound laws old entries.OpenJobs reply new h a s = stays old new h s.1
+keeps_sound laws old (entries.Commit job run) reply new h a s = sound_commit laws job run old reply new h a s
+keeps_sound laws old (entries.Decide job) reply new h a s = sound_decide laws job old reply new h s
+keeps_sound laws old (entries.TakeOut c) reply new h a s = takes c old reply new h s
+keeps_sound laws old entries.TakeReport reply new h a (inl s) = subst IsSound (sym s.1) (sound_told old [] h)
+keeps_sound laws old entries.TakeReport reply new h a (inr s) = stays old new h s.1
+keeps_sound laws old (entries.Note note) reply new h a (inl s) = subst IsSound (sym s.1) (sound_told old _ h)
+keeps_sound laws old (entries.Note note) reply new h a (inr s) = stays old new h s.1
 
 -- a sound state may take an update
 pub can_reach : (m : State) → IsSound m → CanReach m

@@ -1,7 +1,7 @@
 use Rattle.std.proofs.Common.{ap, ◌∙◌, refl}
 use Rattle.std.proofs.lemmas.Option.{slice_get_within}
 use Rattle.machine_steps.specs.Machine.{is_open}
-use Rattle.core_machine.specs.Seen.{due}
+use Rattle.machine_sessions.specs.Sessions.{due}
 use Rattle.core_machine.proofs.OneSession.{is_session, room_for_line, room_behind, put_aims, closes_seen}
 use Rattle.core_machine.proofs.parts.Parts.end_at.Goals as goal
 

@@ -1,5 +1,5 @@
 use Rattle.std.proofs.Common.{refl, ap}
-use Rattle.core_machine.specs.Seen.{due}
+use Rattle.machine_sessions.specs.Sessions.{due}
 use Rattle.switch_session.specs.Sessions.{forgotten}
 use Rattle.core_machine.proofs.OneSession.{put_roomy, put_seen}
 use Rattle.core_machine.proofs.parts.Parts.give_up.Goals as goal

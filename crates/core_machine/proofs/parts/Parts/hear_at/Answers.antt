@@ -3,11 +3,11 @@ use Rattle.std.specs.List.{slice_get}
 use Rattle.switch_session.specs.declared.told.Heard.TheVariants as heard
 use Rattle.report_text.specs.declared.line.Line.{Line}
 use Rattle.report_text.specs.declared.line.Line.TheVariants as lines
-use Rattle.core_machine.specs.declared.connection.Connection.{Connection}
+use Rattle.machine_sessions.specs.declared.connection.Connection.{Connection}
 use Rattle.machine_steps.specs.Machine.{Session}
-use Rattle.core_machine.specs.Seen.{session_of, due_all}
+use Rattle.machine_sessions.specs.Sessions.{session_of, due_all}
 use Rattle.machine_steps.specs.Steps.{switch_of, error_lines}
-use Rattle.core_machine.proofs.Hearing.{has_heard, back, on_err, within_after, same_after, lacks_there, room_there, passed_there, ready_room, ready_left, ready_there, quiet_there, listed_there, refused_there, no_room_there, ended_there, can_change, port_there, joins_there, few_there, joined_there}
+use Rattle.core_machine.proofs.Hearing.{has_heard, back, on_err, within_after, same_after, lacks_there, room_there, passed_there, ready_room, ready_left, ready_there, quiet_there, listed_there, refused_there, no_room_there, ended_there, can_change, port_there, sound_there, small_there, packet_heard, packet_lacks, joins_there, few_there, joined_there}
 use Rattle.core_machine.proofs.parts.Parts.hear_at.Goals as goal
 
 pub invariant_of-self : goal.invariant_of-self
@@ -67,6 +67,32 @@ returns-in-Port-clause-hears c =
     let f = has_heard c.self.view_is c.requires.at c.requires.sound c.in-Port.is c.in_ok-heard.ensures.heard in
     let k = subst (λ (cs : List Connection). IfSome (slice_get (map session_of cs) c.args.at) (λ (s : Session). c.switch_at-switch.result ≡ switch_of s)) c.deref.ensures.value c.switch_at-switch.ensures in
     back c.self.view_is (port_there f c.switch_at-switch.result k c.change.ensures)
+
+pub invariant_of-self-in-PacketIn : goal.invariant_of-self-in-PacketIn
+invariant_of-self-in-PacketIn c =
+    let f = has_heard c.self.view_is c.requires.at c.requires.sound c.in-PacketIn.is c.in_ok-heard.ensures.heard in
+    record { aims = c.hear_in.ensures.idle c.self.invariant.aims; room = omega (arith, room_there f, c.self.invariant.room) }
+
+pub hear_packet-requires-clause-sound : goal.hear_packet-requires-clause-sound
+hear_packet-requires-clause-sound c =
+    let f = has_heard c.self.view_is c.requires.at c.requires.sound c.in-PacketIn.is c.in_ok-heard.ensures.heard in
+    sound_there f
+
+pub hear_packet-requires-clause-small : goal.hear_packet-requires-clause-small
+hear_packet-requires-clause-small c =
+    let f = has_heard c.self.view_is c.requires.at c.requires.sound c.in-PacketIn.is c.in_ok-heard.ensures.heard in
+    small_there f c.requires.heard
+
+pub returns-in-PacketIn-clause-hears : goal.returns-in-PacketIn-clause-hears
+returns-in-PacketIn-clause-hears c =
+    let f = has_heard c.self.view_is c.requires.at c.requires.sound c.in-PacketIn.is c.in_ok-heard.ensures.heard in
+    let k = subst (λ (cs : List Connection). IfSome (slice_get (map session_of cs) c.args.at) (λ (s : Session). c.switch_at-switch.result ≡ switch_of s)) c.deref.ensures.value c.switch_at-switch.ensures in
+    packet_heard f c.switch_at-switch.result c.hear_packet.new.self c.self.view_is k c.hear_packet.result c.hear_packet.ensures.heard
+
+pub returns-in-PacketIn-clause-lacks : goal.returns-in-PacketIn-clause-lacks
+returns-in-PacketIn-clause-lacks c =
+    let f = has_heard c.self.view_is c.requires.at c.requires.sound c.in-PacketIn.is c.in_ok-heard.ensures.heard in
+    packet_lacks f c.hear_packet.new.self c.self.view_is c.hear_packet.result c.hear_packet.ensures.kept
 
 pub tell_ready-requires : goal.tell_ready-requires
 tell_ready-requires c =

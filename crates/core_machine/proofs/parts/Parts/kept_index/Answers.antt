@@ -1,11 +1,11 @@
 use Rattle.std.proofs.Common.{◌≡◌, sym, ap, ◌∙◌, subst, None}
 use Rattle.std.specs.Prelude.{MatchOption, position}
-use Rattle.core_machine.specs.declared.connection.Connection.{Connection}
-use Rattle.core_machine.specs.Kept.{IsKeptAt, is_kept}
+use Rattle.machine_sessions.specs.declared.connection.Connection.{Connection}
+use Rattle.machine_sessions.specs.Finding.{IsKeptAt, is_kept}
 use Rattle.machine_steps.specs.Machine.{State}
-use Rattle.core_machine.specs.Seen.{session_of}
+use Rattle.machine_sessions.specs.Sessions.{session_of}
 use Rattle.machine_steps.specs.Steps.{kept_at}
-use Rattle.core_machine.proofs.Sessions.{kept_place_is}
+use Rattle.machine_sessions.proofs.Sessions.{kept_place_is}
 use Rattle.core_machine.proofs.parts.Parts.kept_index.Goals as goal
 
 pub returns : goal.returns

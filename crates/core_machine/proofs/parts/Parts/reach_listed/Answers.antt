@@ -1,7 +1,7 @@
 use Rattle.std.proofs.Common.{IfOk, ap, sym, ◌∙◌, subst}
 use Rattle.machine_steps.specs.Places.{CanReach}
-use Rattle.core_machine.specs.Joining.{is_listed}
-use Rattle.core_machine.specs.Aiming.{ReachesBy}
+use Rattle.machine_sessions.specs.Finding.{is_listed}
+use Rattle.core_machine.specs.Reaching.{ReachesBy}
 use Rattle.core_machine.proofs.Joining.{listed_is, unlisted_is}
 use Rattle.core_machine.proofs.parts.Parts.reach_listed.Goals as goal
 

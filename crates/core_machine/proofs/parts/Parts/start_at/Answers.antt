@@ -1,7 +1,7 @@
 use Rattle.std.proofs.Common.{ap, ◌∙◌}
 use Rattle.std.proofs.lemmas.Option.{slice_get_within}
 use Rattle.switch_session.specs.Sessions.{accepted}
-use Rattle.core_machine.specs.Seen.{due}
+use Rattle.machine_sessions.specs.Sessions.{due}
 use Rattle.core_machine.proofs.OneSession.{is_session, put_roomy, put_seen, due_accepted}
 use Rattle.core_machine.proofs.parts.Parts.start_at.Goals as goal
 

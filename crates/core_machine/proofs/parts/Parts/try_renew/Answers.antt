@@ -1,4 +1,4 @@
-use Rattle.std.proofs.Common.{◌≡◌, ◌+◌, ℕ, List, [], ◌∷◌, ◌++◌, length, map, false, ap, sym, subst, ◌∙◌, arith}
+use Rattle.std.proofs.Common.{◌≡◌, ◌+◌, ℕ, List, [], ◌∷◌, ◌++◌, length, map, false, refl, ap, sym, subst, ◌∙◌, arith}
 use Rattle.std.proofs.lemmas.List.{length-map, with_items_is}
 use Rattle.std.specs.Vec.{with_items}
 use Rattle.std.specs.List.{AllByRecursion}
@@ -9,12 +9,13 @@ use Rattle.trace_tree.specs.declared.node.Leaf.{Leaf}
 use Rattle.report_text.specs.declared.line.Line.{Line}
 use Rattle.report_text.specs.declared.line.Line.TheVariants.{State as StateLine}
 use Rattle.switch_traces.specs.Traces.{Learnings}
-use Rattle.core_machine.specs.declared.connection.Connection.{Connection}
+use Rattle.machine_sessions.specs.declared.connection.Connection.{Connection}
 use Rattle.machine_steps.specs.Machine.{State, kept_of, policy_number, state_number, tells, this_state, trace_total}
-use Rattle.core_machine.specs.Seen.{due_all, seen, seen_past, session_of}
+use Rattle.core_machine.specs.Seen.{seen, seen_past}
+use Rattle.machine_sessions.specs.Sessions.{due_all, session_of}
 use Rattle.machine_steps.specs.Steps.{Reaches, reached, renewed}
-use Rattle.core_machine.specs.Aiming.{AreReadied, CanTurn, turns}
-use Rattle.core_machine.proofs.Aiming.{all_due, all_turn, err_holds, none_aimed, ok_holds}
+use Rattle.machine_sessions.specs.Aiming.{AreReadied, CanTurn, turns}
+use Rattle.machine_sessions.proofs.Aiming.{all_due, all_turn, err_holds, none_aimed, ok_holds}
 use Rattle.core_machine.proofs.Reaching.{IsIdle, can_ready, given_back, maps_more, next_seen, one_longer, past_state, reached_next, seen_again}
 use Rattle.core_machine.proofs.parts.Parts.try_renew.Goals as goal
 
@@ -44,7 +45,7 @@ returns-then-is_err-clause-kept c =
     let between = with_items_is a.sessions ds many in
     let given = given_back _ a.sessions.items c.deref_mut.result.now ds c.deref_mut-then-is_err.result.now c.give_up_all.new.sessions c.deref_mut.ensures.value c.self.invariant.aims c.in_ok-make_ready.ensures.ready (c.deref_mut-then-is_err.ensures.value ∙ between) c.give_up_all.ensures in
     let back = with_items_is (with_items a.sessions ds) c.give_up_all.new.sessions (omega (arith, ap length given, a.sessions.ok.0)) ∙ given in
-    seen_again (seen a) _ _ _ _ _ (ap (map (λ s. s.value)) c.in_ok-reserve.ensures.items) (ap (map seen_past) c.in_ok-state.ensures.states) (err_holds c.apply.result _ (sym c.is_err.ensures.value ∙ c.if-is_err.true) c.apply.ensures.unchanged) (ap (map session_of) back) c.in_ok-state.ensures.lines ∙ c.self.view_is
+    seen_again (seen a) _ _ _ _ _ _ (ap (map (λ s. s.value)) c.in_ok-reserve.ensures.items) (ap (map seen_past) c.in_ok-state.ensures.states) (err_holds c.apply.result _ (sym c.is_err.ensures.value ∙ c.if-is_err.true) c.apply.ensures.unchanged) (ap (map session_of) back) refl c.in_ok-state.ensures.lines ∙ c.self.view_is
 
 pub turn_all-requires : goal.turn_all-requires
 turn_all-requires c =

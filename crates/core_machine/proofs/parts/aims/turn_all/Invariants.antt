@@ -1,6 +1,0 @@
-use Rattle.std.proofs.Common.{◌≡◌, ◌++◌, drop, map, take}
-use Rattle.core_machine.specs.Aiming.{turns}
-use Rattle.core_machine.proofs.parts.aims.turn_all.Given as goal
-
-abbrev pub invariant-loop-connection : goal.invariant-loop-connection
-invariant-loop-connection l = l.sessions ≡ map turns (take l.connection-index l.fn.sessions) ++ drop l.connection-index l.fn.sessions
