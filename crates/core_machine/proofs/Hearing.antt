@@ -1,10 +1,10 @@
 -- What hearing a message does to the machine's sessions, and the room for lines that it leaves.
 use Rattle.std.proofs.Common.{◌≡◌, ℕ, zero, suc, ◌+◌, ◌<◌, ◌≤◌, Bool, true, false, Option, Some, None, Result, Ok, Err, IfOk, OnErr, List, [], ◌∷◌, ◌++◌, length, filter, not, map, set, append-nil, unwrap_or, inl, inr, refl, sym, ap, ap₂, ◌∙◌, subst, subst₂, arith}
 use Rattle.std.specs.Prelude.{◌⊎◌, IfSome, if◌then◌else◌, ◌==◌}
-use Rattle.std.specs.List.{AllByRecursion, AllPairs, slice_get, list_any}
+use Rattle.std.specs.List.{AllPairs, slice_get, list_any}
 use Rattle.std.proofs.lemmas.Bool.{eqb-true, and_parts}
 use Rattle.std.proofs.lemmas.List.{length-map}
-use Rattle.std.proofs.lemmas.Option.{same_Some, get_or_from_slice_get}
+use Rattle.std.proofs.lemmas.Option.{same_Some, get_or_from_slice_get, slice_get_within}
 use Rattle.of10_codec.specs.declared.message.Message.{Message}
 use Rattle.of10_codec.specs.declared.message.Body.{Body}
 use Rattle.maple_base.specs.declared.cells.Port.{Port}
@@ -24,11 +24,11 @@ use Rattle.switch_traces.specs.Traces.{Learnings}
 use Rattle.machine_steps.specs.declared.job.Job.{Job}
 use Rattle.machine_steps.specs.declared.reply.Reply.{Reply}
 use Rattle.machine_steps.specs.declared.reply.Reply.TheVariants.{Done, NoMemory, Ended}
-use Rattle.core_machine.specs.Joining.{change_at, unheard, IsJoining, Joined}
+use Rattle.machine_joins.specs.Joining.{change_at, unheard, IsJoining, Joined}
 use Rattle.switch_session.specs.Sessions.{forgotten, forgets_number}
 use Rattle.machine_steps.specs.Steps.{HearsMessage, LacksForMessage, HearsOf, HearsFeatures, HearsPacket, Updates, Lacks, is_spared, switch_of, why_of, error_lines}
 use Rattle.machine_sessions.specs.declared.connection.Connection.{Connection}
-use Rattle.core_machine.specs.Packets.{HearsPacketOf}
+use Rattle.machine_packets.specs.Packets.{HearsPacketOf}
 use Rattle.machine_sessions.specs.Hearing.{HearsAt}
 use Rattle.core_machine.specs.Hearing.{LacksMemory}
 use Rattle.machine_report.specs.Ready.{ready_lines, ready_count}
@@ -38,14 +38,10 @@ use Rattle.machine_sessions.specs.Sessions.{session_of, due, due_all}
 use Rattle.machine_steps.specs.Sound.{IsSound, IsInOrder, AreOthers}
 use Rattle.machine_steps.proofs.Sound.Stepping.{can_reach}
 use Rattle.machine_sessions.proofs.Keyed.{set_by_key, find_passes}
+use Rattle.machine_parts.proofs.There.{all_there}
 use Rattle.core_machine.proofs.Heard.{MadeOf, made, brings, due_made, connection_made, few_ports, small_packet}
 
 -- ---- lists
-
-pub all_at : {X : Type 0} (P : X → Type 0) (xs : List X) (at : ℕ) (x : X) → AllByRecursion P xs → slice_get xs at ≡ Some x → P x
-all_at P [] at x all e = absurd (cc)
-all_at P (y ∷ ys) zero x all e = subst P (same_Some y x e) all.0
-all_at P (y ∷ ys) (suc n) x all e = all_at P ys n x all.1 e
 
 pub set_same : {X : Type 0} (xs : List X) (at : ℕ) (x : X) → slice_get xs at ≡ Some x → set xs at x ≡ xs
 set_same [] at x e = refl
@@ -57,18 +53,13 @@ set_there [] at x y e = absurd (cc)
 set_there (z ∷ zs) zero x y e = refl
 set_there (z ∷ zs) (suc n) x y e = set_there zs n x y e
 
-pub within : {X : Type 0} (xs : List X) (at : ℕ) (x : X) → slice_get xs at ≡ Some x → at < length xs
-within [] at x e = absurd (cc)
-within (y ∷ ys) zero x e = omega arith
-within (y ∷ ys) (suc n) x e = let h = within ys n x e in omega arith
-
 -- ---- sessions of different connections
 
 -- a session in the place of the one of its connection
 replaced : (ss : List Session) (at : ℕ) (s t : Session) → slice_get ss at ≡ Some s → AllPairs AreOthers ss → t.connection ≡ s.connection
     → set ss at t ≡ map (λ (u : Session). if u.connection == t.connection then t else u) ss
 replaced ss at s t e others k =
-    sym (set_by_key (λ (u : Session). u.connection) ss at t (within ss at s e) (λ i j d l m. (others i j d l m).connections) (ap (λ (u : Session). u.connection) (get_or_from_slice_get ss at s t e) ∙ sym k))
+    sym (set_by_key (λ (u : Session). u.connection) ss at t (slice_get_within ss at s e) (λ i j d l m. (others i j d l m).connections) (ap (λ (u : Session). u.connection) (get_or_from_slice_get ss at s t e) ∙ sym k))
 
 -- ---- the lines that are due
 
@@ -83,7 +74,7 @@ behind_at : {at : ℕ} {m : Message} {xs : List Session} {a : Answer} {ys : List
 behind_at {at = at} {xs = xs} w = ap (λ (ss : List Session). slice_get ss at) w.now_is ∙ set_there xs at w.session w.behind w.there
 
 pub within_after : (cs : List Connection) {at : ℕ} {m : Message} {xs : List Session} {a : Answer} → HearsAt at m xs a (map session_of cs) → at < length cs
-within_after cs {at = at} w = let l = within (map session_of cs) at w.behind (behind_at w) in omega (arith, l, length-map cs session_of)
+within_after cs {at = at} w = let l = slice_get_within (map session_of cs) at w.behind (behind_at w) in omega (arith, l, length-map cs session_of)
 
 -- where the session stays as it is so do all
 unchanged : {at : ℕ} {m : Message} {xs : List Session} {a : Answer} {ys : List Session} (w : HearsAt at m xs a ys) → w.behind ≡ w.session → ys ≡ xs
@@ -145,7 +136,7 @@ module _ {old : State} {c at : ℕ} {m : Message} {ys : List Session} {h : Heard
   made_of = made m f.hears.session f.hears.behind (Ok h) f.hears.hears
 
   in_order : IsInOrder old f.hears.session
-  in_order = all_at (IsInOrder old) old.sessions at f.hears.session f.sound.sessions f.hears.there
+  in_order = all_there (IsInOrder old) at old.sessions f.hears.session f.hears.there f.sound.sessions
 
   message_heard : {reply : Reply} {new : State} → HearsOf m f.hears.behind h old reply new ⊎ ((is_spared m.body h ≡ false) × Lacks old reply new) → HearsMessage c m old reply new
   message_heard d = record { session = f.hears.session; there = found_there f.there f.hears; heard = h; behind = f.hears.behind; hears = f.hears.hears; does = d }

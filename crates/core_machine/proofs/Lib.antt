@@ -1,15 +1,3 @@
-pub mod Closing
-pub mod Committing
-pub mod Concluding
-pub mod Features
-pub mod Following
 pub mod Heard
 pub mod Hearing
-pub mod Joining
-pub mod Listing
-pub mod OneSession
-pub mod Opening
-pub mod Packets
-pub mod Reaching
-pub mod Taking
 pub mod Sending

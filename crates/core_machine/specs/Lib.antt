@@ -1,8 +1,2 @@
--- The machine is seen as the `State` of machine_steps. Seen says how; the others serve private contracts.
-pub mod Concluding
-pub mod Following
+-- The machine is seen as the `State` of machine_steps (Seen of machine_parts says how). Hearing serves a private contract.
 pub mod Hearing
-pub mod Joining
-pub mod Packets
-pub mod Reaching
-pub mod Seen

@@ -1,8 +1,9 @@
 //! The machine of the controller: what it does at each entry.
 #![tactic(auto)]
 
+mod dispatch;
 mod machine;
-mod parts;
+mod messages;
 mod view;
 
 pub use machine::Core;

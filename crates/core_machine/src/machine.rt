@@ -1,16 +1,15 @@
 // The machine, a step an entry.
-ghost use Rattle.std.specs.Prelude.{◌≡◌, IfOk, OnOk};
-ghost use Rattle.env_cells.specs.Changes.{applied};
-ghost use Rattle.env_cells.specs.declared.updates.Update.TheVariants.{Tables as TablesOf};
+ghost use Rattle.std.specs.Prelude.{◌≡◌, IfOk};
 ghost use Rattle.machine_steps.specs.Admitting.{Admits};
 ghost use Rattle.machine_steps.specs.Machine.{opening};
 ghost use Rattle.machine_steps.specs.Sound.{AreInRange, IsSound};
 ghost use Rattle.machine_steps.specs.Steps.{Steps};
 
-use crate::parts::Parts;
-use crate::parts::reaching::tables_of;
+use crate::dispatch::step;
+use machine_parts::Parts;
 use machine_sessions::Opened;
 use machine_steps::{Entry, Reply, machine_laws};
+use machine_updates::policies::declare_tables;
 use maple_base::{NoMemory, Settings};
 use policy_lang::Policy;
 use std::alloc::Global;
@@ -26,7 +25,7 @@ pub struct Core {
 }
 
 impl Model for Core {
-    ghost use Rattle.core_machine.specs.contracts.parts.Parts as parts_of;
+    ghost use Rattle.machine_parts.specs.contracts.parts.Parts as parts_of;
     ghost use Rattle.machine_steps.specs.Machine.{State};
     ghost use Rattle.machine_steps.specs.Sound.{IsSound};
 
@@ -76,7 +75,12 @@ impl Core {
         ensures step { Steps self.old entry result self.new }
     {
         machine_laws();
-        self.parts.step(entry)
+        step(&mut self.parts, entry)
+    }
+
+    /// The allocator that it uses.
+    pub fn alloc(&self) -> Global {
+        self.parts.alloc
     }
 
     /// What holds of each machine.
@@ -85,15 +89,4 @@ impl Core {
     {
         let _ = &self.parts;
     }
-}
-
-// The tables that the policy names are there and no others.
-fn declare_tables(alloc: Global, scene: &mut Scene, policy: &Policy) -> Result<(), NoMemory>
-    ensures { OnOk result (scene.new ≡ applied scene.old (TablesOf policy.now.tables)) }
-{
-    let update = tables_of(alloc, policy)?;
-    let Ok(()) = scene.apply(&update) else {
-        return Err(NoMemory);
-    };
-    Ok(())
 }

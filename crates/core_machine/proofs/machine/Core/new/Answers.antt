@@ -12,7 +12,7 @@ use Rattle.machine_steps.specs.declared.job.Job.{Job}
 use Rattle.machine_steps.specs.Machine.{PolicyState, Session, opening}
 use Rattle.machine_steps.specs.Sound.{IsSound}
 use Rattle.machine_sessions.specs.Sessions.{session_of}
-use Rattle.core_machine.specs.Seen.{seen_past}
+use Rattle.machine_parts.specs.Seen.{seen_past}
 use Rattle.core_machine.proofs.machine.Core.new.Goals as goal
 
 -- a machine without connections, traces and jobs is the opening one

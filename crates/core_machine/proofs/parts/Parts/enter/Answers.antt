@@ -1,7 +1,0 @@
-use Rattle.core_machine.proofs.Joining.{still_within}
-use Rattle.core_machine.proofs.parts.Parts.enter.Goals as goal
-
-pub give_up-requires : goal.give_up-requires
-give_up-requires c = record {
-  place = still_within c.args.at c.args.self.now c.accept.new.self c.requires.joins.session c.in-Err.ensures.err c.requires.joins.there;
-}

@@ -1,0 +1,14 @@
+use Rattle.std.proofs.Common.{◌≢◌, ◌==◌, sym, ap, ◌∙◌, subst}
+use Rattle.std.specs.Prelude.{Contains, MatchOption, position}
+use Rattle.machine_steps.specs.declared.job.Job.{Job}
+use Rattle.machine_steps.specs.Machine.{State}
+use Rattle.machine_answers.specs.Concluding.{HasJob}
+use Rattle.machine_answers.proofs.Committing.{job_is}
+use Rattle.machine_answers.proofs.runs.job_at.Goals as goal
+
+pub returns : goal.returns
+returns c =
+    let m = c.args.parts.now in
+    let n = c.args.number in
+    let place = c.place_of.ensures ∙ ap (position (λ (j : Job). j.number == n)) (c.deref.ensures.value ∙ ap (λ (x : State). x.jobs) c.parts.view_is) in
+    subst (λ o. MatchOption o ((j : Job) → Contains m.jobs j → j.number ≢ n) (λ at. HasJob n at m)) (sym place) (job_is n m)

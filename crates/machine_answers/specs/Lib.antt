@@ -1,0 +1,2 @@
+-- Concluding serves private contracts; what the calls do is said in machine_steps.
+pub mod Concluding

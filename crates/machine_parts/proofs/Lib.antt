@@ -1,0 +1,6 @@
+pub mod Closing
+pub mod Listing
+pub mod Opening
+pub mod Sending
+pub mod Taking
+pub mod There

@@ -1,0 +1,15 @@
+use Rattle.std.proofs.Common.{◌≡◌, sym, ap, ◌∙◌, subst, None}
+use Rattle.std.specs.Prelude.{MatchOption, position}
+use Rattle.machine_sessions.specs.declared.connection.Connection.{Connection}
+use Rattle.machine_sessions.specs.Finding.{IsKeptAt, is_kept}
+use Rattle.machine_steps.specs.Machine.{State}
+use Rattle.machine_sessions.specs.Sessions.{session_of}
+use Rattle.machine_steps.specs.Steps.{kept_at}
+use Rattle.machine_sessions.proofs.Sessions.{kept_place_is}
+use Rattle.machine_parts.proofs.takes.kept_index.Goals as goal
+
+pub returns : goal.returns
+returns c =
+    let place = c.kept_place.ensures ∙ ap (position (λ (k : Connection). is_kept c.args.connection (session_of k))) c.deref.ensures.value in
+    subst (λ o. MatchOption o (kept_at c.args.connection c.args.parts.now ≡ None) (λ at. IsKeptAt c.args.connection at c.args.parts.now))
+    (sym place) (kept_place_is c.parts.inside.sessions.items c.args.parts.now (ap (λ (m : State). m.sessions) c.parts.view_is) c.args.connection)
