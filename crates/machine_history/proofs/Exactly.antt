@@ -36,7 +36,7 @@ use Rattle.machine_history.proofs.Resting.{current_in}
 -- ---- what is found
 
 -- a trace that is found is one of them, and the key meets it
-found_all : (P : Trace → Type 0) (rs : List Trace) (k : Key) (r : Trace) → AllByRecursion P rs → found rs k ≡ Some r → P r × (meets k r.items ≡ true)
+pub found_all : (P : Trace → Type 0) (rs : List Trace) (k : Key) (r : Trace) → AllByRecursion P rs → found rs k ≡ Some r → P r × (meets k r.items ≡ true)
 found_all P [] k r h e = absurd (none-some r e)
 found_all P (x ∷ xs) k r h e = step (meets k x.items) refl (found_all P xs k r h.1) e
   where

@@ -3,7 +3,7 @@ mod Answering
 mod Answers
 mod Entries
 mod Evaluated
-mod Exactly
+pub mod Exactly
 mod Filters
 mod Hearing
 mod Lasting

@@ -1,0 +1,9 @@
+pub mod Current
+pub mod Entries
+pub mod Few
+pub mod Hearing
+pub mod Offers
+pub mod Parts
+pub mod Sessions
+pub mod Turns
+pub mod Widths
