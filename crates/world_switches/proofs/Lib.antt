@@ -1,0 +1,3 @@
+mod Clearings
+mod Stages
+mod Steps

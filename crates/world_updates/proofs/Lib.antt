@@ -1,0 +1,6 @@
+mod Aims
+mod Batches
+mod Leaving
+mod Moved
+mod Onward
+mod Signals
