@@ -1,0 +1,11 @@
+pub mod Along
+pub mod AtRest
+pub mod Falls
+pub mod Hits
+pub mod Links
+pub mod Marked
+pub mod Moved
+pub mod Runs
+pub mod Shields
+pub mod Tables
+pub mod Whole
