@@ -1,7 +1,5 @@
 -- With no barrier outstanding a hit shows the state now.
-use Rattle.std.proofs.Common.{◌≡◌, ℕ, List, [], ◌∷◌, ◌++◌, length, refl, sym, ap, ◌∙◌, subst, subst₂, inl, inr, arith}
-use Rattle.std.specs.Prelude.{Some}
-use Rattle.std.specs.List.{slice_get}
+use Rattle.std.proofs.Common.{◌≡◌, ℕ, sym, ap, ◌∙◌, subst, subst₂, inl, inr, arith}
 use Rattle.std.proofs.lemmas.Option.{same_Some}
 use Rattle.maple_base.specs.declared.decision.Outcome.TheVariants.{Decided}
 use Rattle.maple_base.specs.declared.decision.Rule.{Rule}
@@ -16,13 +14,10 @@ use Rattle.machine_steps.proofs.Running.{policy_last}
 use Rattle.world_steps.specs.Right.{IsRightHit, state_at}
 use Rattle.world_steps.specs.Runs.{turns_of}
 use Rattle.world_steps.specs.Since.{marks_of}
+use Rattle.world_turns.proofs.Backing.{state_last}
 use Rattle.world_right.specs.Laws.{HitsAtRestAreNow, IsRightNow}
 use Rattle.world_right.proofs.Marked.{since_at_rest}
 use Rattle.world_right.proofs.Runs.{RunLaws, ready_placed}
-
-state_last : (ss : List PolicyState) (s : PolicyState) → slice_get (ss ++ s ∷ []) (length ss) ≡ Some s
-state_last [] s = refl
-state_last (t ∷ ss) s = state_last ss s
 
 -- from now to now there is this state alone
 right_now : (m : State) (switch : ℕ) (k : Key) (r : Rule) → IsRightHit m (state_number m) switch k r → IsRightNow m switch k r

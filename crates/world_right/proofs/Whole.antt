@@ -36,6 +36,9 @@ module _ (laws : StageLaws) (grow : StatesGrow) (c : ℕ) where
     later : state_number w.machine ≤ state_number v.machine
     later = (grow w.machine entry reply v.machine enters.steps).later
 
+    still : whole ≤ state_number v.machine
+    still = let before = behind.until_now in let grows = later in omega arith
+
     abbrev IsSo : Option Session → Option Session → Type 0
     IsSo before now = IsBehind c v.machine (marked_by before now (state_number w.machine) (state_number v.machine) (marks c)) (whole_by before now (marks c) whole)
 
@@ -43,13 +46,13 @@ module _ (laws : StageLaws) (grow : StatesGrow) (c : ℕ) where
     enters_behind = go (session_at c w.machine) (session_at c v.machine) refl refl
       where
         go : (before now : Option Session) → session_at c w.machine ≡ before → session_at c v.machine ≡ now → IsSo before now
-        go None None was is = record { until_now = (let h = behind.until_now in let l = later in omega arith); running = λ s there part e. absurd (none-some s (sym is ∙ there)) }
+        go None None was is = record { until_now = still; running = λ s there part e. absurd (none-some s (sym is ∙ there)) }
         go None (Some t) was is = record {
-          until_now = (let h = behind.until_now in let l = later in omega arith);
+          until_now = still;
           running = λ s there part e.
               let new = (laws.sessions w.machine entry reply v.machine are.sound enters.steps c s was there).session in absurd (none-some part (ap (λ (x : Session). x.under_way) (sym new) ∙ e));
         }
-        go (Some s) None was is = record { until_now = (let h = behind.until_now in let l = later in omega arith); running = λ s there part e. absurd (none-some s (sym is ∙ there)) }
+        go (Some s) None was is = record { until_now = still; running = λ t there part e. absurd (none-some t (sym is ∙ there)) }
         go (Some s) (Some t) was is =
             let order = linked_ordered marks w are c s was in
             record {

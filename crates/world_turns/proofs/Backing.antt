@@ -53,7 +53,8 @@ spanned_later old new base switch part g a =
 
 -- ---- what is backed now
 
-state_last : (ss : List PolicyState) (s : PolicyState) → slice_get (ss ++ s ∷ []) (length ss) ≡ Some s
+-- the state of the number now
+pub state_last : (ss : List PolicyState) (s : PolicyState) → slice_get (ss ++ s ∷ []) (length ss) ≡ Some s
 state_last [] s = refl
 state_last (t ∷ ss) s = state_last ss s
 
