@@ -17,6 +17,7 @@ const DELETE: u16 = 3;
 
 const DELETE_STRICT: u16 = 4;
 
+/// Whether a message is a barrier.
 pub fn is_barrier(body: &Body) -> bool
     ensures { result ≡ is_barrier body.now }
 {

@@ -14,8 +14,9 @@ pub mod shuffled;
 mod waiting;
 
 pub use backward::Backward;
-pub use changes::change_of;
+pub use changes::{change_of, is_barrier};
 pub use failing::Failing;
 pub use logged::Logged;
+pub use looking::sends_up;
 pub use orderly::Orderly;
 pub use shuffled::Shuffled;

@@ -34,8 +34,8 @@ pub fn look_up(table: &Table, port: u16, frame: &[u8], out: &mut Vec<u8>) -> See
     }
 }
 
-// Whether a rule sends to the controller alone.
-fn sends_up(rule: &Rule) -> bool
+/// Whether a rule sends to the controller alone.
+pub fn sends_up(rule: &Rule) -> bool
     ensures { Decides result (rule.now.actions ≡ controller_port ∷ []) }
 {
     rule.actions.items() == [CONTROLLER_PORT].as_slice()
