@@ -82,11 +82,14 @@ next place items bytes ms now same k is some =
     let n : IsNext place bytes (behind place ms) = next_of place bytes (behind place ms) (all_behind place ms k.are_spelled) k.within k.rest (subst (λ x. 0 < length x) (sym is) some) in
     subst (λ b. IsNext place b now) (sym same) (subst (IsNext place bytes) is n)
 
--- the bytes up to its end spell it
+-- the bytes up to its end are what it is written as
+pub next_written : (place end : ℕ) (items : List ℕ) (now : List Message) → (n : IsNext place items now) → end ≡ place + number_at (place + 2) 2 items → take (end - place) (drop place items) ≡ written n.message
+next_written place end items now n is =
+    let len : end - place ≡ length (written n.message) = omega (arith, n.told) in ap (λ k. take k (drop place items)) len ∙ n.bytes_are
+
+-- and spell it
 pub next_spelled : (place end : ℕ) (items : List ℕ) (now : List Message) → (n : IsNext place items now) → end ≡ place + number_at (place + 2) 2 items → Spelled n.message (take (end - place) (drop place items))
-next_spelled place end items now n is =
-    let len : end - place ≡ length (written n.message) = omega (arith, n.told) in
-    subst (Spelled n.message) (sym (ap (λ k. take k (drop place items)) len ∙ n.bytes_are)) n.spelled
+next_spelled place end items now n is = subst (Spelled n.message) (sym (next_written place end items now n is)) n.spelled
 
 pub record IsPassed (end : ℕ) (bytes : List ℕ) (ms now : List Message) : Type 0 where
   pub kept : IsKept end bytes ms

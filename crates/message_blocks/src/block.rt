@@ -73,6 +73,17 @@ impl Block {
         }
     }
 
+    /// The bytes of the next message, lent where they stand.
+    pub fn next(&self) -> &[u8]
+        requires { 0 < length self.now }
+        ensures { (m : Message) × (later : List Message) × (self.now ≡ m ∷ later) × (result.now ≡ written m) }
+    {
+        let place = self.place;
+        let bytes = self.bytes.items();
+        let end = end_of_message(bytes, place);
+        &bytes[place..end]
+    }
+
     /// The next message is taken. It takes no memory.
     pub fn drop_first(&mut self)
         requires { 0 < length self.old }
