@@ -12,12 +12,15 @@ use Rattle.machine_steps.specs.Machine.{State}
 use Rattle.machine_sessions.proofs.Keyed.{find_passes, first_there, position_of_map, set_by_key}
 use Rattle.world_steps.specs.Worlds.{ActsAt, Link, World, at_link, link_at}
 use Rattle.world_right.proofs.Links.{changed_there}
-use Rattle.world_model.specs.declared.acting.Act.{Act}
-use Rattle.world_model.specs.declared.acting.Act.TheVariants.{Take, Process, Refuse, Answer, Look}
-use Rattle.world_model.specs.declared.moves.Moved.{Moved}
-use Rattle.world_model.specs.declared.moves.Moved.TheVariants.{Done, Saw, NotThere, NoMemory, Replied}
-use Rattle.world_model.specs.declared.place.Place.{Place}
-use Rattle.world_model.specs.Acts.{ActsBy, PendsFree, begins_with_barrier, move_of}
+use Rattle.world_places.specs.declared.acting.Act.{Act}
+use Rattle.world_places.specs.declared.acting.Act.TheVariants.{Take, Process, Refuse, Answer, Look}
+use Rattle.world_places.specs.declared.acting.Acted.{Acted}
+use Rattle.world_places.specs.declared.acting.Acted.TheVariants.{Done, Saw, NotThere, NoMemory}
+use Rattle.world_places.specs.declared.place.Place.{Place}
+use Rattle.world_places.specs.Acts.{ActsBy, PendsFree, begins_with_barrier}
+use Rattle.world_places.specs.Places.{Keeps, switch_of, to_of}
+use Rattle.world_model.specs.declared.moves.Moved.TheVariants as moved
+use Rattle.world_model.specs.Acts.{move_of, moved_of}
 use Rattle.world_model.specs.Kept.{IsAt}
 use Rattle.world_model.specs.Moves.{CanProcess, Makes}
 use Rattle.world_model.specs.Places.{AreOthers, is_of, link_of, links_of}
@@ -69,34 +72,18 @@ module _ (c at : ℕ) (ls : List Link) (l : Link) (is : IsAt c at ls l) where
   pub set_same : (k : Link) → k ≡ l → set ls at k ≡ ls
   set_same k e = ap (set ls at) (e ∙ sym (get_or_from_slice_get ls at l k is.there)) ∙ set-get_or ls at k
 
--- ---- its link stays with its connection
+-- ---- a place, as its link
 
-pub connection_stays : (act : Act) (answer : Moved) (l k : Link) → ActsBy act answer l k → k.connection ≡ l.connection
-connection_stays Take NoMemory l k e = ap (λ (m : Link). m.connection) e
-connection_stays Take Done l k (m, does) = ap (λ (x : Link). x.connection) does.4
-connection_stays Take NotThere l k (e, none) = ap (λ (m : Link). m.connection) e
-connection_stays Take (Saw seen) l k h = absurd h
-connection_stays Take (Replied reply) l k h = absurd h
-connection_stays (Process at) NoMemory l k e = ap (λ (m : Link). m.connection) e
-connection_stays (Process at) Done l k p = ap (λ (x : Link). x.connection) p.does.2
-connection_stays (Process at) NotThere l k (e, none) = ap (λ (m : Link). m.connection) e
-connection_stays (Process at) (Saw seen) l k h = absurd h
-connection_stays (Process at) (Replied reply) l k h = absurd h
-connection_stays (Refuse at) NoMemory l k e = ap (λ (m : Link). m.connection) e
-connection_stays (Refuse at) Done l k p = ap (λ (x : Link). x.connection) p.does.2
-connection_stays (Refuse at) NotThere l k (e, none) = ap (λ (m : Link). m.connection) e
-connection_stays (Refuse at) (Saw seen) l k h = absurd h
-connection_stays (Refuse at) (Replied reply) l k h = absurd h
-connection_stays Answer NoMemory l k e = ap (λ (m : Link). m.connection) e
-connection_stays Answer Done l k (m, does) = ap (λ (x : Link). x.connection) does.2
-connection_stays Answer NotThere l k (e, none) = ap (λ (m : Link). m.connection) e
-connection_stays Answer (Saw seen) l k h = absurd h
-connection_stays Answer (Replied reply) l k h = absurd h
-connection_stays (Look key) NoMemory l k e = ap (λ (m : Link). m.connection) e
-connection_stays (Look key) Done l k h = absurd h
-connection_stays (Look key) NotThere l k (e, none) = ap (λ (m : Link). m.connection) e
-connection_stays (Look key) (Saw seen) l k p = ap (λ (x : Link). x.connection) p.does.2
-connection_stays (Look key) (Replied reply) l k h = absurd h
+module _ (p q : Place) where
+  pub kept_link : Keeps p q → link_of q ≡ link_of p
+  kept_link k = λ i. record { connection = k.connection i; to = k.to i; switch = k.switch i }
+
+  module _ (of : q.connection ≡ p.connection) where
+    pub acts_link : to_of q ≡ to_of p → link_of q ≡ record (link_of p) { switch = switch_of q }
+    acts_link to = λ i. record { connection = of i; to = to i; switch = switch_of q }
+
+    pub takes_link : link_of q ≡ record (link_of p) { to = to_of q; switch = switch_of q }
+    takes_link = λ i. record { connection = of i; to = to_of q; switch = switch_of q }
 
 -- ---- the move
 
@@ -105,16 +92,23 @@ module _ (machine : State) (c : ℕ) (ls : List Link) where
   world ks = record { machine = machine; links = ks }
 
   -- there is no such switch
-  pub absent : (act : Act) → link_at c ls ≡ None → Makes (move_of c act) NotThere (world ls) (world ls)
+  pub absent : (act : Act) → link_at c ls ≡ None → Makes (move_of c act) moved.NotThere (world ls) (world ls)
   absent Take none = (refl, λ m can. none-some can.link (sym none ∙ can.there))
   absent (Process at) none = (refl, λ m can. none-some can.link (sym none ∙ can.there))
   absent (Refuse at) none = (refl, λ m can. none-some can.stands.link (sym none ∙ can.stands.there))
   absent Answer none = (refl, λ m can. none-some can.link (sym none ∙ can.there))
   absent (Look key) none = (refl, λ can. none-some can.link (sym none ∙ can.there))
 
-  module _ (l k : Link) (there : link_at c ls ≡ Some l) (ks : List Link) (now_is : ks ≡ at_link c (λ m. k) ls) (of : k.connection ≡ c) (stays : k ≡ l → ks ≡ ls) where
-    same : k ≡ l → world ks ≡ world ls
-    same e = ap world (stays e)
+  module _ (p q : Place) (stays_of : q.connection ≡ p.connection) (there : link_at c ls ≡ Some (link_of p)) (ks : List Link)
+      (now_is : ks ≡ at_link c (λ m. link_of q) ls) (of : q.connection ≡ c) (stays : link_of q ≡ link_of p → ks ≡ ls) where
+    abbrev l : Link
+    l = link_of p
+
+    abbrev k : Link
+    k = link_of q
+
+    same : Keeps p q → world ks ≡ world ls
+    same e = ap world (stays (kept_link p q e))
 
     goes : world ks ≡ world (at_link c (λ m. k) ls)
     goes = ap world now_is
@@ -125,51 +119,46 @@ module _ (machine : State) (c : ℕ) (ls : List Link) where
     now_there : link_at c ks ≡ Some k
     now_there = ap (link_at c) now_is ∙ changed_there c (λ m. k) (λ m e. of) ls ∙ ap (option_map (λ m. k)) there
 
-    pends_free : (at : ℕ) (m : Message) → CanProcess c at (world ls) m → PendsFree at l.switch.pending m
+    pends_free : (at : ℕ) (m : Message) → CanProcess c at (world ls) m → PendsFree at (switch_of p).pending m
     pends_free at m can =
-        let p : PendsFree at can.link.switch.pending m = record { ahead = can.ahead; behind = can.behind; stands = can.stands; place = can.place; no_barrier = can.no_barrier } in
-        subst (λ (x : Link). PendsFree at x.switch.pending m) (is_link can.link can.there) p
+        let x : PendsFree at can.link.switch.pending m = record { ahead = can.ahead; behind = can.behind; stands = can.stands; place = can.place; no_barrier = can.no_barrier } in
+        subst (λ (y : Link). PendsFree at y.switch.pending m) (is_link can.link can.there) x
 
-    pub makes : (act : Act) (answer : Moved) → ActsBy act answer l k → Makes (move_of c act) answer (world ls) (world ks)
+    pub makes : (act : Act) (answer : Acted) → ActsBy act answer p q → Makes (move_of c act) (moved_of answer) (world ls) (world ks)
     makes Take NoMemory e = same e
-    makes Take Done (m, does) = (m, record { link = l; there = there; behind = k; does = does; now_is = goes })
-    makes Take NotThere (e, none) = (same e, λ m can. let to = ap (λ (x : Link). x.to) (is_link can.link can.there) in let first = can.first in cc)
+    makes Take Done (m, first, does) = (m, record { link = l; there = there; behind = k; does = (to_of q, first, switch_of q, does, takes_link p q stays_of); now_is = goes })
+    makes Take NotThere (e, none) = (same e, λ m can. let to : can.link.to ≡ to_of p = ap (λ (x : Link). x.to) (is_link can.link can.there) in let first = can.first in cc)
     makes Take (Saw seen) h = absurd h
-    makes Take (Replied reply) h = absurd h
     makes (Process at) NoMemory e = same e
-    makes (Process at) Done p = record {
-      message = p.message;
-      there = record { link = l; there = there; ahead = p.pends.ahead; behind = p.pends.behind; stands = p.pends.stands; place = p.pends.place; no_barrier = p.pends.no_barrier };
-      goes = record { link = l; there = there; behind = k; does = p.does; now_is = goes };
-      at_place = record { link = l; there = there; behind = k; now_there = now_there; ahead = p.loses.ahead; gone = p.loses.gone; rest = p.loses.rest; place = p.loses.place; pending = p.loses.pending; left = p.loses.left; sends = p.loses.sends };
+    makes (Process at) Done (to, x) = record {
+      message = x.message;
+      there = record { link = l; there = there; ahead = x.pends.ahead; behind = x.pends.behind; stands = x.pends.stands; place = x.pends.place; no_barrier = x.pends.no_barrier };
+      goes = record { link = l; there = there; behind = k; does = (switch_of q, x.does, acts_link p q stays_of to); now_is = goes };
+      at_place = record { link = l; there = there; behind = k; now_there = now_there; ahead = x.loses.ahead; gone = x.loses.gone; rest = x.loses.rest; place = x.loses.place; pending = x.loses.pending; left = x.loses.left; sends = x.loses.sends };
     }
     makes (Process at) NotThere (e, none) = (same e, λ m can. none m (pends_free at m can))
     makes (Process at) (Saw seen) h = absurd h
-    makes (Process at) (Replied reply) h = absurd h
     makes (Refuse at) NoMemory e = same e
-    makes (Refuse at) Done p = record {
-      message = p.message;
+    makes (Refuse at) Done (to, x) = record {
+      message = x.message;
       there = record {
-        stands = record { link = l; there = there; ahead = p.pends.ahead; behind = p.pends.behind; stands = p.pends.stands; place = p.pends.place; no_barrier = p.pends.no_barrier };
-        change = p.change;
+        stands = record { link = l; there = there; ahead = x.pends.ahead; behind = x.pends.behind; stands = x.pends.stands; place = x.pends.place; no_barrier = x.pends.no_barrier };
+        change = x.change;
       };
-      goes = record { link = l; there = there; behind = k; does = p.does; now_is = goes };
-      at_place = record { link = l; there = there; behind = k; now_there = now_there; ahead = p.loses.ahead; gone = p.loses.gone; rest = p.loses.rest; place = p.loses.place; pending = p.loses.pending; left = p.loses.left; sends = p.loses.sends };
+      goes = record { link = l; there = there; behind = k; does = (switch_of q, x.does, acts_link p q stays_of to); now_is = goes };
+      at_place = record { link = l; there = there; behind = k; now_there = now_there; ahead = x.loses.ahead; gone = x.loses.gone; rest = x.loses.rest; place = x.loses.place; pending = x.loses.pending; left = x.loses.left; sends = x.loses.sends };
     }
     makes (Refuse at) NotThere (e, none) = (same e, λ m can. none m (pends_free at m can.stands) can.change)
     makes (Refuse at) (Saw seen) h = absurd h
-    makes (Refuse at) (Replied reply) h = absurd h
     makes Answer NoMemory e = same e
-    makes Answer Done (m, does) = (m, record { link = l; there = there; behind = k; does = does; now_is = goes })
+    makes Answer Done (to, (m, does)) = (m, record { link = l; there = there; behind = k; does = (switch_of q, does, acts_link p q stays_of to); now_is = goes })
     makes Answer NotThere (e, none) = (
       same e,
       λ m can.
-          let first = ap (λ (x : Link). begins_with_barrier x.switch.pending) (sym (is_link can.link can.there)) ∙ ap begins_with_barrier can.first ∙ can.barrier in cc,
+          let first : begins_with_barrier (switch_of p).pending ≡ true = ap (λ (x : Link). begins_with_barrier x.switch.pending) (sym (is_link can.link can.there)) ∙ ap begins_with_barrier can.first ∙ can.barrier in cc,
     )
     makes Answer (Saw seen) h = absurd h
-    makes Answer (Replied reply) h = absurd h
     makes (Look key) NoMemory e = same e
     makes (Look key) Done h = absurd h
     makes (Look key) NotThere (e, none) = (same e, λ can. let valid = can.valid in cc)
-    makes (Look key) (Saw seen) p = record { hit = p.hit; goes = record { link = l; there = there; behind = k; does = p.does; now_is = goes }; tells = p.tells }
-    makes (Look key) (Replied reply) h = absurd h
+    makes (Look key) (Saw seen) (to, x) = record { hit = x.hit; goes = record { link = l; there = there; behind = k; does = (switch_of q, x.does, acts_link p q stays_of to); now_is = goes }; tells = x.tells }

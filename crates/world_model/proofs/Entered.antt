@@ -4,7 +4,7 @@ use Rattle.std.specs.Prelude.{◌==◌, ◌≤◌, if◌then◌else◌, Decides,
 use Rattle.std.specs.List.{AllByRecursion, find, flat_map}
 use Rattle.std.specs.Option.{option_or}
 use Rattle.std.proofs.lemmas.Bool.{cases_Bool, cases_eq, eq-eqb, eqb-true}
-use Rattle.std.proofs.lemmas.List.{flat_map_more, get_or-map, length-map, map-set, same_lists}
+use Rattle.std.proofs.lemmas.List.{get_or-map, length-map, map-set, same_lists}
 use Rattle.std.proofs.lemmas.List.Folds.{find-append}
 use Rattle.std.proofs.lemmas.Option.{get_or_from_slice_get, none-some, same_Some, slice_get_within}
 use Rattle.of10_codec.specs.declared.message.Message.{Message}
@@ -27,14 +27,13 @@ use Rattle.world_right.proofs.Moved.{came}
 use Rattle.world_model.specs.declared.moves.Move.TheVariants as moves
 use Rattle.world_model.specs.declared.moves.Moved.{Moved}
 use Rattle.world_model.specs.declared.moves.Moved.TheVariants.{Done, NotThere, NoMemory, Replied}
-use Rattle.world_model.specs.declared.place.Place.{Place}
-use Rattle.world_model.specs.declared.said.Sent.{Sent}
+use Rattle.world_places.specs.declared.place.Place.{Place}
+use Rattle.world_places.specs.Places.{BeginsWith, Keeps, switch_of, to_of}
 use Rattle.world_model.specs.Acts.{TakesHere}
-use Rattle.world_model.specs.Kept.{BeginsWith, IsAt, IsFirstAt}
+use Rattle.world_model.specs.Kept.{IsAt, IsFirstAt}
 use Rattle.world_model.specs.Moves.{Makes, OpensPlain}
-use Rattle.world_model.specs.Places.{AreOthers, joined, link_of, links_of, opened_link}
-use Rattle.world_model.specs.Said.{message_sent}
-use Rattle.world_model.proofs.Carried.{of_connection, set_same, set_there}
+use Rattle.world_model.specs.Places.{AreOthers, link_of, links_of, opened_link}
+use Rattle.world_model.proofs.Carried.{kept_link, of_connection, set_same, set_there}
 
 abbrev world : State → List Link → World
 world m ls = record { machine = m; links = ls }
@@ -185,6 +184,21 @@ takes_none m n c ls reply steps some =
     let lack = lacks m n c reply steps some in
     (lack, record { admitted = tt; steps = steps; links = subst (λ (r : Reply). LinksBehind m (entries.TakeOut c) r ls ls) (sym lack) refl })
 
+-- by its place: there is no room, the block of messages is put, or the machine lacks memory
+module _ (m n : State) (p r : Place) (same : Keeps p r) where
+  pub takes_bytes : (bytes : List ℕ) (q : Place) (block : List Message) → Steps m (entries.TakeOut r.connection) (replies.Out bytes) n → block ≡ messages_for r.connection m → q.connection ≡ r.connection
+      → to_of q ≡ to_of r ++ block → switch_of q ≡ switch_of r → TakesHere p.connection Done m n (link_of p) (link_of q)
+  takes_bytes bytes q block steps is of to switch =
+      let to_is : to_of q ≡ to_of p ++ messages_for p.connection m =
+      to ∙ ap (λ (ms : List Message). ms ++ block) same.to ∙ ap (λ (b : List Message). to_of p ++ b) (is ∙ ap (λ c. messages_for c m) same.connection) in (
+        bytes,
+        subst (λ (c : ℕ). Steps m (entries.TakeOut c) (replies.Out bytes) n) same.connection steps,
+        λ i. record { connection = (of ∙ same.connection) i; to = to_is i; switch = (switch ∙ same.switch) i },
+      )
+
+  pub takes_other : (reply : Reply) → Steps m (entries.TakeOut r.connection) reply n → ((bytes : List ℕ) → reply ≡ replies.Out bytes → ⊥) → TakesHere p.connection (Replied reply) m n (link_of p) (link_of r)
+  takes_other reply steps some = (subst (λ (c : ℕ). Steps m (entries.TakeOut c) reply n) same.connection steps, some, kept_link p r same)
+
 -- at the place of the connection
 pub takes_here : (m n : State) (c at : ℕ) (ps qs : List Place) (p q : Place) (answer : Moved) → AreOthers (links_of ps) → IsAt c at (links_of ps) (link_of p) → qs ≡ set ps at q
     → TakesHere c answer m n (link_of p) (link_of q) → Makes (moves.Machine (entries.TakeOut c)) answer (world m (links_of ps)) (world n (links_of qs))
@@ -203,23 +217,13 @@ pub takes_gone : (m n : State) (c : ℕ) (ls : List Link) (bytes : List ℕ) →
     → Makes (moves.Machine (entries.TakeOut c)) Done (world m ls) (world n ls)
 takes_gone m n c ls bytes none steps = takes_out m n c ls ls bytes steps (sym (none_changes c _ ls none))
 
--- ---- parts of a place
+-- ---- the first message that a switch sent
 
-pub some_sent : (sent : List Sent) (m : Message) → BeginsWith m (map message_sent sent) → 0 < length sent
+pub some_sent : (sent : List Message) (m : Message) → BeginsWith m sent → 0 < length sent
 some_sent [] m (later, e) = cc
 some_sent (s ∷ sent) m (later, e) = omega arith
-
-pub is_first_by : (sent : List Sent) (s : Sent) (m : Message) (b : Bool) → 1 ≤ length sent → s ≡ get_or sent 0 s → Decides b (m ≡ message_sent s) → Decides b (BeginsWith m (map message_sent sent))
-is_first_by [] s m b some is told = absurd (omega arith)
-is_first_by (t ∷ rest) s m b some is told = (
-  λ yes. (map message_sent rest, ap (λ (x : Message). x ∷ map message_sent rest) (ap message_sent (sym is) ∙ sym (told.0 yes))),
-  λ h. let first : message_sent t ≡ m = let e = h.1 in cc in told.1 (sym first ∙ ap message_sent (sym is)),
-)
 
 pub not_first : (c at : ℕ) (ls : List Link) (l : Link) (m : Message) → IsAt c at ls l → (BeginsWith m l.switch.sent → ⊥) → IsFirstFrom c m ls → ⊥
 not_first c at ls l m is other first =
     let same = same_Some first.link l (sym first.there ∙ is.found) in
     other (subst (λ (k : Link). BeginsWith m k.switch.sent) same (first.later, first.first))
-
-pub joined_push : (blocks : List (List Message)) (b : List Message) → joined (blocks ++ b ∷ []) ≡ joined blocks ++ b
-joined_push blocks b = sym (flat_map_more (λ (ms : List Message). ms) [] blocks b)

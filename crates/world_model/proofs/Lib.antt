@@ -1,7 +1,5 @@
-pub mod Blocks
 pub mod Carried
+pub mod Crossing
 pub mod Entered
 pub mod Keeping
-pub mod Ports
 pub mod Spelled
-pub mod Waiting

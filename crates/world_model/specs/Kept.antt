@@ -1,5 +1,5 @@
 -- What a world keeps: a run led to it, and in that run its links came one for each connection that was opened.
-use Rattle.std.specs.Prelude.{◌≡◌, ℕ, true, List, [], ◌∷◌, Some}
+use Rattle.std.specs.Prelude.{◌≡◌, ℕ, true, List, MatchOption, Option, Some}
 use Rattle.std.specs.List.{slice_get}
 use Rattle.maple_base.specs.declared.decision.Settings.{Settings}
 use Rattle.policy_lang.specs.declared.Policy.{Policy}
@@ -7,7 +7,8 @@ use Rattle.of10_codec.specs.declared.message.Message.{Message}
 use Rattle.machine_steps.specs.Machine.{State, opening, was_opened}
 use Rattle.world_steps.specs.Right.{IsRight}
 use Rattle.world_steps.specs.Runs.{Event, IsWorldRun}
-use Rattle.world_steps.specs.Worlds.{Link, World, link_at}
+use Rattle.world_steps.specs.Worlds.{IsFirstFrom, Link, World, link_at}
+use Rattle.world_places.specs.Places.{BeginsWith}
 use Rattle.world_model.specs.Places.{AreOthers}
 
 -- a machine ahead of its first entry
@@ -47,12 +48,12 @@ pub record IsAt (c at : ℕ) (ls : List Link) (l : Link) : Type 0 where
   pub there : slice_get ls at ≡ Some l
   pub found : link_at c ls ≡ Some l
 
--- the messages begin with this one
-abbrev pub BeginsWith : Message → List Message → Type 0
-BeginsWith m ms = (later : List Message) × (ms ≡ m ∷ later)
-
 -- and the message is the first that its switch sent
 pub record IsFirstAt (c at : ℕ) (m : Message) (ls : List Link) : Type 0 where
   pub link : Link
   pub is : IsAt c at ls link
   pub first : BeginsWith m link.switch.sent
+
+-- where the message is the first of its connection its place is found, and else none
+abbrev pub FindsFirst : ℕ → Message → List Link → Option ℕ → Type 0
+FindsFirst c m ls found = MatchOption found (IsFirstFrom c m ls → ⊥) (λ at. IsFirstAt c at m ls)

@@ -1,19 +1,14 @@
 -- What a world does for each move, and what it answers: every answer but NotThere and NoMemory is just one step.
-use Rattle.std.specs.Prelude.{◌≡◌, ◌⊎◌, ℕ, true, false, List, [], ◌∷◌, ◌++◌, length, Option, Some, None, option_map}
+use Rattle.std.specs.Prelude.{◌≡◌, ◌⊎◌, ℕ, true, false, List, [], ◌∷◌, ◌++◌, length, Option, Some, None}
 use Rattle.std.specs.List.{flat_map}
 use Rattle.maple_base.specs.declared.key.Key.{Key}
 use Rattle.maple_base.specs.declared.decision.Rule.{Rule}
 use Rattle.maple_base.specs.declared.device.Seen.{Seen}
-use Rattle.maple_base.specs.declared.device.Seen.TheVariants.{Hit, Miss}
 use Rattle.maple_base.specs.Keys.{valid_key}
-use Rattle.maple_base.specs.Ports.{controller_port}
 use Rattle.of10_codec.specs.declared.message.Message.{Message}
-use Rattle.of10_codec.specs.declared.message.Body.TheVariants.{Error}
 use Rattle.of10_codec.specs.Written.{written}
-use Rattle.device_port.specs.Switches.{Switch, is_barrier, is_flow_mod, message, StandsFree, IsFree}
+use Rattle.device_port.specs.Switches.{Switch, is_barrier, is_flow_mod, StandsFree, IsFree}
 use Rattle.device_port.specs.Switches.Step.{Take as Taking, Process as Processing, Refuse as Refusing, Answer as Answering, Look as Looking}
-use Rattle.device_port.specs.Devices.{by_rule, no_rule}
-use Rattle.model_switch.specs.Answers.{reply_of}
 use Rattle.machine_steps.specs.declared.entry.Entry.{Entry}
 use Rattle.machine_steps.specs.declared.entry.Entry.TheVariants as entries
 use Rattle.machine_steps.specs.declared.entry.Input.TheVariants.{Message as Whole}
@@ -22,6 +17,7 @@ use Rattle.machine_steps.specs.declared.reply.Reply.TheVariants.{Out}
 use Rattle.machine_steps.specs.Admitting.{Admits}
 use Rattle.world_steps.specs.Worlds.{Link, World, Goes, IsFirstFrom, link_at, messages_for}
 use Rattle.world_steps.specs.Worlds.WorldStep.{Enters, Acts}
+use Rattle.world_places.specs.Answers.{answers_to, refusal_to, Tells}
 use Rattle.world_model.specs.declared.moves.Move.{Move}
 use Rattle.world_model.specs.declared.moves.Move.TheVariants as moves
 use Rattle.world_model.specs.declared.moves.Moved.{Moved}
@@ -82,14 +78,6 @@ abbrev pub OpensPlain : World → World → Type 0
 OpensPlain old new =
     (c : ℕ) (l : Link) → link_at c old.links ≡ None → link_at c new.links ≡ Some l → (l.switch.dpid ≡ c) × (l.switch.table ≡ [])
 
-abbrev pub messages_of : Option Message → List Message
-messages_of None = []
-messages_of (Some m) = m ∷ []
-
--- the ports of each switch, all up
-abbrev pub port_count : ℕ
-port_count = 48
-
 -- the link of a connection before and behind a step in which the message at this place went, and these were sent
 pub record LosesPending (c at : ℕ) (sent : Switch → List Message) (old new : World) : Type 0 where
   pub link : Link
@@ -103,20 +91,6 @@ pub record LosesPending (c at : ℕ) (sent : Switch → List Message) (old new :
   pub pending : link.switch.pending ≡ ahead ++ gone ∷ rest
   pub left : behind.switch.pending ≡ ahead ++ rest
   pub sends : behind.switch.sent ≡ link.switch.sent ++ sent link.switch
-
--- a HELLO is answered by a HELLO, a request for the features by them, an echo by its reply
-abbrev pub answers_to : Message → Switch → List Message
-answers_to m s = messages_of (option_map (message m.xid) (reply_of s.dpid port_count m.body))
-
--- a change is refused for want of room (OpenFlow Switch Specification 1.0.0, 5.4.4: OFPET_FLOW_MOD_FAILED, OFPFMFC_ALL_TABLES_FULL)
-abbrev pub refusal_to : Message → Switch → List Message
-refusal_to m s = message m.xid (Error 3 0 []) ∷ []
-
--- what a look-up tells: a rule whose one action sends to the controller is a miss
-abbrev pub Tells : Option Rule → Seen → Type 0
-Tells None seen = seen ≡ Miss no_rule
-Tells (Some r) seen =
-    ((r.actions ≡ controller_port ∷ []) × (seen ≡ Miss by_rule)) ⊎ ((r.actions ≡ controller_port ∷ [] → ⊥) × (seen ≡ Hit r.actions))
 
 -- ---- the moves
 

@@ -1,22 +1,20 @@
 // The machine is given an entry, and the links follow.
-ghost use Rattle.std.specs.Prelude.{◌≡◌, ◌<◌, length, map, Decides, MatchOption, None};
+ghost use Rattle.std.specs.Prelude.{◌≡◌, None};
 ghost use Rattle.switch_session.specs.Calls.{CanBeHeard};
 ghost use Rattle.machine_steps.specs.Admitting.{Admits, IsHeard};
 ghost use Rattle.machine_steps.specs.declared.entry.Entry.TheVariants.{Open, Heard};
 ghost use Rattle.machine_steps.specs.declared.entry.Input.TheVariants.{Message as Whole};
-ghost use Rattle.world_steps.specs.Worlds.{IsFirstFrom, link_at, unqueued};
-ghost use Rattle.world_model.specs.Kept.{IsKept, IsFirstAt, BeginsWith};
+ghost use Rattle.world_steps.specs.Worlds.{IsFirstFrom, link_at};
+ghost use Rattle.world_model.specs.Kept.{IsKept, IsFirstAt, FindsFirst};
 ghost use Rattle.world_model.specs.Moves.{Makes};
-ghost use Rattle.world_model.specs.Places.{link_of, links_of, world_of};
-ghost use Rattle.world_model.specs.Said.{message_sent};
+ghost use Rattle.world_model.specs.Places.{links_of, world_of};
 ghost use Rattle.world_model.specs.declared.moves.Move.TheVariants.{Machine};
 
 use crate::moves::Moved;
-use crate::place::{Place, opened, place_of};
-use crate::said::{Sent, is_free, is_sent};
 use crate::sending::take_out;
 use core_machine::{Core, Entry, Input, Reply};
 use of10_codec::Message;
+use world_places::{Place, forget_first, is_first, is_free, opened, place_of};
 
 /// The machine does an entry.
 pub fn enter(core: &mut Core, places: &mut Vec<Place>, entry: Entry) -> Moved
@@ -102,24 +100,15 @@ fn hear_free(core: &mut Core, places: &mut Vec<Place>, connection: u32, message:
 
 // The place of a connection from which this message is the first.
 fn first_from(places: &[Place], connection: u32, message: &Message) -> Option<usize>
-    ensures { MatchOption result (IsFirstFrom connection message.now (links_of places.now) → ⊥) (λ at. IsFirstAt connection at message.now (links_of places.now)) }
+    ensures { FindsFirst connection message.now (links_of places.now) result }
 {
     let Some(at) = place_of(places, connection) else {
         return None;
     };
-    if !is_first(&places[at].sent, message) {
+    if !is_first(&places[at], message) {
         return None;
     }
     Some(at)
-}
-
-fn is_first(sent: &[Sent], message: &Message) -> bool
-    ensures { Decides result (BeginsWith message.now (map message_sent sent.now)) }
-{
-    match sent {
-        [first, ..] => is_sent(first, message),
-        [] => false,
-    }
 }
 
 fn hear_first(
@@ -141,11 +130,4 @@ fn hear_first(
             Moved::Replied(reply)
         }
     }
-}
-
-fn forget_first(place: &mut Place)
-    requires { 0 < length place.old.sent.items }
-    ensures { link_of place.new ≡ record (link_of place.old) { switch = unqueued (link_of place.old).switch } }
-{
-    let _gone = place.sent.remove(0);
 }

@@ -4,12 +4,7 @@
 mod acting;
 mod entering;
 pub mod moves;
-mod pending;
-mod place;
-mod processing;
-mod said;
 mod sending;
-mod taking;
 pub mod world;
 
 pub use moves::{Move, Moved};

@@ -1,5 +1,5 @@
 // What the machine sends goes on its way to a switch.
-ghost use Rattle.std.specs.Prelude.{◌≡◌, ◌++◌, ◌<◌, vec_len, vec_capacity, OnOk};
+ghost use Rattle.std.specs.Prelude.{◌≡◌};
 ghost use Rattle.std.specs.List.{AllByRecursion};
 ghost use Rattle.message_blocks.specs.Spelling.{IsSpelled};
 ghost use Rattle.machine_steps.specs.declared.entry.Entry.TheVariants.{TakeOut};
@@ -11,11 +11,10 @@ ghost use Rattle.world_model.specs.Places.{link_of, world_of};
 ghost use Rattle.world_model.specs.declared.moves.Move.TheVariants.{Machine};
 
 use crate::moves::Moved;
-use crate::place::{Place, place_of};
 use core_machine::{Core, Entry, Reply};
 use machine_sends::sends_law;
-use maple_base::NoMemory;
 use message_blocks::{Block, Messages};
+use world_places::{Place, make_room, place_of, put};
 use world_steps::world_laws;
 
 /// The messages for a connection are taken out, and go on their way.
@@ -48,23 +47,6 @@ fn take_out_here(core: &mut Core, place: &mut Place) -> Moved
             Moved::Done
         }
         reply => Moved::Replied(reply),
-    }
-}
-
-fn make_room(place: &mut Place) -> Result<(), NoMemory>
-    ensures same { link_of place.new ≡ link_of place.old }
-    ensures room { OnOk result (vec_len place.new.blocks < vec_capacity place.new.blocks) }
-{
-    place.blocks.reserve(1)?;
-    Ok(())
-}
-
-fn put(place: &mut Place, block: Block)
-    requires { vec_len place.old.blocks < vec_capacity place.old.blocks }
-    ensures { link_of place.new ≡ record (link_of place.old) { to = (link_of place.old).to ++ block } }
-{
-    if !block.is_empty() {
-        place.blocks.push_reserved(block);
     }
 }
 

@@ -4,13 +4,13 @@ ghost use Rattle.world_model.specs.Kept.{IsKept, IsOpening, IsRightRun};
 ghost use Rattle.world_model.specs.Moves.{AdmitsMove, Makes};
 ghost use Rattle.world_model.specs.Places.{world_of};
 
-use crate::acting::{Act, carry_out};
+use crate::acting::carry_out;
 use crate::entering::enter;
 use crate::moves::{Move, Moved};
-use crate::place::Place;
 use core_machine::Core;
 use machine_moves::growth_laws;
 use std::marker::Model;
+use world_places::{Act, Place};
 use world_right::run_laws;
 
 /// The controller's machine, and the switches behind its connections. It keeps that a run of the world led to it.

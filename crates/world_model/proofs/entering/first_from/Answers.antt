@@ -1,11 +1,7 @@
-use Rattle.std.proofs.Common.{List, map, sym, ap, ◌∙◌, subst}
+use Rattle.std.proofs.Common.{sym, ◌∙◌, subst}
 use Rattle.std.proofs.lemmas.Option.{none-some}
 use Rattle.std.proofs.lemmas.Bool.{false≢true}
-use Rattle.world_model.specs.declared.place.Place.{Place}
-use Rattle.world_model.specs.declared.said.Sent.{Sent}
-use Rattle.world_model.specs.Kept.{BeginsWith}
 use Rattle.world_model.specs.Places.{link_of, links_of}
-use Rattle.world_model.specs.Said.{message_sent}
 use Rattle.world_model.proofs.Carried.{found_at, found_none}
 use Rattle.world_model.proofs.Entered.{not_first}
 use Rattle.world_model.proofs.entering.first_from.Goals as goal
@@ -17,16 +13,14 @@ pub returns-then-not-is_first : goal.returns-then-not-is_first
 returns-then-not-is_first c =
     let p = c.index-places-at.result in
     let is = found_at c.args.connection c.args.places.now c.in-Some.at p (sym c.place_of.ensures ∙ c.in-Some.is) c.index-places-at.is in
-    let sent = c.deref.ensures.value ∙ ap (λ (q : Place). q.sent.items) (sym c.index-places-at.is) in
     not_first c.args.connection c.in-Some.at (links_of c.args.places.now) (link_of p) c.args.message.now is
-    (λ begins. false≢true (sym c.if-not-is_first.true ∙ c.is_first.ensures.1 (subst (λ (ss : List Sent). BeginsWith c.args.message.now (map message_sent ss)) (sym sent) begins)))
+    (λ begins. false≢true (sym c.if-not-is_first.true ∙ c.is_first.ensures.1 begins))
 
 pub returns : goal.returns
 returns c =
     let p = c.index-places-at.result in
-    let sent = c.deref.ensures.value ∙ ap (λ (q : Place). q.sent.items) (sym c.index-places-at.is) in
     record {
       link = link_of p;
       is = found_at c.args.connection c.args.places.now c.in-Some.at p (sym c.place_of.ensures ∙ c.in-Some.is) c.index-places-at.is;
-      first = subst (λ (ss : List Sent). BeginsWith c.args.message.now (map message_sent ss)) sent (c.is_first.ensures.0 c.if-not-is_first.false);
+      first = c.is_first.ensures.0 c.if-not-is_first.false;
     }

@@ -1,6 +1,6 @@
 use Rattle.std.proofs.Common.{List, sym, ap, ◌∙◌}
 use Rattle.std.specs.List.{position}
-use Rattle.world_model.specs.declared.place.Place.{Place}
+use Rattle.world_places.specs.declared.place.Place.{Place}
 use Rattle.world_model.specs.Places.{is_of, link_of, links_of}
 use Rattle.world_model.proofs.Carried.{found_none, found_some}
 use Rattle.world_model.proofs.Entered.{opens_again}

@@ -29,7 +29,7 @@ use Rattle.switch_session.proofs.Walks.{none, none_made}
 use Rattle.core_machine.specs.contracts.machine.Core as Core
 use Rattle.message_blocks.specs.contracts.messages.Messages as Messages
 use Rattle.world_steps.specs.Worlds.{messages_for}
-use Rattle.world_model.specs.contracts.place.Place as Place
+use Rattle.world_places.specs.contracts.place.Place as Place
 use Rattle.world_model.specs.contracts.sending.messages_for as F
 use Rattle.world_model.specs.contracts.sending.messages_for.Key.{name as #self}
 use Rattle.world_model.proofs.sending.messages_for.Statement as stated

@@ -1,6 +1,6 @@
 use Rattle.std.proofs.Common.{List, set, refl, sym, ap, ◌∙◌, subst}
 use Rattle.std.specs.List.{position}
-use Rattle.world_model.specs.declared.place.Place.{Place}
+use Rattle.world_places.specs.declared.place.Place.{Place}
 use Rattle.world_model.specs.Acts.{TakesHere}
 use Rattle.world_model.specs.Places.{is_of, link_of, links_of, world_of}
 use Rattle.world_model.proofs.Carried.{found_at, found_none, of_connection}

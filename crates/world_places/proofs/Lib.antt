@@ -1,0 +1,4 @@
+pub mod Blocks
+pub mod Ports
+pub mod Sending
+pub mod Waiting

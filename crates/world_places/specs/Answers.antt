@@ -1,0 +1,33 @@
+-- What the switches here do of what the specification lets them do.
+use Rattle.std.specs.Prelude.{◌≡◌, ◌⊎◌, ℕ, List, [], ◌∷◌, Option, Some, None, option_map}
+use Rattle.maple_base.specs.declared.decision.Rule.{Rule}
+use Rattle.maple_base.specs.declared.device.Seen.{Seen}
+use Rattle.maple_base.specs.declared.device.Seen.TheVariants.{Hit, Miss}
+use Rattle.maple_base.specs.Ports.{controller_port}
+use Rattle.of10_codec.specs.declared.message.Message.{Message}
+use Rattle.of10_codec.specs.declared.message.Body.TheVariants.{Error}
+use Rattle.device_port.specs.Switches.{Switch, message}
+use Rattle.device_port.specs.Devices.{by_rule, no_rule}
+use Rattle.model_switch.specs.Answers.{reply_of}
+
+abbrev pub messages_of : Option Message → List Message
+messages_of None = []
+messages_of (Some m) = m ∷ []
+
+-- the ports of each switch, all up
+abbrev pub port_count : ℕ
+port_count = 48
+
+-- a HELLO is answered by a HELLO, a request for the features by them, an echo by its reply
+abbrev pub answers_to : Message → Switch → List Message
+answers_to m s = messages_of (option_map (message m.xid) (reply_of s.dpid port_count m.body))
+
+-- a change is refused for want of room (OpenFlow Switch Specification 1.0.0, 5.4.4: OFPET_FLOW_MOD_FAILED, OFPFMFC_ALL_TABLES_FULL)
+abbrev pub refusal_to : Message → Switch → List Message
+refusal_to m s = message m.xid (Error 3 0 []) ∷ []
+
+-- what a look-up tells: a rule whose one action sends to the controller is a miss
+abbrev pub Tells : Option Rule → Seen → Type 0
+Tells None seen = seen ≡ Miss no_rule
+Tells (Some r) seen =
+    ((r.actions ≡ controller_port ∷ []) × (seen ≡ Miss by_rule)) ⊎ ((r.actions ≡ controller_port ∷ [] → ⊥) × (seen ≡ Hit r.actions))
