@@ -153,7 +153,8 @@ impl Driver {
     }
 }
 
-fn settings(capacity: u32, levels: u32, budget: u32) -> Result<Settings, Fail>
+/// The settings of these limits.
+pub fn settings(capacity: u32, levels: u32, budget: u32) -> Result<Settings, Fail>
     ensures { IfOk result (λ settings. AreInRange settings) }
 {
     if capacity <= 65_535

@@ -47,7 +47,7 @@ pub fn entry_of(alloc: Global, text: &str) -> Result<Entry, Fail>
 
 fn is_of_connection(call: &str) -> bool {
     [
-        "open", "hear", "features", "bad", "gone", "fault", "take", "list",
+        "open", "hear", "features", "answers", "bad", "gone", "fault", "take", "list",
     ]
     .contains(&call)
 }
@@ -63,10 +63,8 @@ fn connection_entry(
     match (call, told) {
         ("open", []) => Ok(Entry::Open(connection)),
         ("hear", [digits]) => Ok(Entry::Heard(connection, heard(alloc, digits)?)),
-        ("features", [dpid, ports]) => {
-            let digits = features(alloc, long_number(dpid)?, number(ports)?)?;
-            Ok(Entry::Heard(connection, heard(alloc, digits.as_str())?))
-        }
+        ("features", [dpid, ports]) => features_of(alloc, 1, connection, dpid, ports),
+        ("answers", [dpid, ports]) => features_of(alloc, 0, connection, dpid, ports),
         ("bad", [place, bad @ ..]) => {
             let place = long_number(place)?;
             let bad = bad_of(bad)?;
@@ -92,11 +90,25 @@ fn heard(alloc: Global, digits: &str) -> Result<Input, Fail>
     Ok(Input::Message(message_of(alloc, &bytes)?))
 }
 
+// A FEATURES_REPLY with this number is heard: 1 for `features`, 0 for `answers`, which is how a switch of a world answers.
+fn features_of(
+    alloc: Global,
+    xid: u32,
+    connection: u32,
+    dpid: &str,
+    ports: &str,
+) -> Result<Entry, Fail>
+    ensures { IfOk result (λ entry. IsPlain entry) }
+{
+    let digits = features(alloc, xid, long_number(dpid)?, number(ports)?)?;
+    Ok(Entry::Heard(connection, heard(alloc, digits.as_str())?))
+}
+
 // A FEATURES_REPLY, as hexadecimal digits, of a switch whose ports are up. They count from 1 on.
-fn features(alloc: Global, dpid: u64, ports: u16) -> Result<String, AllocError> {
+fn features(alloc: Global, xid: u32, dpid: u64, ports: u16) -> Result<String, AllocError> {
     let len = 32 + 48 * u32::from(ports);
     let mut digits = String::new(alloc);
-    write!(digits, "0106{len:04x}00000001{dpid:016x}{ZEROS}")?;
+    write!(digits, "0106{len:04x}{xid:08x}{dpid:016x}{ZEROS}")?;
     for port in 1..=ports {
         write!(
             digits,

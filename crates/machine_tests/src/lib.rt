@@ -29,3 +29,7 @@ mod sessions;
 mod targets;
 #[cfg(test)]
 mod threads;
+#[cfg(test)]
+mod world_rows;
+#[cfg(test)]
+mod worlds;

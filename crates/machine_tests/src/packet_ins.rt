@@ -16,12 +16,15 @@ use std::test::Fail;
 // A buffer's number that says that there is none (OpenFlow 1.0, 5.4.1).
 const NO_BUFFER: u64 = 0xffff_ffff;
 
-// A packet at a port of the switch of a connection.
+/// A packet at a port of the switch of a connection.
 #[derive(Drop)]
-struct Arrival {
-    connection: u32,
-    port: u16,
-    frame: Vec<u8>,
+pub struct Arrival {
+    /// The connection's number.
+    pub connection: u32,
+    /// The port.
+    pub port: u16,
+    /// The packet.
+    pub frame: Vec<u8>,
 }
 
 /// Whether a line says that a packet comes.
@@ -54,7 +57,8 @@ fn ahead<'a>(word: &str, usual: u64, text: &'a str) -> Result<(u64, &'a str), Fa
     Ok((long_number(number)?, rest))
 }
 
-fn arrival_of(alloc: Global, text: &str) -> Result<Arrival, Fail> {
+/// The packet of a packet line or a frame line.
+pub fn arrival_of(alloc: Global, text: &str) -> Result<Arrival, Fail> {
     match read_line(alloc, text.as_bytes()) {
         Ok(Command::Packet(connection, spec)) => {
             let mut frame = Vec::new(alloc);
