@@ -1,0 +1,5 @@
+pub mod FirstLines
+pub mod Marks
+pub mod Nexts
+pub mod Sizes
+pub mod Texts

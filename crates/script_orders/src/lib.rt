@@ -1,0 +1,9 @@
+//! What the lines of a script ask for.
+#![tactic(auto)]
+
+mod lines;
+mod next;
+mod step;
+
+pub use next::{Next, next_order};
+pub use step::{Step, Stop, step_of};

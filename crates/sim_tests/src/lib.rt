@@ -1,0 +1,5 @@
+//! Tests of the simulation of several devices.
+#![tactic(auto)]
+
+#[cfg(test)]
+mod orders;
