@@ -1,0 +1,14 @@
+mod Agreed
+mod Changes
+mod History
+mod Lines
+mod MirrorActs
+mod MirrorCalls
+mod MirrorDeeds
+mod MirrorLinks
+mod MirrorPlaces
+mod MirrorSlots
+mod MirrorSpelled
+mod Places
+mod Shown
+mod Told

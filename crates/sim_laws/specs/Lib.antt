@@ -1,0 +1,2 @@
+-- A reader must believe Laws: what holds of all deeds.
+pub mod Laws
