@@ -1,5 +1,5 @@
 -- What the calls on a stream do.
-use Rattle.std.specs.Prelude.{◌≡◌, ℕ, ◌+◌, List, [], ◌++◌, length, Option, Some, None}
+use Rattle.std.specs.Prelude.{◌≡◌, ℕ, ◌+◌, ◌<◌, All, List, [], ◌++◌, length, Option, Some, None}
 use Rattle.of10_codec.specs.declared.message.Message.{Message}
 use Rattle.of10_codec.specs.declared.fault.Bad.{Bad}
 use Rattle.of10_codec.specs.Messages.{Spelled}
@@ -36,6 +36,7 @@ fed piece s = appended s.broken piece s
 -- the first message of the rest is taken from it
 pub record Takes (m : Message) (old new : Stream) : Type 0 where
   pub front : List ℕ
+  pub are_bytes : All (λ b. b < 256) front
   pub parts : old.rest ≡ front ++ new.rest
   pub spelled : Spelled m front
   pub place_after : new.place ≡ old.place + length front

@@ -1,5 +1,5 @@
 // The messages of a stream.
-ghost use Rattle.std.specs.Prelude.{◌≡◌, ◌≤◌, ◌+◌, ◌^◌, ◌<◌, nat_lt, None, OnOk, OnErr, length};
+ghost use Rattle.std.specs.Prelude.{◌≡◌, ◌≤◌, ◌+◌, ◌^◌, ◌<◌, nat_lt, None, OnOk, OnErr, All, length};
 ghost use Rattle.of10_stream.specs.declared.reassembly.Next.TheVariants as answers;
 ghost use Rattle.of10_stream.specs.Front.{broken_off, passed};
 ghost use Rattle.of10_stream.specs.Steps.{beginning, fed, stored, Tells};
@@ -97,7 +97,9 @@ impl Reassembly {
             Ok(None) => return Next::More,
             Err(bad) => return self.break_off(bad),
         };
-        match decode(*self.bytes.allocator(), &rest[..len]) {
+        let front = &rest[..len];
+        bytes_law(front);
+        match decode(*self.bytes.allocator(), front) {
             Ok(message) => {
                 self.pass(len);
                 Next::Message(message)
@@ -160,3 +162,8 @@ impl Reassembly {
         }
     }
 }
+
+// What holds of any bytes.
+fn bytes_law(bytes: &[u8])
+    ensures { All (λ b. b < 256) bytes.now }
+{}
