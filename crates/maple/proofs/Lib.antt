@@ -7,7 +7,6 @@ pub mod FirstLines
 pub mod Known
 pub mod Marks
 pub mod OptionWords
-pub mod Pieces
 pub mod Prefixes
 pub mod Runs
 pub mod Tops

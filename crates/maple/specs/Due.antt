@@ -9,7 +9,7 @@ use Rattle.maple.specs.declared.status.Status.TheVariants.{Done, Usage, Policy a
 use Rattle.maple.specs.declared.words.Command.{Command}
 use Rattle.maple.specs.declared.words.Command.TheVariants.{Sim, Check}
 use Rattle.maple.specs.Ends.{WroteFront}
-use Rattle.maple.specs.Fronts.{IsFront}
+use Rattle.maple_io.specs.Fronts.{IsFront}
 use Rattle.maple.specs.Lines.{policy_part, script_lines, first_number}
 use Rattle.policy_text.specs.Texts.{IsTextOf}
 use Rattle.policy_print.specs.Printed.{policy_text}

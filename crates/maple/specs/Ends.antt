@@ -3,7 +3,7 @@ use Rattle.std.specs.Prelude.{◌≡◌, ℕ, List}
 use Rattle.maple_io.specs.Views.{SinkView, WriteFailed, Wrote}
 use Rattle.maple.specs.declared.status.Status.{Status}
 use Rattle.maple.specs.declared.status.Status.TheVariants.{Done, Policy, Script, ReadFault, WriteFault, NoMemory}
-use Rattle.maple.specs.Fronts.{IsFront}
+use Rattle.maple_io.specs.Fronts.{IsFront}
 
 -- a front of this text was written
 abbrev pub WroteFront : SinkView → SinkView → List ℕ → Type 0

@@ -4,9 +4,8 @@ ghost use Rattle.maple_io.specs.Views.{NoWriteFailed};
 ghost use Rattle.maple.specs.Ends.{Ends, IsGiven};
 ghost use Rattle.maple.specs.Statuses.{last_line};
 
-use crate::output::{PutStop, put_all};
 use crate::status::Status;
-use maple_io::Sink;
+use maple_io::{PutStop, Sink, put_all};
 
 /// Writes the line that a run writes last, and ends it with its status, or with `WriteFault` or
 /// `NoMemory` where the line can't be written.

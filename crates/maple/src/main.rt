@@ -10,7 +10,6 @@ mod fault_rows;
 pub mod finish;
 pub mod input;
 pub mod lines;
-pub mod output;
 pub mod policies;
 #[cfg(test)]
 mod policy_rows;

@@ -6,8 +6,10 @@ pub mod adapt;
 pub mod mem;
 pub mod sink;
 pub mod source;
+pub mod whole;
 
 pub use adapt::{ReadSource, WriteSink};
 pub use mem::{MemSink, MemSource};
 pub use sink::{Put, Sink};
 pub use source::{Got, Source};
+pub use whole::{PutStop, put_all};

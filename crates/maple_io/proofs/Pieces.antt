@@ -3,7 +3,7 @@ use Rattle.std.proofs.Common.{ℕ, ◌+◌, List, take, drop, Option, sym, subst
 use Rattle.std.specs.Io.KnownBytes.{Appends, Keeps}
 use Rattle.std.proofs.Math.Seq.{take-add}
 use Rattle.std.proofs.KnownBytes.{Appends-trans, Appends-kept}
-use Rattle.maple.specs.Fronts.{IsFront}
+use Rattle.maple_io.specs.Fronts.{IsFront}
 
 -- one piece more
 pub piece_more : (old mid new : Option (List ℕ)) (bytes : List ℕ) (at n : ℕ) → Appends old mid (take at bytes) → Appends mid new (take n (drop at bytes)) → Appends old new (take (at + n) bytes)

@@ -1,11 +1,11 @@
-// How bytes are written.
+// All of some bytes are written.
 ghost use Rattle.std.specs.Prelude.{◌≡◌, ◌≢◌, ℕ, ◌≤◌, List, OnOk, OnErr};
 ghost use Rattle.maple_io.specs.Views.{NoWriteFailed, WriteFailed, Wrote};
-ghost use Rattle.maple.specs.Fronts.{IsFront};
+ghost use Rattle.maple_io.specs.Fronts.{IsFront};
 
-use maple_io::{Put, Sink};
+use crate::{Put, Sink};
 
-/// Why bytes weren't written.
+/// Why bytes weren't all written.
 #[derive(Clone, Copy, Debug, PartialEq, Eq)]
 pub enum PutStop {
     /// A write failed.
@@ -14,7 +14,12 @@ pub enum PutStop {
     NoMemory,
 }
 
-/// Writes all of these bytes. After an error a front of them was written.
+/// Writes all of these bytes, with as many writes as that takes. After an error a front of them was
+/// written.
+///
+/// # Errors
+///
+/// `Failed` where a write failed, `NoMemory` where one found no memory.
 pub fn put_all<O: Sink>(output: &mut O, bytes: &[u8]) -> Result<(), PutStop>
     ensures ok { OnOk result (Wrote (O.tells output.old) (O.tells output.new) bytes.now) }
     ensures front { OnErr result ((front : List ℕ) × IsFront front bytes.now × Wrote (O.tells output.old) (O.tells output.new) front) }

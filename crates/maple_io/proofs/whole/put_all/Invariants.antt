@@ -1,6 +1,6 @@
 use Rattle.std.proofs.Common.{◌≡◌, ◌-◌, ◌≤◌, take, length}
 use Rattle.maple_io.specs.Views.{Wrote}
-use Rattle.maple.proofs.output.put_all.Given as goal
+use Rattle.maple_io.proofs.whole.put_all.Given as goal
 
 -- a front was written
 abbrev pub invariant-loop-at : goal.invariant-loop-at
