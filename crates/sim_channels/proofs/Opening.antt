@@ -1,0 +1,93 @@
+-- The driver ahead of its first entry.
+use Rattle.std.proofs.Common.{◌≡◌, ℕ, zero, suc, ◌+◌, ◌^◌, ◌<◌, true, false, List, [], ◌∷◌, length, map, refl, sym, ap, ◌∙◌, subst, arith}
+use Rattle.std.specs.Prelude.{Some}
+use Rattle.std.specs.FinSet as set
+use Rattle.std.specs.List.{AllByRecursion, slice_get}
+use Rattle.std.specs.Ordering.{nat_cmp}
+use Rattle.std.proofs.lemmas.Option.{none-some, same_Some}
+use Rattle.maple_base.specs.declared.decision.Settings.{Settings}
+use Rattle.policy_lang.specs.declared.Policy.{Policy}
+use Rattle.device_port.specs.Devices.{Meaning}
+use Rattle.machine_steps.specs.Machine.{State, opening, was_opened}
+use Rattle.machine_steps.specs.Sound.{AreInRange}
+use Rattle.world_steps.specs.Worlds.{messages_for}
+use Rattle.sim_steps.specs.Benches.{is_plugged, opening_bench, slot_of}
+use Rattle.sim_steps.specs.Parts.{IsHeardOut}
+use Rattle.sim_steps.specs.Showing.{AllIdle}
+use Rattle.sim_channels.specs.declared.channel.Channel.{Channel}
+use Rattle.sim_channels.specs.declared.channel.Stage.TheVariants.{Plugged, Unplugged}
+use Rattle.sim_channels.specs.declared.driver.Driver.{Driver}
+use Rattle.sim_channels.specs.Channels.{Fits, IsKept, IsStaged, bench, slot_by, slots_of}
+use Rattle.sim_channels.specs.Delivering.{IsUnused}
+use Rattle.sim_channels.specs.Waiting.{IsAtRest, WhilePlugged}
+
+unused_at : (ks : List Channel) (n : ℕ) (k : Channel) → AllByRecursion IsUnused ks → slice_get ks n ≡ Some k → IsUnused k
+unused_at [] n k all e = absurd (none-some k e)
+unused_at (x ∷ ks) zero k all e = subst IsUnused (same_Some x k e) all.0
+unused_at (x ∷ ks) (suc n) k all e = unused_at ks n k all.1 e
+
+idle_at : (ds : List Meaning) (n : ℕ) (d : Meaning) → AllIdle ds → slice_get ds n ≡ Some d → d.pending ≡ []
+idle_at [] n d all e = absurd (none-some d e)
+idle_at (x ∷ ds) zero d all e = subst (λ (y : Meaning). y.pending ≡ []) (same_Some x d e) all.0
+idle_at (x ∷ ds) (suc n) d all e = idle_at ds n d all.1 e
+
+slot_unused : (k : Channel) (d : Meaning) → IsUnused k → slot_by k d ≡ slot_of d
+slot_unused k d h = λ i. record { device = d; to = h.to i; from = h.from i }
+
+slots_unused : (ks : List Channel) (ds : List Meaning) → length ks ≡ length ds → AllByRecursion IsUnused ks → slots_of ks ds ≡ map slot_of ds
+slots_unused [] [] e all = refl
+slots_unused [] (d ∷ ds) e all = absurd (omega (arith, e))
+slots_unused (k ∷ ks) [] e all = absurd (omega (arith, e))
+slots_unused (k ∷ ks) (d ∷ ds) e all =
+    ap (λ s. s ∷ slots_of ks ds) (slot_unused k d all.0) ∙ ap (λ ss. slot_of d ∷ ss) (slots_unused ks ds (omega (arith, e)) all.1)
+
+-- a driver over the opening state
+pub record IsNewDriver (policy : Policy) (settings : Settings) (driver : Driver) (places : ℕ) : Type 0 where
+  pub ranges : AreInRange settings
+  pub core : driver.core ≡ opening policy settings
+  pub learning : driver.learning ≡ policy.learning
+  pub budget : driver.budget ≡ settings.budget
+  pub unused : AllByRecursion IsUnused driver.channels.items
+  pub count : length driver.channels.items ≡ places
+  pub few : places < 2 ^ 32
+
+module _ (policy : Policy) (settings : Settings) (driver : Driver) (ds : List Meaning) (h : IsNewDriver policy settings driver (length ds)) where
+  pub new_bench : bench driver ds ≡ opening_bench policy settings ds
+  new_bench = (let slots = slots_unused driver.channels.items ds h.count h.unused in λ i. record { machine = h.core i; slots = slots i })
+
+  none_open : (c : ℕ) → is_plugged c driver.core ≡ false
+  none_open c = ap (is_plugged c) h.core
+
+  none_opened : (c : ℕ) → was_opened c driver.core ≡ false
+  none_opened c = ap (was_opened c) h.core ∙ set.contains-empty nat_cmp c
+
+  new_kept : IsKept driver
+  new_kept = record {
+    reached = record { policy = policy; settings = settings; ranges = h.ranges; turns = []; leads = h.core };
+    numbers = subst (λ n. n < 2 ^ 32) (sym h.count) h.few;
+    stages = λ n k there.
+        subst (IsStaged (n + 1) driver.core) (sym (unused_at driver.channels.items n k h.unused there).stage) (record { plugged = none_open (n + 1); opened = none_opened (n + 1) });
+    places_alone = λ c plugged. (let f : true ≡ false = sym plugged ∙ none_open c in absurd (cc));
+    learning = h.learning ∙ sym (ap (λ (m : State). m.policy.learning) h.core);
+    budget = h.budget ∙ sym (ap (λ (m : State). m.settings.budget) h.core);
+    fresh = λ n k there unplugged. (let unused = unused_at driver.channels.items n k h.unused there in record { to = unused.to; from = unused.from });
+  }
+
+  pub new_fits : AllIdle ds → Fits driver ds
+  new_fits idle = record {
+    kept = new_kept;
+    places = h.count;
+    waiting = λ n k d there is. (unused_at driver.channels.items n k h.unused there).waiting ∙ sym (ap length (idle_at ds n d idle is));
+  }
+
+  none_waits : (P : Channel → Type 0) (n : ℕ) → WhilePlugged P n driver
+  none_waits P n k there plugged =
+      (let other : Unplugged ≡ Plugged = sym (unused_at driver.channels.items n k h.unused there).stage ∙ plugged in absurd (cc))
+
+  pub new_rest : IsAtRest driver
+  new_rest = record {
+    jobs = ap (λ (m : State). m.jobs) h.core;
+    taken = λ n. none_waits (λ k. messages_for (n + 1) driver.core ≡ []) n;
+    offered = λ n. none_waits (λ (k : Channel). k.to ≡ []) n;
+    heard = λ n. none_waits (λ (k : Channel). IsHeardOut k.from.stream) n;
+  }

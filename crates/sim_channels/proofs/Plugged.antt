@@ -1,0 +1,105 @@
+-- What the driver keeps where a place is opened, and where another policy comes into force.
+use Rattle.std.proofs.Common.{◌≡◌, ◌⊎◌, ℕ, ◌+◌, ◌^◌, ◌<◌, ◌≤◌, Bool, true, false, not, length, refl, sym, ap, ◌∙◌, subst, inl, inr, ⊎_elim, arith}
+use Rattle.std.specs.Prelude.{Some, is_some}
+use Rattle.std.specs.List.{slice_get}
+use Rattle.std.proofs.lemmas.Bool.{cases_Bool, cases_eq, ne_eqb}
+use Rattle.std.proofs.lemmas.Option.{same_Some, slice_get_within}
+use Rattle.policy_lang.specs.declared.Policy.{Policy}
+use Rattle.machine_replies.specs.Told.{IsOpenedNow, is_end}
+use Rattle.machine_steps.specs.declared.entry.Entry.TheVariants as entries
+use Rattle.machine_steps.specs.declared.reply.Reply.{Reply}
+use Rattle.machine_steps.specs.declared.reply.Reply.TheVariants.{NoMemory}
+use Rattle.machine_steps.specs.Machine.{was_opened}
+use Rattle.machine_steps.specs.Steps.{Steps}
+use Rattle.world_steps.specs.Worlds.{lacks_memory}
+use Rattle.sim_steps.specs.Benches.{is_plugged}
+use Rattle.sim_channels.specs.declared.channel.Channel.{Channel}
+use Rattle.sim_channels.specs.declared.channel.Stage.{Stage}
+use Rattle.sim_channels.specs.declared.channel.Stage.TheVariants.{Left, Plugged, Unplugged}
+use Rattle.sim_channels.specs.declared.driver.Driver.{Driver}
+use Rattle.sim_channels.specs.Channels.{IsKept, IsStaged, was_plugged_in}
+use Rattle.sim_channels.specs.Driving.{DrivingLaws}
+use Rattle.sim_channels.proofs.Keeping.{opened_same, plugged_same, policy_same, reached_on, reached_sound, session_same, settings_same}
+use Rattle.sim_channels.proofs.Kept.{ChannelAt, fresh_but, is_as_long, is_beside, is_there, staged}
+
+-- the stage of a place that was opened now, in vain or not
+abbrev pub stage_by : Bool → Stage
+stage_by true = Left
+stage_by false = Plugged
+
+never_unplugged : (b : Bool) → stage_by b ≡ Unplugged → ⊥
+never_unplugged true e = absurd (cc)
+never_unplugged false e = absurd (cc)
+
+module _ (laws : DrivingLaws) (old new : Driver) (reply : Reply) (kept : IsKept old) where
+  pub kept_opened : (at : ℕ) (k l : Channel) → ChannelAt at k l old new → k.stage ≡ Unplugged → l.stage ≡ stage_by (is_end reply) → lacks_memory reply ≡ false
+      → Steps old.core (entries.Open (at + 1)) reply new.core → IsKept new
+  kept_opened at k l h unplugged stage memory steps = record {
+    reached = reached_on old.core (entries.Open (at + 1)) reply new.core kept.reached tt steps;
+    numbers = subst (λ n. n < 2 ^ 32) (sym long) kept.numbers;
+    stages = stages;
+    places_alone = λ c open_now.
+        ⊎_elim
+        (λ e. (let within : at < length old.channels.items = slice_get_within old.channels.items at k h.there in (omega (arith, e), omega (arith, e, within, long))))
+        (λ o. (let place = kept.places_alone c (sym (beside_plugged c o) ∙ open_now) in (place.0, subst (λ n. c ≤ n) (sym long) place.1)))
+        (cases_eq c (at + 1));
+    learning = h.learning ∙ kept.learning ∙ sym (ap (λ p. p.learning) (policy_same laws old.core (entries.Open (at + 1)) reply new.core kept.reached steps refl));
+    budget = h.budget ∙ kept.budget ∙ sym (ap (λ s. s.budget) (settings_same laws old.core (entries.Open (at + 1)) reply new.core kept.reached steps));
+    fresh = fresh_but old new kept at k l h (λ e. absurd (never_unplugged (is_end reply) (sym stage ∙ e)));
+  }
+    where
+      long : length new.channels.items ≡ length old.channels.items
+      long = is_as_long at k l old new h
+
+      new_one : was_opened (at + 1) old.core ≡ false
+      new_one = (kept.stages at k h.there).opened ∙ ap was_plugged_in unplugged
+
+      here : IsStaged (at + 1) new.core (stage_by (is_end reply))
+      here = staged_now (laws.opens old.core (at + 1) reply new.core (reached_sound laws old.core kept.reached) new_one steps)
+        where
+          by : (b : Bool) → is_end reply ≡ b → is_plugged (at + 1) new.core ≡ not b → was_opened (at + 1) new.core ≡ true → IsStaged (at + 1) new.core (stage_by b)
+          by true e p o = record { plugged = p; opened = o }
+          by false e p o = record { plugged = p; opened = o }
+
+          staged_now : IsOpenedNow (at + 1) reply new.core ⊎ ((reply ≡ NoMemory) × (new.core ≡ old.core)) → IsStaged (at + 1) new.core (stage_by (is_end reply))
+          staged_now (inl now) = by (is_end reply) refl now.session now.opened
+          staged_now (inr (r, e)) = (let f : true ≡ false = sym (ap lacks_memory r) ∙ memory in absurd (cc))
+
+      is_only : (c : ℕ) → (c ≡ at + 1 → ⊥) → entries.Open (at + 1) ≡ entries.Open c → ⊥
+      is_only c o e = (let same : at + 1 ≡ c = cc in o (sym same))
+
+      beside_opened : (c : ℕ) → (c ≡ at + 1 → ⊥) → was_opened c new.core ≡ was_opened c old.core
+      beside_opened c o =
+          let only = laws.connections old.core (entries.Open (at + 1)) reply new.core steps in
+          ⊎_elim (λ was. only.stay c was ∙ sym was)
+          (λ was. ⊎_elim (λ is. absurd (is_only c o (only.others c was is))) (λ is. is ∙ sym was) (cases_Bool (was_opened c new.core))) (cases_Bool (was_opened c old.core))
+
+      beside_plugged : (c : ℕ) → (c ≡ at + 1 → ⊥) → is_plugged c new.core ≡ is_plugged c old.core
+      beside_plugged c o =
+          ap is_some (session_same laws old.core (entries.Open (at + 1)) reply new.core kept.reached steps refl c (ne_eqb (at + 1) c (λ e. o (sym e))))
+
+      stages : (n : ℕ) (x : Channel) → slice_get new.channels.items n ≡ Some x → IsStaged (n + 1) new.core x.stage
+      stages n x there =
+          ⊎_elim (λ e. (let is : l ≡ x = same_Some l x (sym (is_there at k l old new h) ∙ ap (slice_get new.channels.items) (sym e) ∙ there) in
+          subst (λ m. IsStaged (m + 1) new.core x.stage) (sym e) (subst (IsStaged (at + 1) new.core) (sym stage ∙ ap (λ (y : Channel). y.stage) is) here)))
+          (λ o. (let other : n + 1 ≡ at + 1 → ⊥ = λ e. o (omega (arith, e)) in
+          staged (n + 1) old.core new.core x.stage (beside_plugged (n + 1) other) (beside_opened (n + 1) other) (kept.stages n x (sym (is_beside at k l old new h n o) ∙ there)))) (cases_eq n at)
+
+  -- another policy is in force: who drives the machine knows whether it learns hosts
+  pub kept_policy : (policy : Policy) → Steps old.core (entries.NewPolicy policy) reply new.core → new.channels.items ≡ old.channels.items → new.budget ≡ old.budget
+      → new.learning ≡ new.core.policy.learning → IsKept new
+  kept_policy policy steps channels budget learning = record {
+    reached = reached_on old.core (entries.NewPolicy policy) reply new.core kept.reached tt steps;
+    numbers = subst (λ ks. length ks < 2 ^ 32) (sym channels) kept.numbers;
+    stages = λ n x there. staged (n + 1) old.core new.core x.stage (plugged (n + 1)) (opened (n + 1)) (kept.stages n x (sym (ap (λ ks. slice_get ks n) channels) ∙ there));
+    places_alone = λ c open_now. (let place = kept.places_alone c (sym (plugged c) ∙ open_now) in (place.0, subst (λ ks. c ≤ length ks) (sym channels) place.1));
+    learning = learning;
+    budget = budget ∙ kept.budget ∙ sym (ap (λ s. s.budget) (settings_same laws old.core (entries.NewPolicy policy) reply new.core kept.reached steps));
+    fresh = λ n x there unplugged. kept.fresh n x (sym (ap (λ ks. slice_get ks n) channels) ∙ there) unplugged;
+  }
+    where
+      plugged : (c : ℕ) → is_plugged c new.core ≡ is_plugged c old.core
+      plugged c = plugged_same laws old.core (entries.NewPolicy policy) reply new.core kept.reached steps refl c refl
+
+      opened : (c : ℕ) → was_opened c new.core ≡ was_opened c old.core
+      opened c = opened_same laws old.core (entries.NewPolicy policy) reply new.core kept.reached steps refl c

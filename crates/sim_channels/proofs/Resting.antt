@@ -1,0 +1,85 @@
+-- A driver at rest has a still bench, and hears in order.
+use Rattle.std.proofs.Common.{◌≡◌, ℕ, zero, suc, ◌+◌, ◌-◌, ◌<◌, true, List, [], ◌∷◌, length, refl, sym, ap, ◌∙◌, subst, arith}
+use Rattle.std.specs.Prelude.{Some}
+use Rattle.std.specs.List.{slice_get}
+use Rattle.device_port.specs.Devices.{Meaning}
+use Rattle.machine_steps.specs.declared.entry.Entry.TheVariants as entries
+use Rattle.machine_steps.specs.declared.entry.Input.{Input}
+use Rattle.machine_steps.specs.declared.reply.Reply.{Reply}
+use Rattle.world_steps.specs.Worlds.{messages_for}
+use Rattle.sim_steps.specs.Benches.{IsPluggedAt, Slot, is_plugged}
+use Rattle.sim_steps.specs.Deeds.Deed.{Enters}
+use Rattle.sim_steps.specs.Parts.{HearsInOrder, IsHeardOut, IsStill}
+use Rattle.sim_channels.specs.declared.channel.Channel.{Channel}
+use Rattle.sim_channels.specs.declared.channel.Stage.{Stage}
+use Rattle.sim_channels.specs.declared.channel.Stage.TheVariants.{Left, Plugged, Unplugged}
+use Rattle.sim_channels.specs.declared.driver.Driver.{Driver}
+use Rattle.sim_channels.specs.Channels.{Fits, IsKept, bench, is_plugged_in}
+use Rattle.sim_channels.specs.Waiting.{IsAtRest, IsOffered}
+use Rattle.sim_channels.proofs.Slots.{SlotBy, slots_found}
+
+plugged_in : (stage : Stage) → is_plugged_in stage ≡ true → stage ≡ Plugged
+plugged_in Unplugged e = absurd (cc)
+plugged_in Plugged e = refl
+plugged_in Left e = absurd (cc)
+
+-- the channel of an open session
+pub record PluggedBy (c : ℕ) (driver : Driver) : Type 0 where
+  pub at : ℕ
+  pub place : c ≡ at + 1
+  pub channel : Channel
+  pub there : slice_get driver.channels.items at ≡ Some channel
+  pub plugged : channel.stage ≡ Plugged
+
+pub stage_plugged : (driver : Driver) (at : ℕ) (k : Channel) → IsKept driver → slice_get driver.channels.items at ≡ Some k → is_plugged (at + 1) driver.core ≡ true → k.stage ≡ Plugged
+stage_plugged driver at k kept there open_now = plugged_in k.stage (sym (kept.stages at k there).plugged ∙ open_now)
+
+pub plugged_by : (driver : Driver) (c : ℕ) → IsKept driver → is_plugged c driver.core ≡ true → PluggedBy c driver
+plugged_by driver c kept open_now =
+    let place = kept.places_alone c open_now in
+    let found = channel_there driver.channels.items (c - 1) (omega (arith, place.0, place.1)) in
+    let is : c ≡ (c - 1) + 1 = omega (arith, place.0) in
+    record { at = c - 1; place = is; channel = found.0; there = found.1; plugged = stage_plugged driver (c - 1) found.0 kept found.1 (ap (λ n. is_plugged n driver.core) (sym is) ∙ open_now) }
+  where
+    channel_there : (ks : List Channel) (n : ℕ) → n < length ks → (k : Channel) × (slice_get ks n ≡ Some k)
+    channel_there [] n within = absurd (omega (arith, within))
+    channel_there (k ∷ ks) zero within = (k, refl)
+    channel_there (k ∷ ks) (suc n) within = channel_there ks n (omega (arith, within))
+
+-- the slot of an open session, by its channel and its device
+pub record SlotPlugged (c : ℕ) (driver : Driver) (devices : List Meaning) (s : Slot) : Type 0 where
+  pub slot : SlotBy driver.channels.items devices c s
+  pub plugged : slot.channel.stage ≡ Plugged
+
+pub slot_plugged : (driver : Driver) (devices : List Meaning) (c : ℕ) (s : Slot) → IsKept driver → IsPluggedAt c (bench driver devices) s → SlotPlugged c driver devices s
+slot_plugged driver devices c s kept is =
+    let found = slots_found driver.channels.items devices c s is.there in
+    record { slot = found; plugged = stage_plugged driver found.at found.channel kept found.there (ap (λ n. is_plugged n driver.core) (sym found.place) ∙ is.plugged) }
+
+pub none_to : (driver : Driver) (devices : List Meaning) → IsKept driver → ((at : ℕ) → IsOffered at driver) → (c : ℕ) (s : Slot) → IsPluggedAt c (bench driver devices) s → s.to ≡ []
+none_to driver devices kept offered c s is =
+    let h = slot_plugged driver devices c s kept is in
+    ap (λ (x : Slot). x.to) h.slot.is ∙ offered h.slot.at h.slot.channel h.slot.there h.plugged
+
+pub rest_is_still : (driver : Driver) (devices : List Meaning) → Fits driver devices → IsAtRest driver → IsStill (bench driver devices)
+rest_is_still driver devices fits rest = record {
+  jobs = rest.jobs;
+  taken = λ c open_now.
+      (let h = plugged_by driver c fits.kept open_now in
+      ap (λ n. messages_for n driver.core) h.place ∙ rest.taken h.at h.channel h.there h.plugged);
+  offered = none_to driver devices fits.kept rest.offered;
+  heard = λ c s is.
+      (let h = slot_plugged driver devices c s fits.kept is in
+      subst (λ (x : Slot). IsHeardOut x.from) (sym h.slot.is) (rest.heard h.slot.at h.slot.channel h.slot.there h.plugged));
+}
+
+-- of the place where all was offered something may be heard, while no packet waits
+pub hears_in_order : (driver : Driver) (devices : List Meaning) (at : ℕ) (input : Input) (reply : Reply) → IsKept driver → driver.core.jobs ≡ [] → IsOffered at driver
+    → HearsInOrder (Enters (entries.Heard (at + 1) input) reply) (bench driver devices)
+hears_in_order driver devices at input reply kept jobs offered = (
+  jobs,
+  (λ s is.
+      (let h = slot_plugged driver devices (at + 1) s kept is in
+      let same : h.slot.at ≡ at = omega (arith, h.slot.place) in
+      ap (λ (x : Slot). x.to) h.slot.is ∙ offered h.slot.channel (ap (slice_get driver.channels.items) (sym same) ∙ h.slot.there) h.plugged)),
+)

@@ -1,0 +1,23 @@
+-- The laws of the machine that who drives it rests on.
+use Rattle.machine_moves.specs.Laws.{ConnectionsOpen, OpenIsKept, SessionsMove, SessionsOpen, StatesGrow}
+use Rattle.machine_replies.specs.Told.{EndsAreTold, FreshRunsAnswer, JobsAreTold, NoneElseWaits, OpensAreTold, OthersStay, PolicyIsTold, StatesAreTold}
+use Rattle.machine_sends.specs.Sends.{SendsLaw}
+use Rattle.machine_steps.specs.Laws.{KeepsSound, OpensSound}
+
+pub record DrivingLaws : Type 0 where
+  pub sound : OpensSound
+  pub keeps : KeepsSound
+  pub ends : EndsAreTold
+  pub opens : OpensAreTold
+  pub others : OthersStay
+  pub states : StatesAreTold
+  pub policy : PolicyIsTold
+  pub jobs : JobsAreTold
+  pub none : NoneElseWaits
+  pub fresh : FreshRunsAnswer
+  pub moves : SessionsMove
+  pub sessions : SessionsOpen
+  pub kept : OpenIsKept
+  pub connections : ConnectionsOpen
+  pub grow : StatesGrow
+  pub sends : SendsLaw

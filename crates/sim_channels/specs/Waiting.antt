@@ -1,0 +1,50 @@
+-- What is left to do at a place, of those whose session is open: what the machine has for the device, what was taken out for it, what came from it.
+use Rattle.std.specs.Prelude.{◌≡◌, ℕ, ◌+◌, [], Some}
+use Rattle.std.specs.List.{slice_get}
+use Rattle.machine_steps.specs.Machine.{session_at}
+use Rattle.world_steps.specs.Worlds.{messages_for}
+use Rattle.sim_steps.specs.Parts.{IsHeardOut}
+use Rattle.sim_channels.specs.declared.channel.Channel.{Channel}
+use Rattle.sim_channels.specs.declared.channel.Stage.TheVariants.{Plugged}
+use Rattle.sim_channels.specs.declared.driver.Driver.{Driver}
+
+-- it holds of the channel with this index, where its session is open
+abbrev pub WhilePlugged : (Channel → Type 0) → ℕ → Driver → Type 0
+WhilePlugged P at driver = (k : Channel) → slice_get driver.channels.items at ≡ Some k → k.stage ≡ Plugged → P k
+
+-- all that the machine has for the device was taken out
+abbrev pub IsTaken : ℕ → Driver → Type 0
+IsTaken at driver = WhilePlugged (λ k. messages_for (at + 1) driver.core ≡ []) at driver
+
+-- all that was taken out was offered
+abbrev pub IsOffered : ℕ → Driver → Type 0
+IsOffered at driver = WhilePlugged (λ k. k.to ≡ []) at driver
+
+-- all that came was heard
+abbrev pub IsHeard : ℕ → Driver → Type 0
+IsHeard at driver = WhilePlugged (λ k. IsHeardOut k.from.stream) at driver
+
+-- nothing is left to do
+pub record IsAtRest (driver : Driver) : Type 0 where
+  pub jobs : driver.core.jobs ≡ []
+  pub taken : (at : ℕ) → IsTaken at driver
+  pub offered : (at : ℕ) → IsOffered at driver
+  pub heard : (at : ℕ) → IsHeard at driver
+
+-- nothing is left to do but to take out and offer
+pub record IsHeardThrough (driver : Driver) : Type 0 where
+  pub jobs : driver.core.jobs ≡ []
+  pub offered : (at : ℕ) → IsOffered at driver
+  pub heard : (at : ℕ) → IsHeard at driver
+
+-- nothing is left to do but at this place, where all was offered
+pub record IsAtRestBut (here : ℕ) (driver : Driver) : Type 0 where
+  pub jobs : driver.core.jobs ≡ []
+  pub taken : (at : ℕ) → (at ≡ here → ⊥) → IsTaken at driver
+  pub offered : (at : ℕ) → IsOffered at driver
+  pub heard : (at : ℕ) → (at ≡ here → ⊥) → IsHeard at driver
+
+-- all other places are as they were
+pub record StaysBut (here : ℕ) (old new : Driver) : Type 0 where
+  pub sessions : (c : ℕ) → (c ≡ here + 1 → ⊥) → session_at c new.core ≡ session_at c old.core
+  pub channels : (at : ℕ) → (at ≡ here → ⊥) → slice_get new.channels.items at ≡ slice_get old.channels.items at

@@ -1,0 +1,74 @@
+// What the machine has for devices is taken out and offered to them.
+ghost use Rattle.std.specs.Prelude.{◌≡◌, ◌<◌, [], map, length, OnOk};
+ghost use Rattle.sim_stretches.specs.Stretches.{Carried};
+ghost use Rattle.sim_channels.specs.Channels.{Fits, bench};
+ghost use Rattle.sim_channels.specs.Delivering.{Delivers, IsPluggedIn};
+ghost use Rattle.sim_channels.specs.Waiting.{IsAtRest, IsHeard, IsHeardThrough, IsOffered, IsTaken, StaysBut};
+
+use crate::laws::driving_laws;
+use crate::{Driver, Stage};
+use device_port::Device;
+use maple_base::NoMemory;
+
+impl Driver {
+    /// What the machine has for the device with this index is taken out and offered to it, message by
+    /// message. Where the device fails it is left. Nothing is done where its session isn't open.
+    ///
+    /// # Errors
+    ///
+    /// `NoMemory`.
+    pub fn deliver<D: Device>(&mut self, devices: &mut [D], at: usize) -> Result<(), NoMemory>
+        requires fits { Fits self.old (map D.meaning devices.old) }
+        requires within { at < length devices.old }
+        requires offered { IsOffered at self.old }
+        ensures fits { OnOk result (Fits self.new (map D.meaning devices.new)) }
+        ensures carried { OnOk result (Carried (bench self.old (map D.meaning devices.old)) (bench self.new (map D.meaning devices.new))) }
+        ensures taken { OnOk result (IsTaken at self.new) }
+        ensures offered { OnOk result (IsOffered at self.new) }
+        ensures heard { OnOk result (IsHeard at self.old → IsHeard at self.new) }
+        ensures others { OnOk result (StaysBut at self.old self.new) }
+        ensures jobs { OnOk result (self.old.core.jobs ≡ [] → self.new.core.jobs ≡ []) }
+    {
+        match self.channels[at].stage {
+            Stage::Plugged => self.deliver_plugged(devices, at),
+            Stage::Unplugged | Stage::Left => Ok(()),
+        }
+    }
+
+    /// What the machine has for any of the devices is taken out and offered.
+    ///
+    /// # Errors
+    ///
+    /// `NoMemory`.
+    pub fn deliver_all<D: Device>(&mut self, devices: &mut [D]) -> Result<(), NoMemory>
+        requires fits { Fits self.old (map D.meaning devices.old) }
+        requires through { IsHeardThrough self.old }
+        ensures fits { OnOk result (Fits self.new (map D.meaning devices.new)) }
+        ensures carried { OnOk result (Carried (bench self.old (map D.meaning devices.old)) (bench self.new (map D.meaning devices.new))) }
+        ensures rest { OnOk result (IsAtRest self.new) }
+    {
+        driving_laws();
+        for at in 0..devices.len() {
+            self.deliver(devices, at)?;
+        }
+        Ok(())
+    }
+
+    // The same where its session is open.
+    fn deliver_plugged<D: Device>(&mut self, devices: &mut [D], at: usize) -> Result<(), NoMemory>
+        requires fits { Fits self.old (map D.meaning devices.old) }
+        requires within { at < length devices.old }
+        requires plugged { IsPluggedIn at self.old }
+        requires offered { IsOffered at self.old }
+        ensures done { OnOk result (Delivers at self.old (map D.meaning devices.old) self.new (map D.meaning devices.new)) }
+        ensures offered { OnOk result (IsOffered at self.new) }
+    {
+        self.take_out(at)?;
+        while !self.channels[at].to.is_empty() {
+            if !self.offer_next(devices, at)? {
+                return Ok(());
+            }
+        }
+        Ok(())
+    }
+}

@@ -1,0 +1,69 @@
+// A message that was taken out is offered to its device.
+ghost use Rattle.std.specs.Prelude.{◌≡◌, ◌<◌, IfOk, OnOk, length, map};
+ghost use Rattle.std.specs.List.{AllByRecursion};
+ghost use Rattle.machine_sends.specs.Sends.{CanBeOffered};
+ghost use Rattle.sim_channels.specs.Channels.{Fits, bench};
+ghost use Rattle.sim_channels.specs.Delivering.{CanOffer, Delivers, GoesOn, IsPluggedIn, OffersFirst, offers_left};
+ghost use Rattle.sim_channels.specs.Waiting.{IsTaken};
+
+use crate::laws::driving_laws;
+use crate::outbox::connection_of;
+use crate::{Channel, Driver};
+use core_machine::{Entry, Note, Reply};
+use device_port::{Device, Took};
+use maple_base::NoMemory;
+
+impl Driver {
+    // The next message is offered to the device with this index, which is left where it fails. Gives
+    // whether it took the message in.
+    pub(crate) fn offer_next<D: Device>(
+        &mut self,
+        devices: &mut [D],
+        at: usize,
+    ) -> Result<bool, NoMemory>
+        requires fits { Fits self.old (map D.meaning devices.old) }
+        requires within { at < length devices.old }
+        requires plugged { IsPluggedIn at self.old }
+        requires can { CanOffer at self.old }
+        requires taken { IsTaken at self.old }
+        requires some { 0 < offers_left at self.old }
+        ensures done { OnOk result (Delivers at self.old (map D.meaning devices.old) self.new (map D.meaning devices.new)) }
+        ensures goes_on { IfOk result (λ took. GoesOn took at self.old self.new) }
+    {
+        driving_laws();
+        let failed = offer_first(&mut self.channels[at], &mut devices[at])?;
+        let note = Note::Offered {
+            device: connection_of(at),
+            failed,
+        };
+        let Reply::Done = self.enter(Entry::Note(note)) else {
+            return Err(NoMemory);
+        };
+        if failed {
+            self.leave(at);
+            return Ok(false);
+        }
+        Ok(true)
+    }
+}
+
+// Offers the next message to the device behind a channel, and gives whether it failed.
+fn offer_first<D: Device>(channel: &mut Channel, device: &mut D) -> Result<bool, NoMemory>
+    requires some { 0 < length channel.old.to }
+    requires can { AllByRecursion CanBeOffered channel.old.to }
+    requires waiting { channel.old.waiting ≡ length (D.meaning device.old).pending }
+    ensures { IfOk result (λ failed. OffersFirst failed channel.old (D.meaning device.old) channel.new (D.meaning device.new)) }
+{
+    let Some(waiting) = channel.waiting.checked_add(1) else {
+        return Err(NoMemory);
+    };
+    match device.offer(channel.to.next()) {
+        Took::Taken => {
+            channel.to.drop_first();
+            channel.waiting = waiting;
+            Ok(false)
+        }
+        Took::Failed => Ok(true),
+        Took::NoMemory => Err(NoMemory),
+    }
+}

@@ -1,0 +1,21 @@
+// The messages that wait in the machine.
+ghost use Rattle.std.specs.Prelude.{◌≡◌, ◌+◌, ◌^◌, ◌<◌};
+ghost use Rattle.world_steps.specs.Worlds.{messages_for};
+
+use core_machine::Core;
+use message_blocks::Messages;
+
+/// The number of the connection of the device with this index.
+pub fn connection_of(at: usize) -> u32
+    requires { at + 1 < 2 ^ 32 }
+    ensures { result ≡ at + 1 }
+{
+    at as u32 + 1
+}
+
+// The messages that wait in the machine for a connection. It does nothing when it runs.
+pub fn messages_for(_core: &Core, _connection: &u32) -> Messages
+    ensures { result.list ≡ messages_for _connection.now _core.now }
+{
+    Messages {}
+}
