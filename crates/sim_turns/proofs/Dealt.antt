@@ -1,0 +1,145 @@
+-- A turn in which a message was dealt with, behind its note and with what was appended.
+use Rattle.std.proofs.Common.{◌≡◌, ℕ, ◌+◌, List, [], ◌∷◌, length, refl, sym, ap, ◌∙◌, subst, arith, ⊎_elim}
+use Rattle.std.specs.Prelude.{Some}
+use Rattle.std.specs.List.{slice_get}
+use Rattle.std.proofs.lemmas.Bool.{cases_eq}
+use Rattle.std.proofs.lemmas.List.{length-set}
+use Rattle.std.proofs.lemmas.Option.{same_Some}
+use Rattle.maple_base.specs.declared.device.Turned.{Turned}
+use Rattle.maple_base.specs.declared.device.Turned.TheVariants.{Failed as FailedTurn}
+use Rattle.device_port.specs.Devices.{Meaning}
+use Rattle.device_port.specs.Devices.Call.{Turning}
+use Rattle.machine_steps.specs.declared.entry.Entry.{Entry}
+use Rattle.machine_steps.specs.declared.entry.Entry.TheVariants as entries
+use Rattle.machine_steps.specs.declared.note.Note.TheVariants as notes
+use Rattle.machine_steps.specs.Steps.{Steps}
+use Rattle.sim_steps.specs.Benches.{Bench}
+use Rattle.sim_stretches.specs.Stretches.{Stretch}
+use Rattle.sim_stretches.proofs.Moments.{called, stretch_call}
+use Rattle.sim_channels.specs.Channels.{Fits, IsKept, bench, is_plugged_in, slots_of}
+use Rattle.sim_channels.specs.Driving.{DrivingLaws}
+use Rattle.sim_channels.specs.Waiting.{IsAtRest, IsAtRestBut, IsOffered, StaysBut}
+use Rattle.sim_channels.specs.declared.channel.Channel.{Channel}
+use Rattle.sim_channels.specs.declared.driver.Driver.{Driver}
+use Rattle.sim_channels.proofs.Keeping.{session_same}
+use Rattle.sim_channels.proofs.Kept.{ChannelAt, channel_at, is_as_long, is_beside, is_there, kept_channel, not_fresh, waiting_but}
+use Rattle.sim_channels.proofs.Slots.{set_beside, set_there}
+use Rattle.sim_turns.specs.Taking.{Appends, ChannelMoves, IsTaken, IsTold, NotesTurn, Tires, ToldOver, TurnsAt}
+use Rattle.sim_turns.specs.Turning.{TakesOne, Waits}
+use Rattle.sim_turns.proofs.Called.{turned_bench, calls_at, dealt_one, is_dealt}
+use Rattle.sim_turns.proofs.Counted.{NoneOpens, count_le}
+use Rattle.sim_channels.proofs.Resting.{rest_is_still}
+use Rattle.sim_turns.proofs.Rested.{rests_but}
+
+-- ---- one device among the others
+
+module _ (at : ℕ) (turned : Turned) (bytes : List ℕ) (before behind : List Meaning) (turns : TurnsAt at turned bytes before behind) where
+  pub devices_long : length behind ≡ length before
+  devices_long = ap length turns.set_is ∙ length-set before at turns.behind
+
+  pub devices_beside : (n : ℕ) → (n ≡ at → ⊥) → slice_get behind n ≡ slice_get before n
+  devices_beside n other = ap (λ ds. slice_get ds n) turns.set_is ∙ set_beside before at n turns.behind other
+
+  pub device_there : (d : Meaning) → slice_get behind at ≡ Some d → turns.behind ≡ d
+  device_there d e = same_Some turns.behind d (sym (ap (λ ds. slice_get ds at) turns.set_is ∙ set_there before at turns.before turns.behind turns.there) ∙ e)
+
+-- ---- the turn
+
+module _ (laws : DrivingLaws) (at : ℕ) (turned : Turned) (bytes : List ℕ) (old mid new : Driver) (kept : IsKept old) (rest : IsAtRest old) (waits : Waits at old)
+    (taken : IsTaken turned) (other : turned ≡ FailedTurn → ⊥) (note : NotesTurn at turned old mid) (core : new.core ≡ mid.core) (moves : ChannelMoves at (Appends bytes) mid new) where
+  abbrev Telling : Entry
+  Telling = entries.Note (notes.Turned (at + 1) turned)
+
+  abbrev K : Channel
+  K = waits.channel
+
+  abbrev L : Channel
+  L = moves.behind
+
+  was : moves.before ≡ K
+  was = same_Some moves.before K (sym moves.there ∙ ap (λ (x : Driver). slice_get x.channels.items at) note.same ∙ waits.there)
+
+  changes : Appends bytes K L
+  changes = subst (λ x. Appends bytes x L) was moves.moves
+
+  at_channel : ChannelAt at K L old new
+  at_channel = channel_at at old mid K waits.there note.same L new moves.set_is moves.learning moves.budget
+
+  noted : Steps old.core (entries.Note (notes.Turned (at + 1) turned)) note.reply new.core
+  noted = subst (λ m. Steps old.core (entries.Note (notes.Turned (at + 1) turned)) note.reply m) (sym core) note.steps
+
+  kept_behind : IsKept new
+  kept_behind = kept_channel laws old new (entries.Note (notes.Turned (at + 1) turned)) note.reply kept tt noted refl refl (λ c. refl) at K L at_channel changes.stage
+      (not_fresh L (changes.stage ∙ waits.plugged))
+
+  others_stay : StaysBut at old new
+  others_stay = record {
+    sessions = λ c o. session_same laws old.core (entries.Note (notes.Turned (at + 1) turned)) note.reply new.core kept.reached noted refl c refl;
+    channels = λ n o. is_beside at K L old new at_channel n o;
+  }
+
+  offered : IsOffered at new
+  offered x there plugged =
+      let is : L ≡ x = same_Some L x (sym (is_there at K L old new at_channel) ∙ there) in
+      ap (λ (y : Channel). y.to) (sym is) ∙ changes.to ∙ rest.offered at K waits.there waits.plugged
+
+  pub dealt_rest : IsAtRestBut at new
+  dealt_rest =
+      rests_but laws at old new kept kept_behind rest others_stay (laws.none old.core (entries.Note (notes.Turned (at + 1) turned)) note.reply new.core rest.jobs refl noted) offered
+
+  none_opens : NoneOpens old.channels.items new.channels.items
+  none_opens n x y e f open_now =
+      ⊎_elim (λ here.
+      (let is : L ≡ y = same_Some L y (sym (is_there at K L old new at_channel) ∙ ap (slice_get new.channels.items) (sym here) ∙ f) in
+      let first : K ≡ x = same_Some K x (sym waits.there ∙ ap (slice_get old.channels.items) (sym here) ∙ e) in
+      ap (λ (z : Channel). is_plugged_in z.stage) (sym first) ∙ ap is_plugged_in (sym changes.stage) ∙ ap (λ (z : Channel). is_plugged_in z.stage) is ∙ open_now))
+      (λ o. (let is : x ≡ y = same_Some x y (sym e ∙ sym (is_beside at K L old new at_channel n o) ∙ f) in ap (λ (z : Channel). is_plugged_in z.stage) is ∙ open_now)) (cases_eq n at)
+
+  pub dealt_tires : Tires turned old new
+  dealt_tires =
+      let le = count_le old.channels.items new.channels.items (is_as_long at K L old new at_channel) none_opens in
+      let one = dealt_one turned taken other in
+      omega arith
+
+  module _ (before behind : List Meaning) (fits : Fits old before) (turns : TurnsAt at turned bytes before behind) where
+    here : (x : Channel) (d : Meaning) → slice_get new.channels.items at ≡ Some x → slice_get behind at ≡ Some d → x.waiting ≡ length d.pending
+    here x d e f =
+        let is : L ≡ x = same_Some L x (sym (is_there at K L old new at_channel) ∙ e) in
+        let device : turns.behind ≡ d = device_there at turned bytes before behind turns d f in
+        let count : K.waiting ≡ length turns.before.pending = fits.waiting at K turns.before waits.there turns.there in
+        let fewer : length turns.before.pending ≡ length turns.behind.pending + 1 = (is_dealt turned bytes turns.before turns.behind taken other turns.turns).fewer in
+        let less : K.waiting ≡ L.waiting + 1 = changes.waiting in
+        let now : L.waiting ≡ length turns.behind.pending = omega arith in
+        ap (λ (y : Channel). y.waiting) (sym is) ∙ now ∙ ap (λ (m : Meaning). length m.pending) device
+
+    fits_behind : Fits new behind
+    fits_behind = record {
+      kept = kept_behind;
+      places = is_as_long at K L old new at_channel ∙ fits.places ∙ sym (devices_long at turned bytes before behind turns);
+      waiting = waiting_but old new before behind at fits (is_beside at K L old new at_channel) (devices_beside at turned bytes before behind turns) here;
+    }
+
+    bench_is : turned_bench at turned bytes old before behind fits turns waits taken new.core L ≡ bench new behind
+    bench_is = λ i. record { machine = new.core; slots = slots_of (sym at_channel.channels i) (sym turns.set_is i) }
+
+    one : TakesOne (at + 1) turned (bench old before) (bench new behind)
+    one =
+        let b = turned_bench at turned bytes old before behind fits turns waits taken new.core L in
+        let event = called (at + 1) (Turning turned bytes) note.reply (bench old before) b in
+        let calls = calls_at at turned bytes old before behind fits turns waits taken new.core L note.reply changes.to changes.from noted in
+        let whole = (is_dealt turned bytes turns.before turns.behind taken other turns.turns).whole in
+        record {
+          event = event;
+          bytes = bytes;
+          reply = note.reply;
+          stretch = subst (λ (x : Bench). Stretch (event ∷ []) [] (bench old before) x) bench_is
+              (stretch_call (at + 1) (Turning turned bytes) note.reply (bench old before) b refl (rest_is_still old before fits rest) whole note.memory calls);
+          before = refl;
+          deed = refl;
+        }
+
+    told : IsTold at turned old new before behind
+    told = record { fits = fits_behind; one = one }
+
+  pub dealt_told : ToldOver at turned bytes old new
+  dealt_told before behind fits turns = told before behind fits turns

@@ -1,0 +1,123 @@
+-- A turn in which the device failed, behind its note and the end of the session.
+use Rattle.std.proofs.Common.{◌≡◌, ℕ, ◌+◌, ◌<◌, true, false, List, [], length, refl, sym, ap, ◌∙◌, subst, arith, ⊎_elim}
+use Rattle.std.specs.Prelude.{Some}
+use Rattle.std.specs.List.{slice_get}
+use Rattle.std.proofs.lemmas.Bool.{cases_eq}
+use Rattle.std.proofs.lemmas.Option.{same_Some, slice_get_within}
+use Rattle.maple_base.specs.declared.device.Turned.{Turned}
+use Rattle.maple_base.specs.declared.device.Turned.TheVariants.{Failed as FailedTurn}
+use Rattle.of10_stream.specs.Steps.{fed}
+use Rattle.device_port.specs.Devices.{Meaning, Turns}
+use Rattle.device_port.specs.Devices.Call.{Turning}
+use Rattle.machine_steps.specs.declared.note.Note.TheVariants as notes
+use Rattle.sim_steps.specs.Benches.{Bench}
+use Rattle.sim_steps.specs.Deeds.{CallsAt, has_failed}
+use Rattle.sim_steps.specs.Parts.{has_dealt}
+use Rattle.sim_stretches.proofs.Moments.{called, stretch_failed}
+use Rattle.sim_channels.specs.Channels.{Fits, IsKept, bench, is_plugged_in, slots_of}
+use Rattle.sim_channels.specs.Delivering.{Leaves}
+use Rattle.sim_channels.specs.Driving.{DrivingLaws}
+use Rattle.sim_channels.specs.Waiting.{IsAtRest, IsAtRestBut}
+use Rattle.sim_channels.specs.declared.channel.Channel.{Channel}
+use Rattle.sim_channels.specs.declared.driver.Driver.{Driver}
+use Rattle.sim_channels.proofs.Kept.{all_left, waiting_but}
+use Rattle.sim_channels.proofs.Slots.{set_same}
+use Rattle.sim_turns.specs.Taking.{IsTaken, IsTold, NotesTurn, Tires, ToldOver, TurnsAt, plugged_count}
+use Rattle.sim_turns.specs.Turning.{TakesOne, Waits}
+use Rattle.sim_turns.proofs.Called.{turned_bench, calls_at, fed_nothing}
+use Rattle.sim_turns.proofs.Counted.{NoneOpens, count_lt}
+use Rattle.sim_turns.proofs.Dealt.{device_there, devices_beside, devices_long}
+use Rattle.sim_turns.proofs.Noted.{noted_fits, noted_kept, noted_rest}
+use Rattle.sim_channels.proofs.Resting.{rest_is_still}
+use Rattle.sim_turns.proofs.Pending.{there_is}
+use Rattle.sim_turns.proofs.Rested.{rests_but}
+
+module _ (laws : DrivingLaws) (at : ℕ) (turned : Turned) (bytes : List ℕ) (old mid new : Driver) (kept : IsKept old) (rest : IsAtRest old) (waits : Waits at old)
+    (taken : IsTaken turned) (failed : turned ≡ FailedTurn) (note : NotesTurn at turned old mid) (leaves : Leaves at mid new) where
+  abbrev K : Channel
+  K = waits.channel
+
+  channels_same : mid.channels.items ≡ old.channels.items
+  channels_same = ap (λ (x : Driver). x.channels.items) note.same
+
+  -- ---- behind the note
+
+  pub kept_told : IsKept mid
+  kept_told = noted_kept (notes.Turned (at + 1) turned) note.reply old mid note.same note.memory note.steps kept
+
+  rest_told : IsAtRest mid
+  rest_told = noted_rest (notes.Turned (at + 1) turned) note.reply old mid note.same note.memory note.steps rest
+
+  there_told : slice_get mid.channels.items at ≡ Some K
+  there_told = ap (λ ks. slice_get ks at) channels_same ∙ waits.there
+
+  -- ---- behind the session's end
+
+  pub failed_rest : IsAtRestBut at new
+  failed_rest = rests_but laws at mid new kept_told leaves.kept rest_told leaves.spares.others (leaves.spares.jobs rest_told.jobs) (all_left (λ k. k.to ≡ []) at new leaves.left)
+
+  left_shut : (y : Channel) → slice_get new.channels.items at ≡ Some y → is_plugged_in y.stage ≡ false
+  left_shut y there = ap is_plugged_in (leaves.left y there)
+
+  none_opens : NoneOpens mid.channels.items new.channels.items
+  none_opens n x y e f open_now =
+      ⊎_elim (λ here. (let g : true ≡ false = sym open_now ∙ left_shut y (ap (slice_get new.channels.items) (sym here) ∙ f) in absurd (cc)))
+      (λ o. (let is : x ≡ y = same_Some x y (sym e ∙ sym (leaves.spares.others.channels n o) ∙ f) in ap (λ (z : Channel). is_plugged_in z.stage) is ∙ open_now)) (cases_eq n at)
+
+  pub failed_tires : Tires turned old new
+  failed_tires =
+      let within : at < length mid.channels.items = slice_get_within mid.channels.items at K there_told in
+      let l = there_is new.channels.items at (omega (arith, leaves.places)) in
+      let fewer = count_lt mid.channels.items new.channels.items at K l.0 leaves.places none_opens there_told l.1 (ap is_plugged_in waits.plugged) (left_shut l.0 l.1) in
+      let none : has_dealt turned ≡ 0 = ap has_dealt failed in
+      subst (λ ks. plugged_count new.channels.items < plugged_count ks + has_dealt turned) channels_same (omega arith)
+
+  module _ (before behind : List Meaning) (fits : Fits old before) (turns : TurnsAt at turned bytes before behind) where
+    fails : Turns FailedTurn bytes turns.before turns.behind
+    fails = subst (λ t. Turns t bytes turns.before turns.behind) failed turns.turns
+
+    fits_told : Fits mid before
+    fits_told = noted_fits (notes.Turned (at + 1) turned) note.reply old mid note.same note.memory note.steps before fits
+
+    here : (x : Channel) (d : Meaning) → slice_get new.channels.items at ≡ Some x → slice_get behind at ≡ Some d → x.waiting ≡ length d.pending
+    here x d e f =
+        leaves.waiting K x there_told e ∙ fits.waiting at K turns.before waits.there turns.there ∙ ap length (sym fails.0.pending)
+        ∙ ap (λ (m : Meaning). length m.pending) (device_there at turned bytes before behind turns d f)
+
+    long : length behind ≡ length mid.channels.items
+    long = devices_long at turned bytes before behind turns ∙ sym fits_told.places
+
+    fits_behind : Fits new behind
+    fits_behind = record {
+      kept = leaves.kept;
+      places = leaves.places ∙ sym long;
+      waiting = waiting_but mid new before behind at fits_told leaves.spares.others.channels (devices_beside at turned bytes before behind turns) here;
+    }
+
+    nothing_fed : K.from.stream ≡ fed bytes K.from.stream
+    nothing_fed = sym (ap (λ bs. fed bs K.from.stream) fails.1 ∙ fed_nothing K.from.stream)
+
+    bench_is : turned_bench at turned bytes old before behind fits turns waits taken mid.core K ≡ bench mid behind
+    bench_is = λ i. record { machine = mid.core; slots = slots_of ((set_same old.channels.items at K waits.there ∙ sym channels_same) i) (sym turns.set_is i) }
+
+    calls : CallsAt (at + 1) (Turning turned bytes) note.reply (bench old before) (bench mid behind)
+    calls =
+        subst (λ (x : Bench). CallsAt (at + 1) (Turning turned bytes) note.reply (bench old before) x) bench_is
+        (calls_at at turned bytes old before behind fits turns waits taken mid.core K note.reply refl nothing_fed note.steps)
+
+    one : TakesOne (at + 1) turned (bench old before) (bench new behind)
+    one = record {
+      event = called (at + 1) (Turning turned bytes) note.reply (bench old before) (bench mid behind);
+      bytes = bytes;
+      reply = note.reply;
+      stretch = stretch_failed (at + 1) (Turning turned bytes) note.reply (bench old before) (bench mid behind) leaves.reply (bench new behind) refl (rest_is_still old before fits rest)
+          (ap (λ t. has_failed (Turning t bytes)) failed) note.memory leaves.memory calls (leaves.enters behind long);
+      before = refl;
+      deed = refl;
+    }
+
+    told : IsTold at turned old new before behind
+    told = record { fits = fits_behind; one = one }
+
+  pub failed_told : ToldOver at turned bytes old new
+  failed_told before behind fits turns = told before behind fits turns

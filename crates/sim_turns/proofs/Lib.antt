@@ -1,0 +1,11 @@
+-- Entered: an entry that a script asks for, as an event. Noted: what a note leaves. Pending: where a message waits. Obeyed: turns are an order's part.
+-- Counted: how many sessions are open. Rested: what a turn leaves to do. Called: a turn is an event. Dealt, Failing: what a turn brings about at once.
+pub mod Called
+pub mod Counted
+pub mod Dealt
+pub mod Entered
+pub mod Failing
+pub mod Noted
+pub mod Obeyed
+pub mod Pending
+pub mod Rested

@@ -1,0 +1,120 @@
+-- A message waits in a device of the bench just where its channel tells so.
+use Rattle.std.proofs.Common.{◌≡◌, ℕ, zero, suc, ◌+◌, ◌<◌, true, false, List, [], ◌∷◌, length, refl, sym, ap, ◌∙◌, subst, arith}
+use Rattle.std.specs.Prelude.{nat_lt, Some}
+use Rattle.std.specs.List.{slice_get}
+use Rattle.std.proofs.lemmas.Bool.{and_from, and_parts}
+use Rattle.std.proofs.lemmas.Bool.Decides.{nat_tests}
+use Rattle.std.proofs.lemmas.Option.{same_Some, slice_get_within}
+use Rattle.of10_codec.specs.declared.message.Message.{Message}
+use Rattle.device_port.specs.Devices.{Meaning}
+use Rattle.sim_steps.specs.Benches.{Slot, is_plugged}
+use Rattle.sim_steps.specs.Parts.{HasPending, IsExhausted}
+use Rattle.sim_channels.specs.Channels.{Fits, bench, is_plugged_in, slot_by, slots_of}
+use Rattle.sim_channels.specs.declared.channel.Channel.{Channel}
+use Rattle.sim_channels.specs.declared.channel.Stage.{Stage}
+use Rattle.sim_channels.specs.declared.channel.Stage.TheVariants.{Unplugged, Plugged, Left}
+use Rattle.sim_channels.specs.declared.driver.Driver.{Driver}
+use Rattle.sim_channels.proofs.Slots.{slot_next, slots_found, slots_get}
+use Rattle.sim_turns.specs.Taking.{NoneBefore, waits_in}
+use Rattle.sim_turns.specs.Turning.{Waits}
+
+-- ---- the test
+
+pub plugged_in : (stage : Stage) → is_plugged_in stage ≡ true → stage ≡ Plugged
+plugged_in Plugged e = refl
+plugged_in Unplugged e = absurd (cc)
+plugged_in Left e = absurd (cc)
+
+positive : (n : ℕ) → nat_lt 0 n ≡ true → 0 < n
+positive n e = grind (arith, nat_tests)
+
+is_positive : (n : ℕ) → 0 < n → nat_lt 0 n ≡ true
+is_positive n h = grind (arith, nat_tests)
+
+pub waits_there : (driver : Driver) (at : ℕ) (k : Channel) → slice_get driver.channels.items at ≡ Some k → waits_in k ≡ true → Waits at driver
+waits_there driver at k e waits = record {
+  channel = k;
+  there = e;
+  plugged = plugged_in k.stage (and_parts (is_plugged_in k.stage) (nat_lt 0 k.waiting) waits).0;
+  some = positive k.waiting (and_parts (is_plugged_in k.stage) (nat_lt 0 k.waiting) waits).1;
+}
+
+waits_now : (driver : Driver) (at : ℕ) (k : Channel) → slice_get driver.channels.items at ≡ Some k → Waits at driver → waits_in k ≡ true
+waits_now driver at k e h =
+    let same : h.channel ≡ k = same_Some h.channel k (sym h.there ∙ e) in
+    let one : waits_in h.channel ≡ true = and_from (is_plugged_in h.channel.stage) (nat_lt 0 h.channel.waiting) (ap is_plugged_in h.plugged) (is_positive h.channel.waiting h.some) in
+    ap waits_in (sym same) ∙ one
+
+pub waits_not : (driver : Driver) (at : ℕ) (k : Channel) → slice_get driver.channels.items at ≡ Some k → waits_in k ≡ false → Waits at driver → ⊥
+waits_not driver at k e not h = let f : true ≡ false = sym (waits_now driver at k e h) ∙ not in cc
+
+pub waits_within : (driver : Driver) (at : ℕ) → Waits at driver → at < length driver.channels.items
+waits_within driver at h = slice_get_within driver.channels.items at h.channel h.there
+
+-- ---- the bench
+
+pub there_is : {X : Type 0} (xs : List X) (i : ℕ) → i < length xs → (x : X) × (slice_get xs i ≡ Some x)
+there_is [] i h = absurd (omega arith)
+there_is (x ∷ xs) zero h = (x, refl)
+there_is (x ∷ xs) (suc i) h = there_is xs i (omega arith)
+
+some_there : (xs : List Message) → 0 < length xs → xs ≡ [] → ⊥
+some_there xs h e = let f : length xs ≡ 0 = ap length e in omega arith
+
+some_waits : (xs : List Message) → (xs ≡ [] → ⊥) → 0 < length xs
+some_waits [] h = absurd (h refl)
+some_waits (x ∷ xs) h = omega arith
+
+-- the device at a place, by the index of its channel
+pub record WaitsAt (c : ℕ) (driver : Driver) : Type 0 where
+  pub at : ℕ
+  pub place : c ≡ at + 1
+  pub waits : Waits at driver
+
+module _ (driver : Driver) (devices : List Meaning) (fits : Fits driver devices) where
+  pub pends : (at : ℕ) → Waits at driver → HasPending (at + 1) (bench driver devices)
+  pends at h =
+      let within : at < length driver.channels.items = waits_within driver at h in
+      let d = there_is devices at (omega (arith, fits.places)) in
+      let counted : h.channel.waiting ≡ length d.0.pending = fits.waiting at h.channel d.0 h.there d.1 in
+      record {
+        slot = slot_by h.channel d.0;
+        is = record {
+          plugged = (fits.kept.stages at h.channel h.there).plugged ∙ ap is_plugged_in h.plugged;
+          there = slot_next at (slots_of driver.channels.items devices) ∙ slots_get driver.channels.items devices at h.channel d.0 h.there d.1;
+        };
+        some = some_there d.0.pending (subst (λ n. 0 < n) counted h.some);
+      }
+
+  pub waits_by : (c : ℕ) → HasPending c (bench driver devices) → WaitsAt c driver
+  waits_by c h =
+      let f = slots_found driver.channels.items devices c h.slot h.is.there in
+      let staged : is_plugged (f.at + 1) driver.core ≡ is_plugged_in f.channel.stage = (fits.kept.stages f.at f.channel f.there).plugged in
+      let pending : f.device.pending ≡ [] → ⊥ = λ e. h.some (ap (λ (s : Slot). s.device.pending) f.is ∙ e) in
+      let counted : f.channel.waiting ≡ length f.device.pending = fits.waiting f.at f.channel f.device f.there f.behind in
+      record {
+        at = f.at;
+        place = f.place;
+        waits = record {
+          channel = f.channel;
+          there = f.there;
+          plugged = plugged_in f.channel.stage (sym staged ∙ ap (λ n. is_plugged n driver.core) (sym f.place) ∙ h.is.plugged);
+          some = subst (λ n. 0 < n) (sym counted) (some_waits f.device.pending pending);
+        };
+      }
+
+  pub none_pends : ((at : ℕ) → Waits at driver → ⊥) → (c : ℕ) → HasPending c (bench driver devices) → ⊥
+  none_pends none_waits c h = let w = waits_by c h in none_waits w.at w.waits
+
+  pub none_lower : (at : ℕ) → NoneBefore at driver → (c : ℕ) → c < at + 1 → HasPending c (bench driver devices) → ⊥
+  none_lower at lower c below h = let w = waits_by c h in lower w.at (omega (arith, w.place)) w.waits
+
+  pub exhausted : (at : ℕ) → (Waits at driver → ⊥) → IsExhausted (at + 1) (bench driver devices)
+  exhausted at not s is = go s.device.pending refl
+    where
+      go : (xs : List Message) → s.device.pending ≡ xs → s.device.pending ≡ []
+      go [] e = e
+      go (x ∷ xs) e =
+          let w = waits_by (at + 1) (record { slot = s; is = is; some = λ f. (let g : x ∷ xs ≡ [] = sym e ∙ f in cc) }) in
+          let same : w.at ≡ at = omega (arith, w.place) in
+          absurd (not (subst (λ n. Waits n driver) same w.waits))

@@ -1,0 +1,118 @@
+-- Words for private contracts: a message waits, a turn of a device among the others, some turns one after the other.
+use Rattle.std.specs.Prelude.{◌≡◌, ◌≢◌, ℕ, ◌+◌, ◌<◌, Bool, false, nat_lt, ◌&&◌, if◌then◌else◌, List, [], ◌∷◌, ◌++◌, set, Some}
+use Rattle.std.specs.List.{slice_get, AllByRecursion}
+use Rattle.maple_base.specs.declared.device.Turned.{Turned}
+use Rattle.maple_base.specs.declared.device.Turned.TheVariants.{Processed, Refused as RefusedChange, Failed as FailedTurn, NoMemory as NoMemoryTurn}
+use Rattle.of10_stream.specs.Steps.{fed}
+use Rattle.device_port.specs.Devices.{Meaning, Turns}
+use Rattle.machine_steps.specs.declared.entry.Entry.TheVariants as entries
+use Rattle.machine_steps.specs.declared.note.Note.TheVariants as notes
+use Rattle.machine_steps.specs.declared.reply.Reply.{Reply}
+use Rattle.machine_steps.specs.Steps.{Steps}
+use Rattle.world_steps.specs.Worlds.{lacks_memory}
+use Rattle.sim_steps.specs.Benches.{Bench}
+use Rattle.sim_steps.specs.Deeds.{Event}
+use Rattle.sim_steps.specs.Parts.{IsTurnAt, has_dealt, turns_taken}
+use Rattle.sim_stretches.specs.Stretches.{Stretch}
+use Rattle.sim_channels.specs.Channels.{Fits, bench, is_plugged_in}
+use Rattle.sim_channels.specs.declared.channel.Channel.{Channel}
+use Rattle.sim_channels.specs.declared.driver.Driver.{Driver}
+use Rattle.sim_turns.specs.Turning.{TakesOne, Waits}
+
+-- ---- which devices have a message to deal with
+
+abbrev pub waits_in : Channel → Bool
+waits_in k = is_plugged_in k.stage && nat_lt 0 k.waiting
+
+-- no message waits in any device ahead of the one with this index
+abbrev pub NoneBefore : ℕ → Driver → Type 0
+NoneBefore at driver = (i : ℕ) → i < at → Waits i driver → ⊥
+
+-- this is the first device in which a message waits
+pub record IsLowest (at : ℕ) (driver : Driver) : Type 0 where
+  pub waits : Waits at driver
+  pub lowest : NoneBefore at driver
+
+-- how many sessions are open
+abbrev pub plugged_count : List Channel → ℕ
+plugged_count [] = 0
+plugged_count (k ∷ ks) = (if is_plugged_in k.stage then 1 else 0) + plugged_count ks
+
+-- no session was opened, and one ended behind a turn in which no message was dealt with
+abbrev pub Tires : Turned → Driver → Driver → Type 0
+Tires turned old new = plugged_count new.channels.items < plugged_count old.channels.items + has_dealt turned
+
+-- ---- one turn
+
+-- the device with this index takes a turn, and the others stay
+pub record TurnsAt (at : ℕ) (turned : Turned) (bytes : List ℕ) (old new : List Meaning) : Type 0 where
+  pub before : Meaning
+  pub behind : Meaning
+  pub there : slice_get old at ≡ Some before
+  pub set_is : new ≡ set old at behind
+  pub turns : Turns turned bytes before behind
+
+-- so it does, and appends to these bytes; memory doesn't run out
+pub record TakesTurnAt (at : ℕ) (turned : Turned) (before : List Meaning) (ahead : List ℕ) (behind : List Meaning) (all : List ℕ) : Type 0 where
+  pub bytes : List ℕ
+  pub appended : all ≡ ahead ++ bytes
+  pub turns : TurnsAt at turned bytes before behind
+  pub memory : turned ≢ NoMemoryTurn
+
+-- a turn in which a message was dealt with, or the device failed
+abbrev pub IsTaken : Turned → Type 0
+IsTaken (Processed xid) = Unit {0}
+IsTaken (RefusedChange xid) = Unit {0}
+IsTaken FailedTurn = Unit {0}
+IsTaken turned = ⊥
+
+-- the machine is told of the turn of the device with this index
+pub record NotesTurn (at : ℕ) (turned : Turned) (old new : Driver) : Type 0 where
+  pub reply : Reply
+  pub memory : lacks_memory reply ≡ false
+  pub same : new ≡ record old { core = new.core }
+  pub steps : Steps old.core (entries.Note (notes.Turned (at + 1) turned)) reply new.core
+
+-- the channel with this index changes so, and the others stay
+pub record ChannelMoves (at : ℕ) (Moves : Channel → Channel → Type 0) (old new : Driver) : Type 0 where
+  pub before : Channel
+  pub behind : Channel
+  pub there : slice_get old.channels.items at ≡ Some before
+  pub set_is : new.channels.items ≡ set old.channels.items at behind
+  pub moves : Moves before behind
+  pub learning : new.learning ≡ old.learning
+  pub budget : new.budget ≡ old.budget
+
+-- these bytes came from the device, and one message less waits in it
+pub record Appends (bytes : List ℕ) (k l : Channel) : Type 0 where
+  pub stage : l.stage ≡ k.stage
+  pub to : l.to ≡ k.to
+  pub from : l.from.stream ≡ fed bytes k.from.stream
+  pub waiting : k.waiting ≡ l.waiting + 1
+
+-- the device with this index takes a turn, and what that brings about is done
+abbrev pub TakesOneBy : ℕ → Turned → Driver → List Meaning → Driver → List Meaning → Type 0
+TakesOneBy at turned old before new behind = TakesOne (at + 1) turned (bench old before) (bench new behind)
+
+-- what a turn of a device brings about at once
+pub record IsTold (at : ℕ) (turned : Turned) (old new : Driver) (before behind : List Meaning) : Type 0 where
+  pub fits : Fits new behind
+  pub one : TakesOneBy at turned old before new behind
+
+-- so it is, whatever the devices are
+abbrev pub ToldOver : ℕ → Turned → List ℕ → Driver → Driver → Type 0
+ToldOver at turned bytes old new =
+    (before behind : List Meaning) → Fits old before → TurnsAt at turned bytes before behind → IsTold at turned old new before behind
+
+-- ---- several turns
+
+-- turns of devices, of each of which P holds; in so many of them a message was dealt with
+pub record TakesSome (P : Event → Type 0) (taken : ℕ) (a b : Bench) : Type 0 where
+  pub turns : List Event
+  pub stretch : Stretch turns [] a b
+  pub all : AllByRecursion P turns
+  pub count : turns_taken turns ≡ taken
+
+-- so many turns of the device with this index
+abbrev pub TakesTurnsBy : ℕ → ℕ → Driver → List Meaning → Driver → List Meaning → Type 0
+TakesTurnsBy at taken old before new behind = TakesSome (IsTurnAt (at + 1)) taken (bench old before) (bench new behind)

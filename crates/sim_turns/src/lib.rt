@@ -1,0 +1,12 @@
+//! Turns of devices, and entries of the machine that a script asks for.
+#![tactic(auto)]
+
+mod asking;
+mod settling;
+mod telling;
+mod turning;
+mod waiting;
+
+pub use asking::{ask, note};
+pub use settling::settle;
+pub use turning::turn;

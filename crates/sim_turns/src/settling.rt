@@ -1,0 +1,40 @@
+// Devices take turns till no message waits.
+ghost use Rattle.std.specs.Prelude.{◌≡◌, map, OnOk};
+ghost use Rattle.script_orders.specs.Orders.Order.{Settle};
+ghost use Rattle.sim_stretches.specs.Stretches.{Obeyed};
+ghost use Rattle.sim_channels.specs.Channels.{Fits, bench};
+ghost use Rattle.sim_channels.specs.Waiting.{IsAtRest};
+
+use crate::asking::note;
+use crate::turning::{dealt, take_turn};
+use crate::waiting::lowest_waiting;
+use core_machine::Note;
+use device_port::Device;
+use maple_base::NoMemory;
+use sim_channels::Driver;
+
+/// The most turns of one call.
+const MOST_TURNS: u32 = 100_000;
+
+/// The device at the lowest place where a message waits takes a turn, till none waits, or the turns
+/// are used up.
+///
+/// # Errors
+///
+/// `NoMemory`.
+pub fn settle<D: Device>(driver: &mut Driver, devices: &mut [D]) -> Result<(), NoMemory>
+    requires fits { Fits driver.old (map D.meaning devices.old) }
+    requires rest { IsAtRest driver.old }
+    ensures fits { OnOk result (Fits driver.new (map D.meaning devices.new)) }
+    ensures rest { OnOk result (IsAtRest driver.new) }
+    ensures obeyed { OnOk result (Obeyed Settle (bench driver.old (map D.meaning devices.old)) (bench driver.new (map D.meaning devices.new))) }
+{
+    let mut taken = 0;
+    while let Some(at) = lowest_waiting(driver) {
+        if taken == MOST_TURNS {
+            return note(driver, Note::Unsettled(taken));
+        }
+        taken += dealt(take_turn(driver, devices, at)?);
+    }
+    note(driver, Note::Settled(taken))
+}

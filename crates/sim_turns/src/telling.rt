@@ -1,0 +1,73 @@
+// What a turn of a device did is told.
+ghost use Rattle.std.specs.Prelude.{◌≡◌, ◌+◌, ◌^◌, ◌<◌, OnOk};
+ghost use Rattle.sim_channels.specs.Channels.{IsKept};
+ghost use Rattle.sim_channels.specs.Waiting.{IsAtRest, IsAtRestBut};
+ghost use Rattle.sim_turns.specs.Taking.{Appends, ChannelMoves, IsTaken, NotesTurn, Tires, ToldOver};
+ghost use Rattle.sim_turns.specs.Turning.{Waits};
+
+use crate::asking::ask;
+use core_machine::{Entry, Note};
+use maple_base::{NoMemory, Turned};
+use sim_channels::{Driver, connection_of, driving_laws};
+
+/// The machine is told what a turn of the device with this index did, and what it appended comes
+/// behind what it appended before. Where it failed it is left.
+///
+/// # Errors
+///
+/// `NoMemory`.
+pub(crate) fn tell_turn(
+    driver: &mut Driver,
+    at: usize,
+    turned: Turned,
+    bytes: &[u8],
+) -> Result<(), NoMemory>
+    requires kept { IsKept driver.old }
+    requires rest { IsAtRest driver.old }
+    requires waits { Waits at driver.old }
+    requires taken { IsTaken turned }
+    ensures rest { OnOk result (IsAtRestBut at driver.new) }
+    ensures told { OnOk result (ToldOver at turned bytes.now driver.old driver.new) }
+    ensures tires { OnOk result (Tires turned driver.old driver.new) }
+{
+    driving_laws();
+    tell(driver, at, turned)?;
+    match turned {
+        Turned::Failed => {
+            driver.leave(at);
+            Ok(())
+        }
+        _ => append(driver, at, bytes),
+    }
+}
+
+/// The machine is told what a turn of the device with this index did.
+///
+/// # Errors
+///
+/// `NoMemory`.
+fn tell(driver: &mut Driver, at: usize, turned: Turned) -> Result<(), NoMemory>
+    requires rest { IsAtRest driver.old }
+    requires number { at + 1 < 2 ^ 32 }
+    ensures { OnOk result (NotesTurn at turned driver.old driver.new) }
+{
+    let device = connection_of(at);
+    ask(driver, Entry::Note(Note::Turned { device, turned }))?;
+    Ok(())
+}
+
+/// One message less waits in the device, which appended these bytes.
+///
+/// # Errors
+///
+/// `NoMemory`.
+fn append(driver: &mut Driver, at: usize, bytes: &[u8]) -> Result<(), NoMemory>
+    requires { Waits at driver.old }
+    ensures core { driver.new.core ≡ driver.old.core }
+    ensures moves { OnOk result (ChannelMoves at (Appends bytes.now) driver.old driver.new) }
+{
+    let channel = &mut driver.channels[at];
+    channel.from.feed(bytes)?;
+    channel.waiting -= 1;
+    Ok(())
+}
