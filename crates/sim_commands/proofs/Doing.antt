@@ -1,0 +1,98 @@
+-- What is done of an order, and what that brings about, is the order's part.
+use Rattle.std.proofs.Common.{◌≡◌, ℕ, ◌+◌, ◌<◌, true, false, List, length, map, get_or, refl, sym, ap, ◌∙◌, subst, arith}
+use Rattle.std.specs.Prelude.{Some, Result, Ok, Err, OnOk}
+use Rattle.std.proofs.lemmas.List.{length-map}
+use Rattle.std.proofs.lemmas.Option.{slice_get-get_or}
+use Rattle.device_port.specs.Devices.{Meaning}
+use Rattle.machine_steps.specs.declared.entry.Entry.{Entry}
+use Rattle.machine_steps.specs.declared.entry.Entry.TheVariants as entries
+use Rattle.machine_steps.specs.declared.note.Note.{Note}
+use Rattle.machine_steps.specs.declared.note.Note.TheVariants as notes
+use Rattle.machine_steps.specs.declared.reply.Reply.TheVariants.{Done}
+use Rattle.machine_steps.specs.Machine.{State, was_opened}
+use Rattle.script_orders.specs.Orders.{Order}
+use Rattle.script_orders.specs.Steps.{IsAmong}
+use Rattle.sim_steps.specs.Benches.{is_plugged}
+use Rattle.sim_steps.specs.Deeds.{Event, MayNote}
+use Rattle.sim_steps.specs.Parts.{IfPlugged, JustEnters, JustNotes, Obeys, PlugsBy}
+use Rattle.sim_stretches.specs.Stretches.{Carried, Obeyed}
+use Rattle.sim_channels.specs.declared.channel.Channel.{Channel}
+use Rattle.sim_channels.specs.declared.channel.Stage.{Stage}
+use Rattle.sim_channels.specs.declared.channel.Stage.TheVariants.{Plugged}
+use Rattle.sim_channels.specs.declared.driver.Driver.{Driver}
+use Rattle.sim_channels.specs.Channels.{Fits, IsKept, IsStaged, bench, is_plugged_in}
+use Rattle.sim_channels.specs.Waiting.{IsAtRest, StaysBut}
+use Rattle.sim_turns.specs.Turning.{AskedOver, FitsStill}
+use Rattle.sim_commands.specs.Commands.{AsksFor}
+use Rattle.sim_commands.proofs.Asking.{obeyed_alone, obeyed_then}
+use Rattle.sim_channels.proofs.Resting.{rest_is_still}
+
+-- ---- by a result
+
+pub on_ok : {T E P : Type 0} (r : Result T E) → ((x : T) → r ≡ Ok x → P) → OnOk r P
+on_ok (Ok x) f = f x refl
+on_ok (Err e) f = tt
+
+pub of_ok : {T E : Type 0} (P : Type 0) (r : Result T E) (x : T) → r ≡ Ok x → OnOk r P → P
+of_ok P r x e h = subst (λ s. OnOk s P) e h
+
+-- ---- places
+
+pub staged_there : (d : Driver) (c at : ℕ) (k : Channel) → IsKept d → IsAmong (length d.channels.items) c → c ≡ at + 1 → k ≡ get_or d.channels.items at k → IsStaged c d.core k.stage
+staged_there d c at k kept among place is =
+    let within : at < length d.channels.items = (let few = among.1 in omega arith) in
+    subst (λ n. IsStaged n d.core k.stage) (sym place) (kept.stages at k (slice_get-get_or d.channels.items at k within ∙ ap Some (sym is)))
+
+pub staged_at : {B : Type 0} (f : B → Meaning) (d : Driver) (devices : List B) (c at : ℕ) (k : Channel) → Fits d (map f devices) → IsAmong (length devices) c → c ≡ at + 1
+    → k ≡ get_or d.channels.items at k → IsStaged c d.core k.stage
+staged_at f d devices c at k fits among place is = staged_there d c at k fits.kept (among.0, (let few = among.1 in let same = fits.places ∙ length-map devices f in omega arith)) place is
+
+pub others_closed : (stage : Stage) → (stage ≡ Plugged → ⊥) → is_plugged_in stage ≡ false
+others_closed Plugged other = absurd (other refl)
+others_closed stage other = refl
+
+pub stays_then : (here : ℕ) (a b c : Driver) → StaysBut here a b → StaysBut here b c → StaysBut here a c
+stays_then here a b c h k = record {
+  sessions = λ n other. k.sessions n other ∙ h.sessions n other;
+  channels = λ i other. k.channels i other ∙ h.channels i other;
+}
+
+-- ---- which entry an order asks for
+
+module _ (c : ℕ) (m : State) where
+  pub plugs_present : is_plugged c m ≡ true → (es : List Event) → JustNotes (notes.Present c) es → PlugsBy (is_plugged c m) (was_opened c m) c es
+  plugs_present e es h = subst (λ b. PlugsBy b (was_opened c m) c es) (sym e) h
+
+  pub plugs_gone : is_plugged c m ≡ false → was_opened c m ≡ true → (es : List Event) → JustNotes (notes.GoneAlready c) es → PlugsBy (is_plugged c m) (was_opened c m) c es
+  plugs_gone e f es h = subst (λ b. PlugsBy b (was_opened c m) c es) (sym e) (subst (λ b. PlugsBy false b c es) (sym f) h)
+
+  pub plugs_now : is_plugged c m ≡ false → was_opened c m ≡ false → (es : List Event) → JustEnters (entries.Open c) es → PlugsBy (is_plugged c m) (was_opened c m) c es
+  plugs_now e f es h = subst (λ b. PlugsBy b (was_opened c m) c es) (sym e) (subst (λ b. PlugsBy false b c es) (sym f) h)
+
+  pub if_absent : (F : Type 0) → is_plugged c m ≡ false → (es : List Event) → JustNotes (notes.Absent c) es → IfPlugged (is_plugged c m) c es F
+  if_absent F e es h = subst (λ b. IfPlugged b c es F) (sym e) h
+
+  pub if_plugged : (es : List Event) (F : Type 0) → is_plugged c m ≡ true → F → IfPlugged (is_plugged c m) c es F
+  if_plugged es F e h = subst (λ b. IfPlugged b c es F) (sym e) h
+
+-- ---- orders
+
+-- something else than the order was told
+pub obeyed_noted : (o : Order) (note : Note) (d e : Driver) (devices : List Meaning) → ((es : List Event) → JustNotes note es → Obeys o (bench d devices) es) → MayNote note
+    → Fits d devices → AskedOver (entries.Note note) Done d e → FitsStill d e → IsAtRest e → Obeyed o (bench d devices) (bench e devices)
+obeyed_noted o note d e devices obeys may fits asked still rest =
+    obeyed_alone o (entries.Note note) Done (bench d devices) (bench e devices) (asked devices fits may) obeys (rest_is_still e devices (still devices fits) rest)
+
+-- its entry was asked for, and nothing else was left to do
+pub obeyed_asked : (o : Order) (entry : Entry) (d e : Driver) (devices : List Meaning) → ((es : List Event) → JustEnters entry es → Obeys o (bench d devices) es)
+    → Fits d devices → AsksFor entry d e → Fits e devices → IsAtRest e → Obeyed o (bench d devices) (bench e devices)
+obeyed_asked o entry d e devices obeys fits asked also rest =
+    let is = asked devices fits in
+    obeyed_alone o entry is.0 (bench d devices) (bench e devices) is.1 obeys (rest_is_still e devices also rest)
+
+-- or what it brought about was done then
+pub obeyed_done : (o : Order) (entry : Entry) (d m : Driver) (before : List Meaning) (e : Driver) (after : List Meaning) → ((es : List Event) → JustEnters entry es → Obeys o (bench d before) es)
+    → Fits d before → AsksFor entry d m → Carried (bench m before) (bench e after) → Fits e after → IsAtRest e → Obeyed o (bench d before) (bench e after)
+obeyed_done o entry d m before e after obeys fits asked carried also rest =
+    let is = asked before fits in
+    obeyed_then o entry is.0 (bench d before) (bench m before) is.1 obeys (bench e after) carried (rest_is_still e after also rest)

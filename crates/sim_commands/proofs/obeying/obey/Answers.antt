@@ -1,0 +1,15 @@
+use Rattle.std.proofs.Common.{[], map, refl, sym, subst}
+use Rattle.script_orders.specs.Orders.Order.{Nothing}
+use Rattle.script_orders.specs.Steps.{order_with}
+use Rattle.sim_stretches.specs.Stretches.{Obeyed}
+use Rattle.sim_stretches.proofs.Joining.{obeyed, stretch_empty}
+use Rattle.sim_channels.specs.Channels.{bench}
+use Rattle.sim_channels.proofs.Resting.{rest_is_still}
+use Rattle.sim_commands.proofs.obeying.obey.Goals as goal
+
+pub returns-in-Nothing-clause-obeyed : goal.returns-in-Nothing-clause-obeyed
+returns-in-Nothing-clause-obeyed g c =
+    let d = c.args.driver.now in
+    let devices = map g.D.Device.meaning c.args.devices.now in
+    subst (λ step. Obeyed (order_with step c.args.text.now) (bench d devices) (bench d devices)) (sym c.in-Nothing.is)
+    (obeyed Nothing [] _ _ (stretch_empty _) refl (rest_is_still d devices c.requires.fits c.requires.rest))

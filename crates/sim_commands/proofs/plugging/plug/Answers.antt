@@ -1,0 +1,59 @@
+use Rattle.std.proofs.Common.{ap, ◌∙◌}
+use Rattle.script_orders.specs.Orders.Order.{Plug}
+use Rattle.machine_steps.specs.declared.entry.Entry.TheVariants as entries
+use Rattle.machine_steps.specs.declared.note.Note.TheVariants as notes
+use Rattle.sim_channels.specs.Channels.{is_plugged_in, was_plugged_in}
+use Rattle.sim_commands.proofs.Doing.{obeyed_done, obeyed_noted, of_ok, on_ok, plugs_gone, plugs_now, plugs_present, staged_at, stays_then}
+use Rattle.sim_commands.proofs.Places.{fits_but, rest_but}
+use Rattle.sim_commands.proofs.plugging.plug.Goals as goal
+
+pub deliver-requires-clause-fits : goal.deliver-requires-clause-fits
+deliver-requires-clause-fits g c =
+    let changes = c.in_ok-open-in-Unplugged.ensures.changes in
+    fits_but c.args.driver.now c.open.new.driver c.index_of-at.result _ changes.kept changes.channels c.requires.fits
+
+pub returns-in-Plugged-clause-obeyed : goal.returns-in-Plugged-clause-obeyed
+returns-in-Plugged-clause-obeyed g c =
+    let d = c.args.driver.now in
+    let h = c.requires in
+    let place = c.args.place in
+    let staged = staged_at g.D.Device.meaning d c.args.devices.now place c.index_of-at.result c.index.result.now h.fits h.among c.index_of-at.ensures c.index.ensures in
+    on_ok c.note.result (λ u e.
+    obeyed_noted (Plug place) (notes.Present place) d c.note.new.driver _ (plugs_present place d.core (staged.plugged ∙ ap is_plugged_in c.in-Plugged.is)) tt h.fits
+    (of_ok _ c.note.result u e c.note.ensures.asked) (of_ok _ c.note.result u e c.note.ensures.fits) (of_ok _ c.note.result u e c.note.ensures.rest))
+
+pub returns-in-Left-clause-obeyed : goal.returns-in-Left-clause-obeyed
+returns-in-Left-clause-obeyed g c =
+    let d = c.args.driver.now in
+    let h = c.requires in
+    let place = c.args.place in
+    let staged = staged_at g.D.Device.meaning d c.args.devices.now place c.index_of-at.result c.index.result.now h.fits h.among c.index_of-at.ensures c.index.ensures in
+    let r = c.note-in-Left.result in
+    on_ok r (λ u e.
+    obeyed_noted (Plug place) (notes.GoneAlready place) d c.note-in-Left.new.driver _
+    (plugs_gone place d.core (staged.plugged ∙ ap is_plugged_in c.in-Left.is) (staged.opened ∙ ap was_plugged_in c.in-Left.is)) tt h.fits
+    (of_ok _ r u e c.note-in-Left.ensures.asked) (of_ok _ r u e c.note-in-Left.ensures.fits) (of_ok _ r u e c.note-in-Left.ensures.rest))
+
+pub returns-in_ok-open-in-Unplugged-clause-rest : goal.returns-in_ok-open-in-Unplugged-clause-rest
+returns-in_ok-open-in-Unplugged-clause-rest g c =
+    let r = c.deliver.result in
+    let opened = c.in_ok-open-in-Unplugged.ensures in
+    let done = c.deliver.ensures in
+    let d = c.args.driver.now in
+    on_ok r (λ u e.
+    rest_but c.driving_laws.ensures d c.deliver.new.self c.index_of-at.result c.requires.fits.kept (of_ok _ r u e done.fits).kept c.requires.rest
+    (stays_then c.index_of-at.result d c.open.new.driver c.deliver.new.self opened.changes.stays (of_ok _ r u e done.others))
+    (of_ok _ r u e done.jobs (opened.changes.jobs c.requires.rest.jobs)) (of_ok _ r u e done.taken) (of_ok _ r u e done.offered) (of_ok _ r u e done.heard opened.heard))
+
+pub returns-in_ok-open-in-Unplugged-clause-obeyed : goal.returns-in_ok-open-in-Unplugged-clause-obeyed
+returns-in_ok-open-in-Unplugged-clause-obeyed g c =
+    let r = c.deliver.result in
+    let done = c.deliver.ensures in
+    let d = c.args.driver.now in
+    let h = c.requires in
+    let place = c.args.place in
+    let staged = staged_at g.D.Device.meaning d c.args.devices.now place c.index_of-at.result c.index.result.now h.fits h.among c.index_of-at.ensures c.index.ensures in
+    on_ok r (λ u e.
+    obeyed_done (Plug place) (entries.Open place) d c.open.new.driver _ c.deliver.new.self _
+    (plugs_now place d.core (staged.plugged ∙ ap is_plugged_in c.in-Unplugged.is) (staged.opened ∙ ap was_plugged_in c.in-Unplugged.is)) h.fits
+    c.in_ok-open-in-Unplugged.ensures.asked (of_ok _ r u e done.carried) (of_ok _ r u e done.fits) (of_ok _ r u e (returns-in_ok-open-in-Unplugged-clause-rest g c)))

@@ -1,0 +1,127 @@
+// The network changes, another policy is put in force, rules are listed.
+ghost use Rattle.std.specs.Prelude.{◌≡◌, false, map, Ok, OnOk};
+ghost use Rattle.machine_steps.specs.declared.entry.Entry.TheVariants as entries;
+ghost use Rattle.machine_replies.specs.Told.{is_new_state};
+ghost use Rattle.policy_text.specs.Texts.{IsTextOf};
+ghost use Rattle.script_orders.specs.Orders.{Order};
+ghost use Rattle.script_orders.specs.Steps.{IsOfLine};
+ghost use Rattle.sim_stretches.specs.Stretches.{Obeyed};
+ghost use Rattle.sim_channels.specs.Channels.{Fits, IsKept, bench};
+ghost use Rattle.sim_channels.specs.Waiting.{IsAtRest, IsHeardThrough};
+ghost use Rattle.sim_turns.specs.Turning.{FitsStill};
+ghost use Rattle.sim_commands.specs.Commands.{AsksFor, ObeyedOver};
+
+use core_machine::{Entry, Note, Reply};
+use device_port::Device;
+use env_cells::Update;
+use maple_base::NoMemory;
+use policy_lang::Policy;
+use policy_text::{ReadError, read_policy};
+use sim_channels::{Driver, driving_laws};
+use sim_turns::{ask, note};
+
+/// What is known of the network changes, and what the machine has for devices then is given to them.
+///
+/// # Errors
+///
+/// `NoMemory`.
+pub(crate) fn change<D: Device>(
+    driver: &mut Driver,
+    devices: &mut [D],
+    update: Update,
+) -> Result<(), NoMemory>
+    requires fits { Fits driver.old (map D.meaning devices.old) }
+    requires rest { IsAtRest driver.old }
+    requires line { IsOfLine update }
+    ensures fits { OnOk result (Fits driver.new (map D.meaning devices.new)) }
+    ensures rest { OnOk result (IsAtRest driver.new) }
+    ensures obeyed { OnOk result (Obeyed (Order.Change update) (bench driver.old (map D.meaning devices.old)) (bench driver.new (map D.meaning devices.new))) }
+{
+    if update_network(driver, update)? {
+        driver.deliver_all(devices)
+    } else {
+        Ok(())
+    }
+}
+
+// Tells whether the network changed: the update may be refused.
+fn update_network(driver: &mut Driver, update: Update) -> Result<bool, NoMemory>
+    requires kept { IsKept driver.old }
+    requires rest { IsAtRest driver.old }
+    requires line { IsOfLine update }
+    ensures fits { OnOk result (FitsStill driver.old driver.new) }
+    ensures through { OnOk result (IsHeardThrough driver.new) }
+    ensures rest { result ≡ Ok false → IsAtRest driver.new }
+    ensures asked { OnOk result (AsksFor (entries.Change update) driver.old driver.new) }
+{
+    driving_laws();
+    let reply = ask(driver, Entry::Change(update))?;
+    Ok(is_new_state(&reply))
+}
+
+fn is_new_state(reply: &Reply) -> bool
+    ensures { result ≡ is_new_state reply.now }
+{
+    matches!(reply, Reply::NewState { .. })
+}
+
+/// The policy of a text is put in force, and what the machine has for devices then is given to them.
+/// Where the text is of none, that alone is told.
+///
+/// # Errors
+///
+/// `NoMemory`.
+pub(crate) fn renew<D: Device>(
+    driver: &mut Driver,
+    devices: &mut [D],
+    text: &[u8],
+) -> Result<(), NoMemory>
+    requires fits { Fits driver.old (map D.meaning devices.old) }
+    requires rest { IsAtRest driver.old }
+    ensures fits { OnOk result (Fits driver.new (map D.meaning devices.new)) }
+    ensures rest { OnOk result (IsAtRest driver.new) }
+    ensures obeyed { OnOk result (Obeyed (Order.NewPolicy text.now) (bench driver.old (map D.meaning devices.old)) (bench driver.new (map D.meaning devices.new))) }
+{
+    match read_policy(driver.alloc, text) {
+        Ok(policy) => {
+            put_in_force(driver, policy)?;
+            driver.deliver_all(devices)
+        }
+        Err(ReadError::Refused { line, column, kind }) => {
+            note(driver, Note::PolicyRefused { line, column, kind })
+        }
+        Err(ReadError::NoMemory) => Err(NoMemory),
+    }
+}
+
+// The policy is put in force.
+fn put_in_force(driver: &mut Driver, policy: Policy) -> Result<(), NoMemory>
+    requires kept { IsKept driver.old }
+    requires rest { IsAtRest driver.old }
+    ensures fits { OnOk result (FitsStill driver.old driver.new) }
+    ensures through { OnOk result (IsHeardThrough driver.new) }
+    ensures asked { OnOk result (AsksFor (entries.NewPolicy policy) driver.old driver.new) }
+{
+    driving_laws();
+    let learning = policy.learning();
+    ask(driver, Entry::NewPolicy(policy))?;
+    driver.learning = learning;
+    Ok(())
+}
+
+/// The rules of a switch are listed.
+///
+/// # Errors
+///
+/// `NoMemory`.
+pub(crate) fn list_rules(driver: &mut Driver, switch: u64) -> Result<(), NoMemory>
+    requires kept { IsKept driver.old }
+    requires rest { IsAtRest driver.old }
+    ensures fits { OnOk result (FitsStill driver.old driver.new) }
+    ensures rest { OnOk result (IsAtRest driver.new) }
+    ensures obeyed { OnOk result (ObeyedOver (Order.Rules switch) driver.old driver.new) }
+{
+    driving_laws();
+    ask(driver, Entry::ReadRules(switch))?;
+    Ok(())
+}

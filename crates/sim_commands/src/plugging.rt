@@ -1,0 +1,117 @@
+// Devices are plugged in and taken out.
+ghost use Rattle.std.specs.Prelude.{◌≡◌, ◌+◌, false, map, length, OnOk};
+ghost use Rattle.machine_steps.specs.declared.entry.Entry.TheVariants as entries;
+ghost use Rattle.machine_replies.specs.Told.{is_end};
+ghost use Rattle.script_orders.specs.Orders.{Order};
+ghost use Rattle.script_orders.specs.Steps.{IsAmong};
+ghost use Rattle.sim_stretches.specs.Stretches.{Obeyed};
+ghost use Rattle.sim_channels.specs.Channels.{Fits, IsKept, bench};
+ghost use Rattle.sim_channels.specs.Delivering.{IsPluggedIn};
+ghost use Rattle.sim_channels.specs.Waiting.{IsAtRest, IsHeard, IsOffered};
+ghost use Rattle.sim_turns.specs.Turning.{FitsStill};
+ghost use Rattle.sim_commands.specs.Commands.{AsksFor, IsChanged, IsUnplugged, ObeyedOver, stage_behind};
+
+use crate::staging::{index_of, set_stage};
+use core_machine::{Entry, Note, Reply};
+use device_port::Device;
+use maple_base::NoMemory;
+use sim_channels::{Driver, Stage, driving_laws};
+use sim_turns::{ask, note};
+
+/// A session is opened for the device at a place, and what the machine has for it then is given to it.
+/// Where one is open already, or it was left, that alone is told.
+///
+/// # Errors
+///
+/// `NoMemory`.
+pub(crate) fn plug<D: Device>(
+    driver: &mut Driver,
+    devices: &mut [D],
+    place: u32,
+) -> Result<(), NoMemory>
+    requires fits { Fits driver.old (map D.meaning devices.old) }
+    requires rest { IsAtRest driver.old }
+    requires among { IsAmong (length devices.old) place }
+    ensures fits { OnOk result (Fits driver.new (map D.meaning devices.new)) }
+    ensures rest { OnOk result (IsAtRest driver.new) }
+    ensures obeyed { OnOk result (Obeyed (Order.Plug place) (bench driver.old (map D.meaning devices.old)) (bench driver.new (map D.meaning devices.new))) }
+{
+    driving_laws();
+    let at = index_of(place);
+    match driver.channels[at].stage {
+        Stage::Plugged => note(driver, Note::Present(place)),
+        Stage::Left => note(driver, Note::GoneAlready(place)),
+        Stage::Unplugged => {
+            open(driver, at, place)?;
+            driver.deliver(devices, at)
+        }
+    }
+}
+
+/// The session of the device at a place ends. Where none is open that alone is told.
+///
+/// # Errors
+///
+/// `NoMemory`.
+pub(crate) fn unplug(driver: &mut Driver, place: u32) -> Result<(), NoMemory>
+    requires kept { IsKept driver.old }
+    requires rest { IsAtRest driver.old }
+    requires among { IsAmong (length driver.old.channels.items) place }
+    ensures fits { OnOk result (FitsStill driver.old driver.new) }
+    ensures rest { OnOk result (IsAtRest driver.new) }
+    ensures obeyed { OnOk result (ObeyedOver (Order.Unplug place) driver.old driver.new) }
+{
+    let at = index_of(place);
+    match driver.channels[at].stage {
+        Stage::Plugged => close(driver, at, place),
+        _ => note(driver, Note::Absent(place)),
+    }
+}
+
+// A session is opened for the device with this index; in vain it is left.
+fn open(driver: &mut Driver, at: usize, place: u32) -> Result<(), NoMemory>
+    requires kept { IsKept driver.old }
+    requires rest { IsAtRest driver.old }
+    requires unplugged { IsUnplugged at driver.old }
+    requires place { place ≡ at + 1 }
+    ensures changes { OnOk result (IsChanged at driver.old driver.new) }
+    ensures asked { OnOk result (AsksFor (entries.Open place) driver.old driver.new) }
+    ensures offered { OnOk result (IsOffered at driver.new) }
+    ensures heard { OnOk result (IsHeard at driver.new) }
+{
+    driving_laws();
+    let reply = ask(driver, Entry::Open(place))?;
+    set_stage(driver, at, stage_behind(&reply));
+    Ok(())
+}
+
+fn stage_behind(reply: &Reply) -> Stage
+    ensures { result ≡ stage_behind (is_end reply.now) }
+{
+    match reply {
+        Reply::Ended(_) => Stage::Left,
+        _ => Stage::Plugged,
+    }
+}
+
+// The session of the device with this index ends.
+fn close(driver: &mut Driver, at: usize, place: u32) -> Result<(), NoMemory>
+    requires kept { IsKept driver.old }
+    requires rest { IsAtRest driver.old }
+    requires plugged { IsPluggedIn at driver.old }
+    requires place { place ≡ at + 1 }
+    ensures changes { OnOk result (IsChanged at driver.old driver.new) }
+    ensures asked { OnOk result (AsksFor (entries.Gone place false) driver.old driver.new) }
+    ensures rest { OnOk result (IsAtRest driver.new) }
+{
+    driving_laws();
+    ask(
+        driver,
+        Entry::Gone {
+            connection: place,
+            fault: false,
+        },
+    )?;
+    set_stage(driver, at, Stage::Left);
+    Ok(())
+}
