@@ -1,0 +1,114 @@
+use Rattle.std.proofs.Common.{◌≡◌, ℕ, List, [], length, map, arith, refl, sym, ap, ◌∙◌, subst, rules, inl}
+use Rattle.std.specs.Prelude.{Err}
+use Rattle.std.proofs.lemmas.List.{length-map, nil_from_length}
+use Rattle.maple_base.specs.Counts.{HasRisen}
+use Rattle.script_orders.specs.Lines.{ended_lines}
+use Rattle.script_orders.specs.Orders.{orders_of, refused_from}
+use Rattle.script_orders.specs.Steps.{order_with}
+use Rattle.sim_driver.specs.Passes.{given_to}
+use Rattle.sim_driver.proofs.Going.{Known, broken_off, cut_off, first_refused, followed, none_refused, unwritten, went_further, went_none}
+use Rattle.sim_driver.proofs.drive.run_lines.Goals as goal
+
+pub overflow_cast-places : goal.overflow_cast-places
+overflow_cast-places g c =
+    let fits = c.requires.opened.ready.fits in omega (arith, fits.kept.numbers, fits.places, length-map c.args.devices.now g.D.Device.meaning)
+
+pub loop-rest-init : goal.loop-rest-init
+loop-rest-init g c =
+    let devices = map g.D.Device.meaning c.args.devices.now in
+    let given = given_to c.args.driver.now devices c.args.script.now c.args.first in
+    let known : Known given = record {
+      history = c.agreeing_laws.ensures.history;
+      told = c.agreeing_laws.ensures.report;
+      agree = c.agreeing_laws.ensures.agree;
+      world = c.world_law.ensures;
+      ranges = c.requires.opened.ranges;
+      idle = c.requires.opened.idle;
+    } in
+    record {
+      ready = c.requires.opened.ready;
+      went =
+          went_none given (length c.args.devices.now) (g.O.Sink.tells c.args.out.now) c.args.driver.now devices known (length-map c.args.devices.now g.D.Device.meaning) c.requires.opened.opening;
+      spared = refl;
+      numbers = omega arith;
+    }
+
+pub follow-requires-clause-step : goal.follow-requires-clause-step
+follow-requires-clause-step g c = rw (← c.loop-rest.auto.devices) at c.in-Ok.ensures.kept
+
+pub overflow_cast-line : goal.overflow_cast-line
+overflow_cast-line g c = omega (arith, c.requires.numbers, c.loop-rest.invariant.numbers, c.in-Ok.ensures.within)
+
+pub overflow_add-line : goal.overflow_add-line
+overflow_add-line g c = omega (arith, c.requires.numbers, c.loop-rest.invariant.numbers, c.in-Ok.ensures.within)
+
+pub loop-rest-preserved : goal.loop-rest-preserved
+loop-rest-preserved g c = record {
+  ready = c.in-Ok-follow.ensures.ready;
+  went =
+      went_further (g.O.Sink.tells c.follow.new.out) c.follow.new.driver (map g.D.Device.meaning c.follow.new.devices) (order_with c.in-Ok.next.step c.in-Ok.next.text.now) c.in-Ok.next.passed
+      (ended_lines c.in-Ok.next.rest.now) c.loop-rest.invariant.went c.in-Ok.ensures.order c.in-Ok-follow.ensures.follows c.in-Ok-follow.ensures.ready.none_waits;
+  spared = c.in-Ok-follow.ensures.spared (λ e. cc) ∙ c.loop-rest.invariant.spared;
+  numbers = omega (arith, c.loop-rest.invariant.numbers, c.in-Ok.ensures.within);
+}
+
+pub returns-in-Err-End-clause-ends : goal.returns-in-Err-End-clause-ends
+returns-in-Err-End-clause-ends g c =
+    let stop = rw c.in-Err-End.field-0-is at c.in-Err-End.ensures.stop in
+    followed c.loop-rest.invariant.went stop.orders c.loop-rest.invariant.ready.fits
+
+pub returns-in-Err-End-clause-done : goal.returns-in-Err-End-clause-done
+returns-in-Err-End-clause-done g c =
+    λ e. none_refused c.loop-rest.invariant.went ((rw c.in-Err-End.field-0-is at c.in-Err-End.ensures.stop).refused_is c.loop-rest.line)
+
+pub returns-in-Err-End-clause-spared : goal.returns-in-Err-End-clause-spared
+returns-in-Err-End-clause-spared g c = λ n. c.loop-rest.invariant.spared
+
+pub returns-in-Err-Refused-clause-ends : goal.returns-in-Err-Refused-clause-ends
+returns-in-Err-Refused-clause-ends g c =
+    let stop = rw c.in-Err-Refused.field-0-is at c.in-Err-Refused.ensures.stop in
+    followed c.loop-rest.invariant.went stop.orders c.loop-rest.invariant.ready.fits
+
+pub returns-in-Err-Refused-clause-script : goal.returns-in-Err-Refused-clause-script
+returns-in-Err-Refused-clause-script g c =
+    let told = first_refused c.loop-rest.invariant.went (rw c.in-Err-Refused.field-0-is at c.in-Err-Refused.ensures.stop) in λ line kind e. cc (told, c.in-Err-Refused.kind-is)
+
+pub returns-in-Err-Refused-clause-spared : goal.returns-in-Err-Refused-clause-spared
+returns-in-Err-Refused-clause-spared g c = λ n. c.loop-rest.invariant.spared
+
+pub returns-in-Err-NoMemory-clause-ends : goal.returns-in-Err-NoMemory-clause-ends
+returns-in-Err-NoMemory-clause-ends g c =
+    inl (broken_off c.loop-rest.invariant.went)
+
+pub returns-in-Err-NoMemory-clause-spared : goal.returns-in-Err-NoMemory-clause-spared
+returns-in-Err-NoMemory-clause-spared g c = λ n. c.loop-rest.invariant.spared
+
+pub returns-in-Err-Failed-clause-ends : goal.returns-in-Err-Failed-clause-ends
+returns-in-Err-Failed-clause-ends g c =
+    unwritten c.loop-rest.invariant.went (rw c.in-Err-Failed.field-0-is at c.in-Err-Failed.ensures.follows) c.in-Ok.ensures.order
+
+pub returns-in-Err-Failed-clause-fault : goal.returns-in-Err-Failed-clause-fault
+returns-in-Err-Failed-clause-fault g c =
+    λ e. subst (λ n. HasRisen n (g.O.Sink.tells c.follow.new.out).failed) c.loop-rest.invariant.spared (c.follow.ensures.cause (c.in-Err-Failed.is ∙ ap Err c.in-Err-Failed.field-0-is))
+
+pub returns-in-Err-NoMemory-follow-clause-ends : goal.returns-in-Err-NoMemory-follow-clause-ends
+returns-in-Err-NoMemory-follow-clause-ends g c =
+    cut_off c.loop-rest.invariant.went (rw c.in-Err-NoMemory-follow.field-0-is at c.in-Err-NoMemory-follow.ensures.follows) c.in-Ok.ensures.order
+
+pub returns-in-Err-NoMemory-follow-clause-spared : goal.returns-in-Err-NoMemory-follow-clause-spared
+returns-in-Err-NoMemory-follow-clause-spared g c =
+    let stop = c.in-Err-NoMemory-follow.is ∙ ap Err c.in-Err-NoMemory-follow.field-0-is in
+    λ n. c.follow.ensures.spared (λ e. let other = sym stop ∙ e in cc) ∙ c.loop-rest.invariant.spared
+
+pub returns-clause-ends : goal.returns-clause-ends
+returns-clause-ends g c =
+    let ended : c.loop-rest.rest.now ≡ [] = nil_from_length c.loop-rest.rest.now (search rules) in
+    followed c.loop-rest.invariant.went (ap (λ (text : List ℕ). orders_of (length c.args.devices.now) (ended_lines text)) ended) c.loop-rest.invariant.ready.fits
+
+pub returns-clause-done : goal.returns-clause-done
+returns-clause-done g c =
+    let ended : c.loop-rest.rest.now ≡ [] = nil_from_length c.loop-rest.rest.now (search rules) in
+    λ e. none_refused c.loop-rest.invariant.went (ap (λ (text : List ℕ). refused_from (length c.args.devices.now) c.loop-rest.line (ended_lines text)) ended)
+
+pub returns-clause-spared : goal.returns-clause-spared
+returns-clause-spared g c = λ n. c.loop-rest.invariant.spared

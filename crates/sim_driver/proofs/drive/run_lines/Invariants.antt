@@ -1,0 +1,18 @@
+use Rattle.std.proofs.Common.{◌≡◌, ◌+◌, ◌≤◌, length, map}
+use Rattle.script_orders.specs.Lines.{ended_lines}
+use Rattle.sim_driver.specs.Passes.{IsReady}
+use Rattle.sim_driver.specs.Runs.{given}
+use Rattle.sim_driver.proofs.Going.{Went}
+use Rattle.sim_driver.proofs.drive.run_lines.Given as goal
+
+-- the orders ahead of the lines that are left were followed, and their report was written; the lines that are left have numbers
+abbrev pub invariant-loop-rest : goal.invariant-loop-rest
+invariant-loop-rest g l = record {
+  ready : IsReady l.driver (map g.D.Device.meaning l.devices);
+  went : Went (given l.fn.driver.core.policy l.fn.driver.core.settings (map g.D.Device.meaning l.fn.devices) l.script l.first) (length l.fn.devices) (g.O.Sink.tells l.fn.out) (g.O.Sink.tells l.out) l.driver (map g.D.Device.meaning l.devices) l.line (ended_lines l.rest);
+  spared : (g.O.Sink.tells l.out).failed ≡ (g.O.Sink.tells l.fn.out).failed;
+  numbers : l.line + length l.rest ≤ l.first + length l.script;
+}
+
+abbrev pub decreases-loop-rest : goal.decreases-loop-rest
+decreases-loop-rest g l = length l.rest

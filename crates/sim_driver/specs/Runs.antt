@@ -1,0 +1,114 @@
+-- A run of a script over devices, and how it ends.
+use Rattle.std.specs.Prelude.{◌≡◌, ◌⊎◌, ℕ, map, List, [], ◌∷◌, ◌++◌, Option, length}
+use Rattle.std.specs.List.{flat_map}
+use Rattle.maple_base.specs.declared.decision.Settings.{Settings}
+use Rattle.maple_io.specs.Views.{SinkView, Wrote}
+use Rattle.policy_lang.specs.declared.Policy.{Policy}
+use Rattle.report_text.specs.declared.line.ScriptRefusal.{ScriptRefusal}
+use Rattle.report_text.specs.Report.{spelled}
+use Rattle.device_port.specs.Devices.{Meaning}
+use Rattle.machine_steps.specs.Histories.{Leads, report_of}
+use Rattle.machine_steps.specs.Machine.{opening}
+use Rattle.script_orders.specs.Lines.{ended_lines}
+use Rattle.script_orders.specs.Orders.{Order, orders_of, refused_from}
+use Rattle.sim_steps.specs.Agreeing.{AllAgree}
+use Rattle.sim_steps.specs.Benches.{Bench, Slot, opening_bench}
+use Rattle.sim_steps.specs.Deeds.{Event, Runs, turns_of}
+use Rattle.sim_steps.specs.Parts.{Follows, IsPart}
+use Rattle.sim_steps.specs.Showing.{AllKeep}
+use Rattle.sim_laws.specs.Laws.{AreWorldRun}
+use Rattle.sim_driver.specs.declared.drive.SimEnd.{SimEnd}
+use Rattle.sim_driver.specs.declared.drive.SimEnd.TheVariants.{Done, Script, WriteFault, NoMemory}
+
+-- what is given to a run: the policy, the settings, the devices as they are at first, and a script, whose first line has this number
+pub record Given : Type 0 where
+  pub policy : Policy
+  pub settings : Settings
+  pub devices : List Meaning
+  pub script : List ℕ
+  pub first : ℕ
+
+abbrev pub given : Policy → Settings → List Meaning → List ℕ → ℕ → Given
+given policy settings devices script first = record { policy = policy; settings = settings; devices = devices; script = script; first = first }
+
+abbrev pub opened : Given → Bench
+opened g = opening_bench g.policy g.settings g.devices
+
+-- what the script asks for, up to its end or the first refused line
+abbrev pub orders : Given → List Order
+orders g = orders_of (length g.devices) (ended_lines g.script)
+
+-- the first line of a script that is refused, and why, where there are so many devices and the first line has this number
+abbrev pub refused_line : ℕ → ℕ → List ℕ → Option (ℕ × ScriptRefusal)
+refused_line places first script = refused_from places first (ended_lines script)
+
+-- ---- what holds at every end
+
+-- deeds were done, and led to this bench. Whatever the devices are, the machine's turns in them are a legal history, and each device agrees with the deeds;
+-- where each device keeps the specification of a switch they are a run of the world, which is right
+pub record IsRunOf (g : Given) (es : List Event) (b : Bench) : Type 0 where
+  pub runs : Runs (opened g) es b
+  pub history : Leads (opening g.policy g.settings) (turns_of es) b.machine
+  pub agree : AllAgree (opened g) es b
+  pub world : AllKeep g.devices → AreWorldRun g.policy g.settings g.devices es b
+
+-- the lines of the report of the deeds
+abbrev pub report : List Event → List ℕ
+report es = flat_map spelled (report_of (turns_of es))
+
+-- the devices, from place 1 on
+abbrev pub devices_of : Bench → List Meaning
+devices_of b = map (λ (s : Slot). s.device) b.slots
+
+-- ---- where the script came to its end, or to a line that is refused
+
+-- the deeds follow all orders; the whole report was written; the devices are those of the last bench
+pub record IsFollowed (g : Given) (after : List Meaning) (old new : SinkView) : Type 0 where
+  pub events : List Event
+  pub last : Bench
+  pub run : IsRunOf g events last
+  pub follows : Follows (orders g) (opened g) events last
+  pub wrote : Wrote old new (report events)
+  pub devices : devices_of last ≡ after
+
+-- ---- where a write failed, or memory ran out
+
+-- deeds follow these first orders
+pub record AreDone (g : Given) (done : List Order) (es : List Event) (b : Bench) : Type 0 where
+  pub run : IsRunOf g es b
+  pub later : List Order
+  pub orders_are : orders g ≡ done ++ later
+  pub follows : Follows done (opened g) es b
+
+-- some first orders were followed, and their whole report was written, and no more. Of what was begun behind them nothing is said
+pub record IsBrokenOff (g : Given) (old new : SinkView) : Type 0 where
+  pub done : List Order
+  pub events : List Event
+  pub last : Bench
+  pub are : AreDone g done events last
+  pub wrote : Wrote old new (report events)
+
+-- some first orders were followed, the last of them too, and their whole report was written, but of the last one's part only a front; the devices are those of
+-- the last bench
+pub record IsUnwritten (g : Given) (after : List Meaning) (old new : SinkView) : Type 0 where
+  pub ahead : List Order
+  pub order : Order
+  pub events : List Event
+  pub between : Bench
+  pub follows : Follows ahead (opened g) events between
+  pub part : List Event
+  pub last : Bench
+  pub is_part : IsPart order between part last
+  pub are : AreDone g (ahead ++ order ∷ []) (events ++ part) last
+  pub front : List ℕ
+  pub rest : List ℕ
+  pub report_is : report part ≡ front ++ rest
+  pub wrote : Wrote old new (report events ++ front)
+  pub devices : devices_of last ≡ after
+
+-- how a run ends; memory may run out as a report is written
+abbrev pub Ends : SimEnd → Given → List Meaning → SinkView → SinkView → Type 0
+Ends Done g after old new = IsFollowed g after old new
+Ends (Script line kind) g after old new = IsFollowed g after old new
+Ends WriteFault g after old new = IsUnwritten g after old new
+Ends NoMemory g after old new = IsBrokenOff g old new ⊎ IsUnwritten g after old new

@@ -1,0 +1,49 @@
+// An order of a script is followed, and what the report gains by it is written.
+ghost use Rattle.std.specs.Prelude.{◌≡◌, ◌≢◌, ℕ, List, map, length, OnOk, OnErr};
+ghost use Rattle.maple_io.specs.Views.{NoWriteFailed, WriteFailed, Wrote};
+ghost use Rattle.script_orders.specs.Steps.{IsKept as IsKeptStep};
+ghost use Rattle.sim_channels.specs.Channels.{bench};
+ghost use Rattle.sim_driver.specs.Passes.{FollowsSo, IsReady, taken, waiting};
+ghost use Rattle.maple_io.specs.Fronts.{IsFront};
+
+use core_machine::{Entry, Reply};
+use device_port::Device;
+use maple_io::{PutStop, Sink, put_all};
+use script_orders::Step;
+use sim_channels::Driver;
+use sim_commands::obey;
+
+// Does what a step of a script asks for, and writes the lines that the report gains.
+pub(crate) fn follow<D: Device, O: Sink>(
+    driver: &mut Driver,
+    devices: &mut [D],
+    step: Step,
+    text: &[u8],
+    out: &mut O,
+) -> Result<(), PutStop>
+    requires ready { IsReady driver.old (map D.meaning devices.old) }
+    requires step { IsKeptStep (length devices.old) step }
+    ensures ready { OnOk result (IsReady driver.new (map D.meaning devices.new)) }
+    ensures follows { FollowsSo result step text.now (bench driver.old (map D.meaning devices.old)) driver.new (map D.meaning devices.new) (O.tells out.old) (O.tells out.new) }
+    ensures cause { result ≡ Err PutStop.Failed → WriteFailed (O.tells out.old) (O.tells out.new) }
+    ensures spared { result ≢ Err PutStop.Failed → NoWriteFailed (O.tells out.old) (O.tells out.new) }
+{
+    let Ok(()) = obey(driver, devices, step, text) else {
+        return Err(PutStop::NoMemory);
+    };
+    write_report(driver, out)
+}
+
+// What waits of the report is taken and written.
+fn write_report<O: Sink>(driver: &mut Driver, out: &mut O) -> Result<(), PutStop>
+    ensures taken { OnOk result (driver.new ≡ taken driver.old) }
+    ensures wrote { OnOk result (Wrote (O.tells out.old) (O.tells out.new) (waiting driver.old)) }
+    ensures front { OnErr result ((front : List ℕ) × IsFront front (waiting driver.old) × Wrote (O.tells out.old) (O.tells out.new) front) }
+    ensures cause { result ≡ Err PutStop.Failed → WriteFailed (O.tells out.old) (O.tells out.new) }
+    ensures spared { result ≢ Err PutStop.Failed → NoWriteFailed (O.tells out.old) (O.tells out.new) }
+{
+    match driver.enter(Entry::TakeReport) {
+        Reply::Lines(text) => put_all(out, text.items()),
+        _ => Err(PutStop::NoMemory),
+    }
+}
