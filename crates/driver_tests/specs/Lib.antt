@@ -1,0 +1,1 @@
+-- Tests need no definitions.
