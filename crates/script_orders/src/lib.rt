@@ -5,5 +5,6 @@ mod lines;
 mod next;
 mod step;
 
+pub use lines::split_at_mark;
 pub use next::{Next, next_order};
 pub use step::{Step, Stop, step_of};

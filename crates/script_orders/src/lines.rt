@@ -4,9 +4,9 @@ ghost use Rattle.std.specs.List.{concat};
 ghost use Rattle.script_orders.specs.Lines.{ended_lines, without_end, is_mark, line_len};
 ghost use Rattle.script_orders.specs.Marks.{ahead_of_mark, behind_mark, lines_to_mark};
 
-// What is ahead of the first line that is `%%`, what is behind that line, and how many lines are
-// ahead of what is behind it. Where no line is `%%` all is ahead of it.
-pub(crate) fn split_at_mark(text: &[u8]) -> (&[u8], &[u8], usize)
+/// What is ahead of the first line that is `%%`, what is behind that line, and how many lines are
+/// ahead of what is behind it. Where no line is `%%` all is ahead of it.
+pub fn split_at_mark(text: &[u8]) -> (&[u8], &[u8], usize)
     ensures ahead { result.0.now ≡ concat (ahead_of_mark (ended_lines text.now)) }
     ensures behind { ended_lines result.1.now ≡ behind_mark (ended_lines text.now) }
     ensures lines { result.2 ≡ lines_to_mark (ended_lines text.now) }

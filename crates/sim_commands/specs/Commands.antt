@@ -53,6 +53,10 @@ pub record IsChanged (at : ℕ) (old new : Driver) : Type 0 where
 abbrev pub AsksFor : Entry → Driver → Driver → Type 0
 AsksFor entry old new = (devices : List Meaning) → Fits old devices → (reply : Reply) × IsAsked entry reply (bench old devices) (bench new devices)
 
+-- a driver over devices obeyed an order, and these stand behind it
+abbrev pub ObeyedBy : Order → Driver → List Meaning → Driver → List Meaning → Type 0
+ObeyedBy o old before new after = Obeyed o (bench old before) (bench new after)
+
 -- an order was obeyed, whatever the devices are
 abbrev pub ObeyedOver : Order → Driver → Driver → Type 0
 ObeyedOver o old new = (devices : List Meaning) → Fits old devices → Obeyed o (bench old devices) (bench new devices)

@@ -6,11 +6,10 @@ ghost use Rattle.machine_steps.specs.Steps.{Steps};
 ghost use Rattle.script_orders.specs.Orders.{Order};
 ghost use Rattle.script_orders.specs.Steps.{IsAmong};
 ghost use Rattle.script_text.specs.Grammar.{most_bytes};
-ghost use Rattle.sim_stretches.specs.Stretches.{Obeyed};
 ghost use Rattle.sim_channels.specs.Channels.{Fits, IsKept, bench};
 ghost use Rattle.sim_channels.specs.Delivering.{IsPluggedIn};
 ghost use Rattle.sim_channels.specs.Waiting.{IsAtRest, IsAtRestBut};
-ghost use Rattle.sim_commands.specs.Commands.{IsCalled, Looked, LooksUpBy, is_failure};
+ghost use Rattle.sim_commands.specs.Commands.{IsCalled, Looked, LooksUpBy, ObeyedBy, is_failure};
 
 use crate::staging::index_of;
 use core_machine::{Entry, Note, Reply};
@@ -40,7 +39,7 @@ pub(crate) fn arrive<D: Device>(
     requires short { length frame ≤ most_bytes }
     ensures fits { OnOk result (Fits driver.new (map D.meaning devices.new)) }
     ensures rest { OnOk result (IsAtRest driver.new) }
-    ensures obeyed { OnOk result (Obeyed (Order.Arrival place port frame) (bench driver.old (map D.meaning devices.old)) (bench driver.new (map D.meaning devices.new))) }
+    ensures obeyed { OnOk result (ObeyedBy (Order.Arrival place port frame) driver.old (map D.meaning devices.old) driver.new (map D.meaning devices.new)) }
 {
     let at = index_of(place);
     match driver.channels[at].stage {

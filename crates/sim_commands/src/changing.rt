@@ -5,11 +5,10 @@ ghost use Rattle.machine_replies.specs.Told.{is_new_state};
 ghost use Rattle.policy_text.specs.Texts.{IsTextOf};
 ghost use Rattle.script_orders.specs.Orders.{Order};
 ghost use Rattle.script_orders.specs.Steps.{IsOfLine};
-ghost use Rattle.sim_stretches.specs.Stretches.{Obeyed};
-ghost use Rattle.sim_channels.specs.Channels.{Fits, IsKept, bench};
+ghost use Rattle.sim_channels.specs.Channels.{Fits, IsKept};
 ghost use Rattle.sim_channels.specs.Waiting.{IsAtRest, IsHeardThrough};
 ghost use Rattle.sim_turns.specs.Turning.{FitsStill};
-ghost use Rattle.sim_commands.specs.Commands.{AsksFor, ObeyedOver};
+ghost use Rattle.sim_commands.specs.Commands.{AsksFor, ObeyedBy, ObeyedOver};
 
 use core_machine::{Entry, Note, Reply};
 use device_port::Device;
@@ -35,7 +34,7 @@ pub(crate) fn change<D: Device>(
     requires line { IsOfLine update }
     ensures fits { OnOk result (Fits driver.new (map D.meaning devices.new)) }
     ensures rest { OnOk result (IsAtRest driver.new) }
-    ensures obeyed { OnOk result (Obeyed (Order.Change update) (bench driver.old (map D.meaning devices.old)) (bench driver.new (map D.meaning devices.new))) }
+    ensures obeyed { OnOk result (ObeyedBy (Order.Change update) driver.old (map D.meaning devices.old) driver.new (map D.meaning devices.new)) }
 {
     if update_network(driver, update)? {
         driver.deliver_all(devices)
@@ -80,7 +79,7 @@ pub(crate) fn renew<D: Device>(
     requires rest { IsAtRest driver.old }
     ensures fits { OnOk result (Fits driver.new (map D.meaning devices.new)) }
     ensures rest { OnOk result (IsAtRest driver.new) }
-    ensures obeyed { OnOk result (Obeyed (Order.NewPolicy text.now) (bench driver.old (map D.meaning devices.old)) (bench driver.new (map D.meaning devices.new))) }
+    ensures obeyed { OnOk result (ObeyedBy (Order.NewPolicy text.now) driver.old (map D.meaning devices.old) driver.new (map D.meaning devices.new)) }
 {
     match read_policy(driver.alloc, text) {
         Ok(policy) => {

@@ -1,9 +1,9 @@
 // An order of a script is obeyed.
 ghost use Rattle.std.specs.Prelude.{◌≡◌, map, length, OnOk};
 ghost use Rattle.script_orders.specs.Steps.{IsKept as IsKeptStep, order_with};
-ghost use Rattle.sim_stretches.specs.Stretches.{Obeyed};
-ghost use Rattle.sim_channels.specs.Channels.{Fits, bench};
+ghost use Rattle.sim_channels.specs.Channels.{Fits};
 ghost use Rattle.sim_channels.specs.Waiting.{IsAtRest};
+ghost use Rattle.sim_commands.specs.Commands.{ObeyedBy};
 
 use crate::arriving::arrive;
 use crate::changing::{change, list_rules, renew};
@@ -31,7 +31,7 @@ pub fn obey<D: Device>(
     requires step { IsKeptStep (length devices.old) step }
     ensures fits { OnOk result (Fits driver.new (map D.meaning devices.new)) }
     ensures rest { OnOk result (IsAtRest driver.new) }
-    ensures obeyed { OnOk result (Obeyed (order_with step text.now) (bench driver.old (map D.meaning devices.old)) (bench driver.new (map D.meaning devices.new))) }
+    ensures obeyed { OnOk result (ObeyedBy (order_with step text.now) driver.old (map D.meaning devices.old) driver.new (map D.meaning devices.new)) }
 {
     match step {
         Step::Nothing => Ok(()),

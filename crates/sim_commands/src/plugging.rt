@@ -4,12 +4,11 @@ ghost use Rattle.machine_steps.specs.declared.entry.Entry.TheVariants as entries
 ghost use Rattle.machine_replies.specs.Told.{is_end};
 ghost use Rattle.script_orders.specs.Orders.{Order};
 ghost use Rattle.script_orders.specs.Steps.{IsAmong};
-ghost use Rattle.sim_stretches.specs.Stretches.{Obeyed};
-ghost use Rattle.sim_channels.specs.Channels.{Fits, IsKept, bench};
+ghost use Rattle.sim_channels.specs.Channels.{Fits, IsKept};
 ghost use Rattle.sim_channels.specs.Delivering.{IsPluggedIn};
 ghost use Rattle.sim_channels.specs.Waiting.{IsAtRest, IsHeard, IsOffered};
 ghost use Rattle.sim_turns.specs.Turning.{FitsStill};
-ghost use Rattle.sim_commands.specs.Commands.{AsksFor, IsChanged, IsUnplugged, ObeyedOver, stage_behind};
+ghost use Rattle.sim_commands.specs.Commands.{AsksFor, IsChanged, IsUnplugged, ObeyedBy, ObeyedOver, stage_behind};
 
 use crate::staging::{index_of, set_stage};
 use core_machine::{Entry, Note, Reply};
@@ -34,7 +33,7 @@ pub(crate) fn plug<D: Device>(
     requires among { IsAmong (length devices.old) place }
     ensures fits { OnOk result (Fits driver.new (map D.meaning devices.new)) }
     ensures rest { OnOk result (IsAtRest driver.new) }
-    ensures obeyed { OnOk result (Obeyed (Order.Plug place) (bench driver.old (map D.meaning devices.old)) (bench driver.new (map D.meaning devices.new))) }
+    ensures obeyed { OnOk result (ObeyedBy (Order.Plug place) driver.old (map D.meaning devices.old) driver.new (map D.meaning devices.new)) }
 {
     driving_laws();
     let at = index_of(place);

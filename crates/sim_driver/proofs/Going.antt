@@ -15,7 +15,6 @@ use Rattle.device_port.specs.Devices.{Meaning}
 use Rattle.machine_steps.specs.Histories.{Turn, report_of, said}
 use Rattle.machine_steps.specs.Machine.{State, opening}
 use Rattle.machine_steps.specs.Sound.{AreInRange}
-use Rattle.script_orders.specs.Lines.{ended_lines}
 use Rattle.script_orders.specs.Orders.{Order, orders_of, refused_from}
 use Rattle.script_orders.specs.Steps.{Halts, Leads}
 use Rattle.sim_steps.specs.Agreeing.{taken_report}
@@ -30,7 +29,7 @@ use Rattle.sim_channels.specs.Channels.{Fits, bench}
 use Rattle.sim_channels.specs.Waiting.{IsAtRest}
 use Rattle.sim_driver.specs.declared.drive.SimEnd.{SimEnd}
 use Rattle.sim_driver.specs.Passes.{IsOpened, IsReported, IsUnreported, given_to}
-use Rattle.sim_driver.specs.Runs.{Ends, Given, IsBrokenOff, IsFollowed, IsRunOf, IsUnwritten, given, opened, orders, refused_line, report}
+use Rattle.sim_driver.specs.Runs.{Ends, Given, IsBrokenOff, IsFollowed, IsRunOf, IsUnwritten, given, opened, orders, report}
 use Rattle.sim_driver.proofs.Parting.{Parts, parts_follow, parts_run, parts_then}
 use Rattle.sim_driver.proofs.Taking.{bench_devices}
 
@@ -50,7 +49,7 @@ pub record Went (g : Given) (places : ℕ) (old now : SinkView) (driver : Driver
   pub events : List Event
   pub parts : Parts done (opened g) events (bench driver devices)
   pub orders_are : orders g ≡ done ++ orders_of places left
-  pub refused_is : refused_line places g.first g.script ≡ refused_from places line left
+  pub refused_is : refused_from places g.first g.lines ≡ refused_from places line left
   pub wrote : Wrote old now (taken_report events)
   pub none_waits : driver.core.lines ≡ []
 
@@ -60,13 +59,13 @@ opened_still : (g : Given) → IsStill (opened g)
 opened_still g = record { jobs = refl; taken = λ c h. absurd (cc); offered = λ c s h. absurd (let e = h.plugged in cc); heard = λ c s h. absurd (let e = h.plugged in cc) }
 
 pub went_none : (g : Given) (places : ℕ) (old : SinkView) (driver : Driver) (devices : List Meaning) → Known g → length g.devices ≡ places → bench driver devices ≡ opened g
-    → Went g places old old driver devices g.first (ended_lines g.script)
+    → Went g places old old driver devices g.first g.lines
 went_none g places old driver devices known n e = record {
   known = known;
   done = [];
   events = [];
   parts = (refl, e, opened_still g);
-  orders_are = ap (λ (n : ℕ). orders_of n (ended_lines g.script)) n;
+  orders_are = ap (λ (n : ℕ). orders_of n g.lines) n;
   refused_is = refl;
   wrote = Appends-nil old.taken;
   none_waits = ap (λ (b : Bench). b.machine.lines) e;
@@ -137,11 +136,11 @@ report_append es fs =
 
 module _ {g : Given} {places : ℕ} {old now : SinkView} {driver : Driver} {devices : List Meaning} {line : ℕ} {left : List (List ℕ)}
     (h : Went g places old now driver devices line left) where
-  pub none_refused : refused_from places line left ≡ None → refused_line places g.first g.script ≡ None
+  pub none_refused : refused_from places line left ≡ None → refused_from places g.first g.lines ≡ None
   none_refused none = h.refused_is ∙ none
 
-  pub first_refused : {kind : ScriptRefusal} → Halts places left (λ n. Some (n, kind)) → refused_line places g.first g.script ≡ Some (line, kind)
-  first_refused halts = h.refused_is ∙ halts.refused_is line
+  pub first_refused : {kind told : ScriptRefusal} → told ≡ kind → Halts places left (λ n. Some (n, kind)) → refused_from places g.first g.lines ≡ Some (line, told)
+  first_refused same halts = h.refused_is ∙ halts.refused_is line ∙ ap (λ (k : ScriptRefusal). Some (line, k)) (sym same)
 
   runs : Runs (opened g) h.events (bench driver devices)
   runs = parts_run h.done (opened g) h.events (bench driver devices) h.parts
@@ -152,22 +151,28 @@ module _ {g : Given} {places : ℕ} {old now : SinkView} {driver : Driver} {devi
       ∙ ap (λ (ls : List Line). taken_report h.events ++ flat_map spelled ls) h.none_waits
       ∙ append-nil (taken_report h.events)
 
-  pub followed : orders_of places left ≡ [] → Fits driver devices → IsFollowed g devices old now
-  followed none fits = record {
-    events = h.events;
-    last = bench driver devices;
-    run = run_of g h.known h.events (bench driver devices) runs;
-    follows = parts_follow (orders g) (opened g) h.events (bench driver devices) (subst (λ (os : List Order). Parts os (opened g) h.events (bench driver devices)) (sym all) h.parts);
-    wrote = subst (Wrote old now) (sym whole) h.wrote;
-    devices = bench_devices driver devices fits;
-  }
+  written : Wrote old now (report h.events)
+  written = subst (Wrote old now) (sym whole) h.wrote
+
+  pub followed : orders_of places left ≡ [] → Fits driver devices → (text : List ℕ) × IsFollowed g devices text × Wrote old now text
+  followed none fits = (report h.events, of_all, written)
     where
       all : orders g ≡ h.done
       all = h.orders_are ∙ ap (λ (os : List Order). h.done ++ os) none ∙ append-nil h.done
 
+      of_all : IsFollowed g devices (report h.events)
+      of_all = record {
+        events = h.events;
+        last = bench driver devices;
+        run = run_of g h.known h.events (bench driver devices) runs;
+        follows = parts_follow (orders g) (opened g) h.events (bench driver devices) (subst (λ (os : List Order). Parts os (opened g) h.events (bench driver devices)) (sym all) h.parts);
+        text_is = refl;
+        devices = bench_devices driver devices fits;
+      }
+
   -- memory ran out ahead of an order, or in it
-  pub broken_off : IsBrokenOff g old now
-  broken_off = record {
+  broken : IsBrokenOff g (report h.events)
+  broken = record {
     done = h.done;
     events = h.events;
     last = bench driver devices;
@@ -177,8 +182,11 @@ module _ {g : Given} {places : ℕ} {old now : SinkView} {driver : Driver} {devi
       orders_are = h.orders_are;
       follows = parts_follow h.done (opened g) h.events (bench driver devices) h.parts;
     };
-    wrote = subst (Wrote old now) (sym whole) h.wrote;
+    text_is = refl;
   }
+
+  pub broken_off : (text : List ℕ) × (IsBrokenOff g text ⊎ IsUnwritten g devices text) × Wrote old now text
+  broken_off = (report h.events, inl broken, written)
 
   module _ {new : SinkView} {after : List Meaning} {o : Order} (u : IsUnreported o (bench driver devices) after now new) where
     parts : Parts (h.done ++ o ∷ []) (opened g) (h.events ++ u.events) u.last
@@ -200,8 +208,8 @@ module _ {g : Given} {places : ℕ} {old now : SinkView} {driver : Driver} {devi
         ∙ append_assoc t (taken_report u.events) w
         )
 
-    pub unwritten : {passed : ℕ} {behind : List (List ℕ)} → Leads places left o passed behind → IsUnwritten g after old new
-    unwritten {passed} {behind} leads = record {
+    cut : {passed : ℕ} {behind : List (List ℕ)} → Leads places left o passed behind → IsUnwritten g after (report h.events ++ u.front)
+    cut {passed} {behind} leads = record {
       ahead = h.done;
       order = o;
       events = h.events;
@@ -222,19 +230,22 @@ module _ {g : Given} {places : ℕ} {old now : SinkView} {driver : Driver} {devi
           last_report
           ∙ ap (λ (bs : List ℕ). bs ++ flat_map spelled u.last.machine.lines) (sym u.is_front.1)
           ∙ append_assoc u.front u.is_front.0 (flat_map spelled u.last.machine.lines);
-      wrote = Appends-trans old.taken now.taken new.taken (report h.events) u.front (subst (Wrote old now) (sym whole) h.wrote) u.wrote;
+      text_is = refl;
       devices = u.devices;
     }
 
+    pub unwritten : {passed : ℕ} {behind : List (List ℕ)} → Leads places left o passed behind → (text : List ℕ) × IsUnwritten g after text × Wrote old new text
+    unwritten leads = (report h.events ++ u.front, cut leads, Appends-trans old.taken now.taken new.taken (report h.events) u.front written u.wrote)
+
   -- memory ran out in an order, or for the writing of its report
   pub cut_off : {new : SinkView} {after : List Meaning} {o : Order} {passed : ℕ} {behind : List (List ℕ)} → (new ≡ now) ⊎ IsUnreported o (bench driver devices) after now new
-      → Leads places left o passed behind → IsBrokenOff g old new ⊎ IsUnwritten g after old new
-  cut_off (inl same) leads = inl (subst (IsBrokenOff g old) (sym same) broken_off)
-  cut_off (inr u) leads = inr (unwritten u leads)
+      → Leads places left o passed behind → (text : List ℕ) × (IsBrokenOff g text ⊎ IsUnwritten g after text) × Wrote old new text
+  cut_off (inl same) leads = (report h.events, inl broken, subst (λ (s : SinkView). Wrote old s (report h.events)) (sym same) written)
+  cut_off (inr u) leads = let (text, cut, wrote) = unwritten u leads in (text, inr cut, wrote)
 
 -- memory ran out ahead of the machine
-pub never_begun : (g : Given) → Known g → (old : SinkView) → IsBrokenOff g old old
-never_begun g known old = record {
+never : (g : Given) → Known g → IsBrokenOff g []
+never g known = record {
   done = [];
   events = [];
   last = opened g;
@@ -244,5 +255,8 @@ never_begun g known old = record {
     orders_are = refl;
     follows = parts_follow [] (opened g) [] (opened g) (refl, refl, opened_still g);
   };
-  wrote = Appends-nil old.taken;
+  text_is = refl;
 }
+
+pub never_begun : (g : Given) → Known g → (after : List Meaning) (old : SinkView) → (text : List ℕ) × (IsBrokenOff g text ⊎ IsUnwritten g after text) × Wrote old old text
+never_begun g known after old = ([], inl (never g known), Appends-nil old.taken)

@@ -18,7 +18,7 @@ use Rattle.sim_channels.specs.Waiting.{IsAtRest}
 use Rattle.maple_io.specs.declared.whole.PutStop.{PutStop}
 use Rattle.maple_io.specs.declared.whole.PutStop.TheVariants.{Failed, NoMemory}
 use Rattle.maple_io.specs.Fronts.{IsFront}
-use Rattle.sim_driver.specs.Passes.{FollowsSo, IsReady, IsReported, IsUnreported, taken, waiting}
+use Rattle.sim_driver.specs.Passes.{Passed, IsReady, IsReported, IsUnreported, taken, waiting}
 use Rattle.sim_driver.proofs.Parting.{part_longer}
 use Rattle.sim_driver.proofs.Taking.{bench_devices, taken_fits, taken_rests, taken_still, taking}
 
@@ -60,7 +60,7 @@ ready_by (Err stop) d next ds e fits rest = tt
 
 pub follows_by : (r : Result (Unit {0}) PutStop) (step : Step) (text : List ℕ) (a : Bench) (d next : Driver) (ds : List Meaning) (old new : SinkView)
     → Obeyed (order_with step text) a (bench d ds) → Fits d ds → OnOk r (next ≡ taken d) → OnOk r (Wrote old new (waiting d)) → OnErr r (WroteFront (waiting d) old new)
-    → FollowsSo r step text a next ds old new
+    → Passed r step text a next ds old new
 follows_by (Ok u) step text a d next ds old new h fits e w front =
     subst (λ (x : Driver). IsReported (order_with step text) a (bench x ds) old new) (sym e) (reported (order_with step text) a d ds h old new w)
 follows_by (Err Failed) step text a d next ds old new h fits e w front = unreported (order_with step text) a d ds h old new fits front

@@ -67,7 +67,7 @@ pub record IsUnreported (o : Order) (a : Bench) (after : List Meaning) (old new 
   pub wrote : Wrote old new front
 
 -- how it ends that a step is followed, with this text behind its line; where memory runs out nothing was written, or memory ran out for the writing
-abbrev pub FollowsSo : Result (Unit {0}) PutStop → Step → List ℕ → Bench → Driver → List Meaning → SinkView → SinkView → Type 0
-FollowsSo (Ok done) step text a driver after old new = IsReported (order_with step text) a (bench driver after) old new
-FollowsSo (Err Failed) step text a driver after old new = IsUnreported (order_with step text) a after old new
-FollowsSo (Err NoMemory) step text a driver after old new = (new ≡ old) ⊎ IsUnreported (order_with step text) a after old new
+abbrev pub Passed : Result (Unit {0}) PutStop → Step → List ℕ → Bench → Driver → List Meaning → SinkView → SinkView → Type 0
+Passed (Ok done) step text a driver after old new = IsReported (order_with step text) a (bench driver after) old new
+Passed (Err Failed) step text a driver after old new = IsUnreported (order_with step text) a after old new
+Passed (Err NoMemory) step text a driver after old new = (new ≡ old) ⊎ IsUnreported (order_with step text) a after old new

@@ -1,6 +1,7 @@
 -- A run of a script over devices, and how it ends.
-use Rattle.std.specs.Prelude.{◌≡◌, ◌⊎◌, ℕ, map, List, [], ◌∷◌, ◌++◌, Option, length}
+use Rattle.std.specs.Prelude.{◌≡◌, ◌⊎◌, ℕ, map, List, [], ◌∷◌, ◌++◌, Option, Some, length}
 use Rattle.std.specs.List.{flat_map}
+use Rattle.std.specs.declared.vec.Vec.{Vec}
 use Rattle.maple_base.specs.declared.decision.Settings.{Settings}
 use Rattle.maple_io.specs.Views.{SinkView, Wrote}
 use Rattle.policy_lang.specs.declared.Policy.{Policy}
@@ -20,27 +21,38 @@ use Rattle.sim_laws.specs.Laws.{AreWorldRun}
 use Rattle.sim_driver.specs.declared.drive.SimEnd.{SimEnd}
 use Rattle.sim_driver.specs.declared.drive.SimEnd.TheVariants.{Done, Script, WriteFault, NoMemory}
 
--- what is given to a run: the policy, the settings, the devices as they are at first, and a script, whose first line has this number
+-- what devices in a vector mean, from place 1 on
+abbrev pub over : {A Alloc : Type 0} → (A → Meaning) → Vec A Alloc → List Meaning
+over meaning devices = map meaning devices.items
+
+-- what is given to a run: the policy, the settings, the devices as they are at first, and the lines of a script, of which the first has this number
 pub record Given : Type 0 where
   pub policy : Policy
   pub settings : Settings
   pub devices : List Meaning
-  pub script : List ℕ
+  pub lines : List (List ℕ)
   pub first : ℕ
 
+-- the same with the bytes of the script
 abbrev pub given : Policy → Settings → List Meaning → List ℕ → ℕ → Given
-given policy settings devices script first = record { policy = policy; settings = settings; devices = devices; script = script; first = first }
+given policy settings devices script first =
+    record { policy = policy; settings = settings; devices = devices; lines = ended_lines script; first = first }
 
 abbrev pub opened : Given → Bench
 opened g = opening_bench g.policy g.settings g.devices
 
 -- what the script asks for, up to its end or the first refused line
 abbrev pub orders : Given → List Order
-orders g = orders_of (length g.devices) (ended_lines g.script)
+orders g = orders_of (length g.devices) g.lines
 
 -- the first line of a script that is refused, and why, where there are so many devices and the first line has this number
 abbrev pub refused_line : ℕ → ℕ → List ℕ → Option (ℕ × ScriptRefusal)
 refused_line places first script = refused_from places first (ended_lines script)
+
+-- a run ends at a refused line just where it is the first
+abbrev pub IsAtRefused : SimEnd → Option (ℕ × ScriptRefusal) → Type 0
+IsAtRefused (Script line kind) first = first ≡ Some (line, kind)
+IsAtRefused end first = Unit {0}
 
 -- ---- what holds at every end
 
@@ -62,13 +74,13 @@ devices_of b = map (λ (s : Slot). s.device) b.slots
 
 -- ---- where the script came to its end, or to a line that is refused
 
--- the deeds follow all orders; the whole report was written; the devices are those of the last bench
-pub record IsFollowed (g : Given) (after : List Meaning) (old new : SinkView) : Type 0 where
+-- deeds follow all orders, and the text is their whole report; the devices are those of the last bench
+pub record IsFollowed (g : Given) (after : List Meaning) (text : List ℕ) : Type 0 where
   pub events : List Event
   pub last : Bench
   pub run : IsRunOf g events last
   pub follows : Follows (orders g) (opened g) events last
-  pub wrote : Wrote old new (report events)
+  pub text_is : text ≡ report events
   pub devices : devices_of last ≡ after
 
 -- ---- where a write failed, or memory ran out
@@ -80,17 +92,17 @@ pub record AreDone (g : Given) (done : List Order) (es : List Event) (b : Bench)
   pub orders_are : orders g ≡ done ++ later
   pub follows : Follows done (opened g) es b
 
--- some first orders were followed, and their whole report was written, and no more. Of what was begun behind them nothing is said
-pub record IsBrokenOff (g : Given) (old new : SinkView) : Type 0 where
+-- some first orders were followed, and the text is their whole report. Of what was begun behind them nothing is said
+pub record IsBrokenOff (g : Given) (text : List ℕ) : Type 0 where
   pub done : List Order
   pub events : List Event
   pub last : Bench
   pub are : AreDone g done events last
-  pub wrote : Wrote old new (report events)
+  pub text_is : text ≡ report events
 
--- some first orders were followed, the last of them too, and their whole report was written, but of the last one's part only a front; the devices are those of
+-- some first orders were followed, the last of them too, and the text is their whole report, but of the last one's part only a front; the devices are those of
 -- the last bench
-pub record IsUnwritten (g : Given) (after : List Meaning) (old new : SinkView) : Type 0 where
+pub record IsUnwritten (g : Given) (after : List Meaning) (text : List ℕ) : Type 0 where
   pub ahead : List Order
   pub order : Order
   pub events : List Event
@@ -103,12 +115,16 @@ pub record IsUnwritten (g : Given) (after : List Meaning) (old new : SinkView) :
   pub front : List ℕ
   pub rest : List ℕ
   pub report_is : report part ≡ front ++ rest
-  pub wrote : Wrote old new (report events ++ front)
+  pub text_is : text ≡ report events ++ front
   pub devices : devices_of last ≡ after
 
--- how a run ends; memory may run out as a report is written
+-- how a run ends that wrote this text; memory may run out as a report is written
+abbrev pub EndsWith : SimEnd → Given → List Meaning → List ℕ → Type 0
+EndsWith Done g after text = IsFollowed g after text
+EndsWith (Script line kind) g after text = IsFollowed g after text
+EndsWith WriteFault g after text = IsUnwritten g after text
+EndsWith NoMemory g after text = IsBrokenOff g text ⊎ IsUnwritten g after text
+
+-- how a run ends
 abbrev pub Ends : SimEnd → Given → List Meaning → SinkView → SinkView → Type 0
-Ends Done g after old new = IsFollowed g after old new
-Ends (Script line kind) g after old new = IsFollowed g after old new
-Ends WriteFault g after old new = IsUnwritten g after old new
-Ends NoMemory g after old new = IsBrokenOff g old new ⊎ IsUnwritten g after old new
+Ends end g after old new = (text : List ℕ) × EndsWith end g after text × Wrote old new text

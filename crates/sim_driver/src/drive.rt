@@ -1,11 +1,10 @@
 // A script is run.
-ghost use Rattle.std.specs.Prelude.{◌≡◌, ◌≢◌, ℕ, ◌+◌, ◌^◌, ◌<◌, Some, None, map, length};
+ghost use Rattle.std.specs.Prelude.{◌≡◌, ◌≢◌, ◌+◌, ◌^◌, ◌<◌, None, map, length};
 ghost use Rattle.maple_io.specs.Views.{NoWriteFailed, WriteFailed};
 ghost use Rattle.machine_steps.specs.Sound.{AreInRange};
-ghost use Rattle.report_text.specs.declared.line.ScriptRefusal.{ScriptRefusal as Refusal};
 ghost use Rattle.sim_steps.specs.Showing.{AllIdle};
 ghost use Rattle.sim_driver.specs.Passes.{IsOpened, given_to};
-ghost use Rattle.sim_driver.specs.Runs.{Ends, given, refused_line};
+ghost use Rattle.sim_driver.specs.Runs.{Ends, IsAtRefused, given, over, refused_line};
 
 use crate::following::follow;
 use device_port::Device;
@@ -46,9 +45,9 @@ pub fn run_sim<O: Sink>(
     requires ranges { AreInRange settings }
     requires idle { AllIdle (map meaning devices.old.items) }
     requires numbers { first + length script.now < 2 ^ 32 }
-    ensures ends { Ends result (given policy settings (map meaning devices.old.items) script.now first) (map meaning devices.new.items) (O.tells out.old) (O.tells out.new) }
+    ensures ends { Ends result (given policy settings (over meaning devices.old) script.now first) (over meaning devices.new) (O.tells out.old) (O.tells out.new) }
     ensures done { result ≡ SimEnd.Done → refused_line (length devices.old.items) first script.now ≡ None }
-    ensures script { (line : ℕ) (kind : Refusal) → result ≡ SimEnd.Script line kind → refused_line (length devices.old.items) first script.now ≡ Some (line, kind) }
+    ensures script { IsAtRefused result (refused_line (length devices.old.items) first script.now) }
     ensures fault { result ≡ SimEnd.WriteFault → WriteFailed (O.tells out.old) (O.tells out.new) }
     ensures spared { result ≢ SimEnd.WriteFault → NoWriteFailed (O.tells out.old) (O.tells out.new) }
 {
@@ -63,23 +62,23 @@ pub fn drive<D: Device, O: Sink>(
     first: u32,
     settings: Settings,
     devices: &mut [D],
-    out: &mut O,
+    to: &mut O,
 ) -> SimEnd
     requires ranges { AreInRange settings }
     requires idle { AllIdle (map D.meaning devices.old) }
     requires numbers { first + length script.now < 2 ^ 32 }
-    ensures ends { Ends result (given policy settings (map D.meaning devices.old) script.now first) (map D.meaning devices.new) (O.tells out.old) (O.tells out.new) }
+    ensures ends { Ends result (given policy settings (map D.meaning devices.old) script.now first) (map D.meaning devices.new) (O.tells to.old) (O.tells to.new) }
     ensures done { result ≡ SimEnd.Done → refused_line (length devices.old) first script.now ≡ None }
-    ensures script { (line : ℕ) (kind : Refusal) → result ≡ SimEnd.Script line kind → refused_line (length devices.old) first script.now ≡ Some (line, kind) }
-    ensures fault { result ≡ SimEnd.WriteFault → WriteFailed (O.tells out.old) (O.tells out.new) }
-    ensures spared { result ≢ SimEnd.WriteFault → NoWriteFailed (O.tells out.old) (O.tells out.new) }
+    ensures script { IsAtRefused result (refused_line (length devices.old) first script.now) }
+    ensures fault { result ≡ SimEnd.WriteFault → WriteFailed (O.tells to.old) (O.tells to.new) }
+    ensures spared { result ≢ SimEnd.WriteFault → NoWriteFailed (O.tells to.old) (O.tells to.new) }
 {
     agreeing_laws();
     world_law();
     let Ok(mut driver) = Driver::new(alloc, policy, settings, devices) else {
         return SimEnd::NoMemory;
     };
-    run_lines(alloc, &mut driver, script, first, devices, out)
+    run_lines(alloc, &mut driver, script, first, devices, to)
 }
 
 // Runs the lines of a script over a machine ahead of its first entry, and devices.
@@ -89,15 +88,15 @@ fn run_lines<D: Device, O: Sink>(
     script: &[u8],
     first: u32,
     devices: &mut [D],
-    out: &mut O,
+    to: &mut O,
 ) -> SimEnd
     requires opened { IsOpened driver.old (map D.meaning devices.old) }
     requires numbers { first + length script.now < 2 ^ 32 }
-    ensures ends { Ends result (given_to driver.old (map D.meaning devices.old) script.now first) (map D.meaning devices.new) (O.tells out.old) (O.tells out.new) }
+    ensures ends { Ends result (given_to driver.old (map D.meaning devices.old) script.now first) (map D.meaning devices.new) (O.tells to.old) (O.tells to.new) }
     ensures done { result ≡ SimEnd.Done → refused_line (length devices.old) first script.now ≡ None }
-    ensures script { (line : ℕ) (kind : Refusal) → result ≡ SimEnd.Script line kind → refused_line (length devices.old) first script.now ≡ Some (line, kind) }
-    ensures fault { result ≡ SimEnd.WriteFault → WriteFailed (O.tells out.old) (O.tells out.new) }
-    ensures spared { result ≢ SimEnd.WriteFault → NoWriteFailed (O.tells out.old) (O.tells out.new) }
+    ensures script { IsAtRefused result (refused_line (length devices.old) first script.now) }
+    ensures fault { result ≡ SimEnd.WriteFault → WriteFailed (O.tells to.old) (O.tells to.new) }
+    ensures spared { result ≢ SimEnd.WriteFault → NoWriteFailed (O.tells to.old) (O.tells to.new) }
 {
     agreeing_laws();
     world_law();
@@ -111,7 +110,7 @@ fn run_lines<D: Device, O: Sink>(
             Err(Stop::Refused(kind)) => return SimEnd::Script { line, kind },
             Err(Stop::NoMemory) => return SimEnd::NoMemory,
         };
-        match follow(driver, devices, next.step, next.text, out) {
+        match follow(driver, devices, next.step, next.text, to) {
             Ok(()) => {}
             Err(PutStop::Failed) => return SimEnd::WriteFault,
             Err(PutStop::NoMemory) => return SimEnd::NoMemory,

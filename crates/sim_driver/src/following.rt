@@ -3,7 +3,7 @@ ghost use Rattle.std.specs.Prelude.{◌≡◌, ◌≢◌, ℕ, List, map, length
 ghost use Rattle.maple_io.specs.Views.{NoWriteFailed, WriteFailed, Wrote};
 ghost use Rattle.script_orders.specs.Steps.{IsKept as IsKeptStep};
 ghost use Rattle.sim_channels.specs.Channels.{bench};
-ghost use Rattle.sim_driver.specs.Passes.{FollowsSo, IsReady, taken, waiting};
+ghost use Rattle.sim_driver.specs.Passes.{IsReady, Passed, taken, waiting};
 ghost use Rattle.maple_io.specs.Fronts.{IsFront};
 
 use core_machine::{Entry, Reply};
@@ -13,25 +13,25 @@ use script_orders::Step;
 use sim_channels::Driver;
 use sim_commands::obey;
 
-// Does what a step of a script asks for, and writes the lines that the report gains.
+// Does what a step of a script asks for, over all devices, and writes the lines that the report gains.
 pub(crate) fn follow<D: Device, O: Sink>(
     driver: &mut Driver,
-    devices: &mut [D],
+    all: &mut [D],
     step: Step,
     text: &[u8],
-    out: &mut O,
+    to: &mut O,
 ) -> Result<(), PutStop>
-    requires ready { IsReady driver.old (map D.meaning devices.old) }
-    requires step { IsKeptStep (length devices.old) step }
-    ensures ready { OnOk result (IsReady driver.new (map D.meaning devices.new)) }
-    ensures follows { FollowsSo result step text.now (bench driver.old (map D.meaning devices.old)) driver.new (map D.meaning devices.new) (O.tells out.old) (O.tells out.new) }
-    ensures cause { result ≡ Err PutStop.Failed → WriteFailed (O.tells out.old) (O.tells out.new) }
-    ensures spared { result ≢ Err PutStop.Failed → NoWriteFailed (O.tells out.old) (O.tells out.new) }
+    requires ready { IsReady driver.old (map D.meaning all.old) }
+    requires step { IsKeptStep (length all.old) step }
+    ensures ready { OnOk result (IsReady driver.new (map D.meaning all.new)) }
+    ensures follows { Passed result step text.now (bench driver.old (map D.meaning all.old)) driver.new (map D.meaning all.new) (O.tells to.old) (O.tells to.new) }
+    ensures cause { result ≡ Err PutStop.Failed → WriteFailed (O.tells to.old) (O.tells to.new) }
+    ensures spared { result ≢ Err PutStop.Failed → NoWriteFailed (O.tells to.old) (O.tells to.new) }
 {
-    let Ok(()) = obey(driver, devices, step, text) else {
+    let Ok(()) = obey(driver, all, step, text) else {
         return Err(PutStop::NoMemory);
     };
-    write_report(driver, out)
+    write_report(driver, to)
 }
 
 // What waits of the report is taken and written.

@@ -1,4 +1,4 @@
-use Rattle.std.proofs.Common.{map, inl}
+use Rattle.std.proofs.Common.{map}
 use Rattle.sim_driver.specs.Runs.{given}
 use Rattle.sim_driver.proofs.Going.{Known, ends_alike, is_opened, never_begun}
 use Rattle.sim_driver.proofs.drive.drive.Goals as goal
@@ -13,7 +13,7 @@ returns-in_default-clause-ends g c =
       world = c.world_law.ensures;
       ranges = c.requires.ranges;
       idle = c.requires.idle;
-    } in inl (never_begun given known (g.O.Sink.tells c.args.out.now))
+    } in never_begun given known (map g.D.Device.meaning c.args.devices.now) (g.O.Sink.tells c.args.to.now)
 
 pub run_lines-requires-clause-opened : goal.run_lines-requires-clause-opened
 run_lines-requires-clause-opened g c =
@@ -23,4 +23,4 @@ run_lines-requires-clause-opened g c =
 pub returns-clause-ends : goal.returns-clause-ends
 returns-clause-ends g c =
     ends_alike c.args.policy c.args.settings c.in-Ok.driver (map g.D.Device.meaning c.args.devices.now) c.in-Ok.ensures.opening c.run_lines.result c.args.script.now c.args.first
-    (map g.D.Device.meaning c.run_lines.new.devices) (g.O.Sink.tells c.args.out.now) (g.O.Sink.tells c.run_lines.new.out) c.run_lines.ensures.ends
+    (map g.D.Device.meaning c.run_lines.new.devices) (g.O.Sink.tells c.args.to.now) (g.O.Sink.tells c.run_lines.new.to) c.run_lines.ensures.ends

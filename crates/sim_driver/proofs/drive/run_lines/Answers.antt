@@ -1,4 +1,4 @@
-use Rattle.std.proofs.Common.{◌≡◌, ℕ, List, [], length, map, arith, refl, sym, ap, ◌∙◌, subst, rules, inl}
+use Rattle.std.proofs.Common.{◌≡◌, ℕ, List, [], length, map, arith, refl, sym, ap, ◌∙◌, subst, rules}
 use Rattle.std.specs.Prelude.{Err}
 use Rattle.std.proofs.lemmas.List.{length-map, nil_from_length}
 use Rattle.maple_base.specs.Counts.{HasRisen}
@@ -28,7 +28,7 @@ loop-rest-init g c =
     record {
       ready = c.requires.opened.ready;
       went =
-          went_none given (length c.args.devices.now) (g.O.Sink.tells c.args.out.now) c.args.driver.now devices known (length-map c.args.devices.now g.D.Device.meaning) c.requires.opened.opening;
+          went_none given (length c.args.devices.now) (g.O.Sink.tells c.args.to.now) c.args.driver.now devices known (length-map c.args.devices.now g.D.Device.meaning) c.requires.opened.opening;
       spared = refl;
       numbers = omega arith;
     }
@@ -46,7 +46,7 @@ pub loop-rest-preserved : goal.loop-rest-preserved
 loop-rest-preserved g c = record {
   ready = c.in-Ok-follow.ensures.ready;
   went =
-      went_further (g.O.Sink.tells c.follow.new.out) c.follow.new.driver (map g.D.Device.meaning c.follow.new.devices) (order_with c.in-Ok.next.step c.in-Ok.next.text.now) c.in-Ok.next.passed
+      went_further (g.O.Sink.tells c.follow.new.to) c.follow.new.driver (map g.D.Device.meaning c.follow.new.all) (order_with c.in-Ok.next.step c.in-Ok.next.text.now) c.in-Ok.next.passed
       (ended_lines c.in-Ok.next.rest.now) c.loop-rest.invariant.went c.in-Ok.ensures.order c.in-Ok-follow.ensures.follows c.in-Ok-follow.ensures.ready.none_waits;
   spared = c.in-Ok-follow.ensures.spared (λ e. cc) ∙ c.loop-rest.invariant.spared;
   numbers = omega (arith, c.loop-rest.invariant.numbers, c.in-Ok.ensures.within);
@@ -71,14 +71,13 @@ returns-in-Err-Refused-clause-ends g c =
 
 pub returns-in-Err-Refused-clause-script : goal.returns-in-Err-Refused-clause-script
 returns-in-Err-Refused-clause-script g c =
-    let told = first_refused c.loop-rest.invariant.went (rw c.in-Err-Refused.field-0-is at c.in-Err-Refused.ensures.stop) in λ line kind e. cc (told, c.in-Err-Refused.kind-is)
+    first_refused c.loop-rest.invariant.went (c.in-Err-Refused.kind-is) (rw c.in-Err-Refused.field-0-is at c.in-Err-Refused.ensures.stop)
 
 pub returns-in-Err-Refused-clause-spared : goal.returns-in-Err-Refused-clause-spared
 returns-in-Err-Refused-clause-spared g c = λ n. c.loop-rest.invariant.spared
 
 pub returns-in-Err-NoMemory-clause-ends : goal.returns-in-Err-NoMemory-clause-ends
-returns-in-Err-NoMemory-clause-ends g c =
-    inl (broken_off c.loop-rest.invariant.went)
+returns-in-Err-NoMemory-clause-ends g c = broken_off c.loop-rest.invariant.went
 
 pub returns-in-Err-NoMemory-clause-spared : goal.returns-in-Err-NoMemory-clause-spared
 returns-in-Err-NoMemory-clause-spared g c = λ n. c.loop-rest.invariant.spared
@@ -89,7 +88,7 @@ returns-in-Err-Failed-clause-ends g c =
 
 pub returns-in-Err-Failed-clause-fault : goal.returns-in-Err-Failed-clause-fault
 returns-in-Err-Failed-clause-fault g c =
-    λ e. subst (λ n. HasRisen n (g.O.Sink.tells c.follow.new.out).failed) c.loop-rest.invariant.spared (c.follow.ensures.cause (c.in-Err-Failed.is ∙ ap Err c.in-Err-Failed.field-0-is))
+    λ e. subst (λ n. HasRisen n (g.O.Sink.tells c.follow.new.to).failed) c.loop-rest.invariant.spared (c.follow.ensures.cause (c.in-Err-Failed.is ∙ ap Err c.in-Err-Failed.field-0-is))
 
 pub returns-in-Err-NoMemory-follow-clause-ends : goal.returns-in-Err-NoMemory-follow-clause-ends
 returns-in-Err-NoMemory-follow-clause-ends g c =

@@ -9,8 +9,8 @@ use Rattle.sim_driver.proofs.drive.run_lines.Given as goal
 abbrev pub invariant-loop-rest : goal.invariant-loop-rest
 invariant-loop-rest g l = record {
   ready : IsReady l.driver (map g.D.Device.meaning l.devices);
-  went : Went (given l.fn.driver.core.policy l.fn.driver.core.settings (map g.D.Device.meaning l.fn.devices) l.script l.first) (length l.fn.devices) (g.O.Sink.tells l.fn.out) (g.O.Sink.tells l.out) l.driver (map g.D.Device.meaning l.devices) l.line (ended_lines l.rest);
-  spared : (g.O.Sink.tells l.out).failed ≡ (g.O.Sink.tells l.fn.out).failed;
+  went : Went (given l.fn.driver.core.policy l.fn.driver.core.settings (map g.D.Device.meaning l.fn.devices) l.script l.first) (length l.fn.devices) (g.O.Sink.tells l.fn.to) (g.O.Sink.tells l.to) l.driver (map g.D.Device.meaning l.devices) l.line (ended_lines l.rest);
+  spared : (g.O.Sink.tells l.to).failed ≡ (g.O.Sink.tells l.fn.to).failed;
   numbers : l.line + length l.rest ≤ l.first + length l.script;
 }
 

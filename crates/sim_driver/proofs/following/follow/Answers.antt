@@ -12,6 +12,6 @@ returns-clause-ready g c =
 
 pub returns-clause-follows : goal.returns-clause-follows
 returns-clause-follows g c =
-    follows_by c.write_report.result c.args.step c.args.text.now (bench c.args.driver.now (map g.D.Device.meaning c.args.devices.now)) c.obey.new.driver c.write_report.new.driver
-    (map g.D.Device.meaning c.obey.new.devices) (g.O.Sink.tells c.args.out.now) (g.O.Sink.tells c.write_report.new.out) c.in-Ok.ensures.obeyed c.in-Ok.ensures.fits
+    follows_by c.write_report.result c.args.step c.args.text.now (bench c.args.driver.now (map g.D.Device.meaning c.args.all.now)) c.obey.new.driver c.write_report.new.driver
+    (map g.D.Device.meaning c.obey.new.devices) (g.O.Sink.tells c.args.to.now) (g.O.Sink.tells c.write_report.new.out) c.in-Ok.ensures.obeyed c.in-Ok.ensures.fits
     c.write_report.ensures.taken c.write_report.ensures.wrote c.write_report.ensures.front
