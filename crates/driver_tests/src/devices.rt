@@ -1,8 +1,8 @@
 // Devices for runs.
 ghost use Rattle.std.specs.Prelude.{◌≡◌, [], IfOk};
-ghost use Rattle.model_switch.specs.Meanings.{of_backward, of_failing, of_logged, of_orderly, of_shuffled};
+ghost use Rattle.model_switch.specs.Meanings.{of_failing, of_orderly, of_shuffled};
 
-use model_switch::{Backward, Failing, Logged, Orderly, Shuffled};
+use model_switch::{Failing, Orderly, Shuffled};
 use std::alloc::{AllocError, Global};
 
 /// The devices of a run, from place 1 on, each with 48 ports.
@@ -20,10 +20,6 @@ pub enum Kind {
     Shuffled(u64),
     /// With this datapath id, and room for so many rules.
     Orderly(u64, u16),
-    /// With this datapath id.
-    Backward(u64),
-    /// With this datapath id, and it keeps its calls.
-    Logged(u64),
     /// With the datapath id 1; its call of this number fails.
     Failing(u64),
 }
@@ -58,18 +54,6 @@ pub fn orderly(alloc: Global, dpid: u64, room: u16) -> Orderly
     ensures { (of_orderly result).pending ≡ [] }
 {
     Orderly::new(alloc, dpid, PORTS, room as u32)
-}
-
-pub fn backward(alloc: Global, dpid: u64) -> Backward
-    ensures { (of_backward result).pending ≡ [] }
-{
-    Backward::new(alloc, dpid, PORTS, MOST_RULES as u32)
-}
-
-pub fn logged(alloc: Global, dpid: u64) -> Logged
-    ensures { (of_logged result).pending ≡ [] }
-{
-    Logged::new(alloc, orderly(alloc, dpid, MOST_RULES))
 }
 
 pub fn failing(alloc: Global, call: u64) -> Result<Failing, AllocError>

@@ -1,6 +1,6 @@
 // More scripts that are run: places that aren't plugged in, devices that fail, several devices.
 use crate::devices::{Devices, Kind};
-use crate::rows::{Limits, Row, SSH, USUAL_DEVICES};
+use crate::rows::{Row, SSH, USUAL_DEVICES};
 use sim_driver::SimEnd;
 
 pub fn places() -> &'static [Row] {
@@ -24,7 +24,6 @@ const TWO: Devices = Devices::These(&[Kind::Orderly(1, 65_535), Kind::Orderly(2,
 const PLACES: &[Row] = &[
     // Plugged in twice, taken out, plugged in again.
     Row {
-        limits: Limits::Usual,
         devices: USUAL_DEVICES,
         policy: SSH,
         script: "plug 7 / plug 7 / unplug 7 / plug 7 / unplug 7 / packet 7 1 / frame 7 1 00 / turn 7 1 / settle",
@@ -33,7 +32,6 @@ const PLACES: &[Row] = &[
     },
     // Never plugged in.
     Row {
-        limits: Limits::Usual,
         devices: USUAL_DEVICES,
         policy: SSH,
         script: "unplug 2 / packet 64 1 / frame 64 0 00 / turn 3 100000 / settle / plug 2",
@@ -42,7 +40,6 @@ const PLACES: &[Row] = &[
     },
     // Turns, up to the last message and past it.
     Row {
-        limits: Limits::Usual,
         devices: USUAL_DEVICES,
         policy: SSH,
         script: "plug 1 / turn 1 1 / turn 1 1 / turn 1 2 / turn 1 1 / turn 1 1 / settle",
@@ -50,7 +47,6 @@ const PLACES: &[Row] = &[
         end: SimEnd::Done,
     },
     Row {
-        limits: Limits::Usual,
         devices: USUAL_DEVICES,
         policy: SSH,
         script: "plug 1 / turn 1 100000",
@@ -59,7 +55,6 @@ const PLACES: &[Row] = &[
     },
     // A packet at a switch whose session isn't live: what it sends is passed over.
     Row {
-        limits: Limits::Usual,
         devices: USUAL_DEVICES,
         policy: SSH,
         script: "plug 1 / packet 1 1 / turn 1 1 / packet 1 1 / turn 1 1 / packet 1 1 / settle",
@@ -69,7 +64,6 @@ answer s1 1 out 2 learned / ready c1 s1 / settled 8",
     },
     // Another device of the same switch, which learns all that is known of it.
     Row {
-        limits: Limits::Usual,
         devices: Devices::These(&[Kind::Orderly(1, 65_535), Kind::Orderly(1, 65_535)]),
         policy: SSH,
         script: "boot / packet 1 1 tp_dst=80 / turn 1 2 / unplug 1 / plug 2 / settle / packet 2 1 tp_dst=80",
@@ -79,7 +73,6 @@ settled 9 / hit c2 1 out 2",
     },
     // A change reaches both switches; the lowest place has its turns first.
     Row {
-        limits: Limits::Usual,
         devices: TWO,
         policy: NUMBER,
         script: "plug 2 / settle / plug 1 / settle / set t 1 2 / packet 1 1 / packet 2 1 / settle / packet 2 1 / set t 1 3 / \
@@ -91,7 +84,6 @@ turned c2 2 / hit c1 1 out 2 / miss c2 1 0 / answer s2 1 out 3 learned / settled
     },
     // Another policy, while an update is under way at one switch, and none at the other.
     Row {
-        limits: Limits::Usual,
         devices: TWO,
         policy: SSH,
         script: "plug 1 / plug 2 / settle / packet 2 1 tp_dst=80 / newpolicy / policy { out 3; } / %% / settle / rules 2 / rules 1",
@@ -101,7 +93,6 @@ answer s2 1 out 2 learned / state 3 pruned 1 / settled 9 / rules s2 0 / rules s1
     },
     // What is learned of a switch stays as its device is taken out; a new number goes into its traces.
     Row {
-        limits: Limits::Usual,
         devices: TWO,
         policy: NUMBER,
         script: "boot / packet 1 1 / rules 1 / unplug 1 / rules 1 / settle / set t 1 2 / rules 1 / host 1 1 1 / host 1 2 1 / host 1 1 0",
@@ -112,7 +103,6 @@ refused update PortRange",
     },
     // An error behind which a switch has no rules any more.
     Row {
-        limits: Limits::Usual,
         devices: Devices::These(&[Kind::Orderly(1, 1)]),
         policy: SSH,
         script: "boot / packet 1 1 tp_dst=22 / settle / packet 1 1 tp_dst=22 / packet 1 1 tp_dst=80 / settle / packet 1 1 tp_dst=22 / rules 1",
@@ -122,7 +112,6 @@ error c1 3 0 / quiet s1 retired 2 / settled 6 / miss c1 1 0 / answer s1 1 drop u
     },
     // One of two fails, as a change reaches both; the other goes on.
     Row {
-        limits: Limits::Usual,
         devices: Devices::These(&[Kind::Failing(16), Kind::Orderly(2, 65_535)]),
         policy: NUMBER,
         script: "plug 1 / plug 2 / settle / packet 1 1 / packet 2 1 / settle / set t 1 5 / settle / packet 1 1 / packet 2 1 / plug 1",
@@ -136,44 +125,9 @@ absent c1 / miss c2 1 0 / answer s2 1 out 5 learned / gone c1",
 /// A miss, an update and a hit.
 pub const HIT: &str = "boot / packet 1 1 tp_dst=80 / settle / packet 1 1 tp_dst=80";
 
-// Offers, turns and packets are counted together.
+// Offers, turns and packets are counted together. The first eight calls are rows of `maple`.
 const FAULTS: &[(&[Kind], &str)] = &[
-    // The offer of the HELLO, and its turn.
-    (
-        &[Kind::Failing(1)],
-        "open c1 / closed c1 fault / settled 0 / absent c1 / settled 0 / absent c1",
-    ),
-    (
-        &[Kind::Failing(2)],
-        "open c1 / closed c1 fault / settled 0 / absent c1 / settled 0 / absent c1",
-    ),
-    // The offer of the request for features, and its turn.
-    (
-        &[Kind::Failing(3)],
-        "open c1 / closed c1 fault / settled 1 / absent c1 / settled 0 / absent c1",
-    ),
-    (
-        &[Kind::Failing(4)],
-        "open c1 / closed c1 fault / settled 1 / absent c1 / settled 0 / absent c1",
-    ),
-    // The offers of the configuration, the clearing and the barrier.
-    (
-        &[Kind::Failing(5)],
-        "open c1 / state 1 pruned 0 / closed c1 fault / settled 2 / absent c1 / settled 0 / absent c1",
-    ),
-    (
-        &[Kind::Failing(6)],
-        "open c1 / state 1 pruned 0 / closed c1 fault / settled 2 / absent c1 / settled 0 / absent c1",
-    ),
-    (
-        &[Kind::Failing(7)],
-        "open c1 / state 1 pruned 0 / closed c1 fault / settled 2 / absent c1 / settled 0 / absent c1",
-    ),
-    // Their turns.
-    (
-        &[Kind::Failing(8)],
-        "open c1 / state 1 pruned 0 / closed c1 fault / settled 2 / absent c1 / settled 0 / absent c1",
-    ),
+    // The turns of the clearing and of the barrier behind it.
     (
         &[Kind::Failing(9)],
         "open c1 / state 1 pruned 0 / closed c1 fault / settled 3 / absent c1 / settled 0 / absent c1",

@@ -1,10 +1,9 @@
 // Scripts are run, and what comes of them is compared.
-ghost use Rattle.std.specs.Prelude.{◌≡◌, [], map, IfSome, OnOk};
-ghost use Rattle.machine_steps.specs.Sound.{AreInRange};
+ghost use Rattle.std.specs.Prelude.{◌≡◌, [], map, OnOk};
 ghost use Rattle.sim_steps.specs.Showing.{AllIdle};
 
-use crate::devices::{Devices, Kind, backward, failing, kinds_of, logged, orderly, shuffled};
-use crate::rows::{FIRST, Limits, Row};
+use crate::devices::{Devices, Kind, failing, kinds_of, orderly, shuffled};
+use crate::rows::{FIRST, Row};
 use crate::texts::{output_of, script_of};
 use device_port::Device;
 use maple_base::Settings;
@@ -13,6 +12,14 @@ use policy_text::read_policy;
 use sim_driver::{SimEnd, run_sim};
 use std::alloc::{AllocError, Global};
 use std::test::Fail;
+
+// The settings of the program.
+const SETTINGS: Settings = Settings {
+    capacity: 1024,
+    levels: 32_768,
+    budget: 4096,
+    workers: 0,
+};
 
 // More than any script has.
 const MOST_BYTES: usize = 1 << 24;
@@ -29,7 +36,7 @@ pub fn check_all(alloc: Global, rows: &[Row]) -> Result<(), Fail> {
 pub fn check(alloc: Global, row: &Row, fails: &[u64]) -> Result<(), Fail> {
     let script = script_of(alloc, row.script)?;
     let output = output_of(alloc, row.output)?;
-    let (end, sink) = run(alloc, row.limits, row.devices, row.policy, &script, fails)?;
+    let (end, sink) = run(alloc, row.devices, row.policy, &script, fails)?;
     if end == row.end && sink.bytes() == output.as_bytes() {
         return Ok(());
     }
@@ -57,7 +64,6 @@ fn push_run(told: &mut String, row: &Row, end: SimEnd, bytes: &[u8]) -> Result<(
 /// Runs a script, where the writes of these numbers fail.
 pub fn run(
     alloc: Global,
-    limits: Limits,
     devices: Devices,
     policy: &str,
     script: &str,
@@ -65,9 +71,6 @@ pub fn run(
 ) -> Result<(SimEnd, MemSink), Fail> {
     let Ok(policy) = read_policy(alloc, policy.as_bytes()) else {
         return Err(Fail::from("a policy"));
-    };
-    let Some(settings) = settings_of(limits) else {
-        return Err(Fail::from("limits"));
     };
     let script = script.as_bytes();
     if script.len() > MOST_BYTES {
@@ -81,14 +84,12 @@ pub fn run(
                 &mut boxes,
                 Box::new(alloc, orderly(alloc, n, room))?,
             )?,
-            Kind::Backward(n) => push_idle(&mut boxes, Box::new(alloc, backward(alloc, n))?)?,
-            Kind::Logged(n) => push_idle(&mut boxes, Box::new(alloc, logged(alloc, n))?)?,
             Kind::Failing(call) => push_idle(&mut boxes, Box::new(alloc, failing(alloc, call)?)?)?,
         }
     }
     let mut sink = MemSink::new(Vec::from_slice(alloc, fails)?);
     let end = run_sim(
-        alloc, policy, script, FIRST, settings, &mut boxes, &mut sink,
+        alloc, policy, script, FIRST, SETTINGS, &mut boxes, &mut sink,
     );
     Ok((end, sink))
 }
@@ -101,26 +102,4 @@ fn push_idle<D: Device>(all: &mut Vec<D>, device: D) -> Result<(), AllocError>
 {
     all.push(device)?;
     Ok(())
-}
-
-// The settings with these limits, where they are in range.
-fn settings_of(limits: Limits) -> Option<Settings>
-    ensures { IfSome result AreInRange }
-{
-    let usual = Settings {
-        capacity: 1024,
-        levels: 32_768,
-        budget: 4096,
-        workers: 0,
-    };
-    match limits {
-        Limits::Usual => Some(usual),
-        Limits::Capacity(capacity) => Some(Settings {
-            capacity: capacity as u32,
-            ..usual
-        }),
-        Limits::Levels(levels @ 1..=65_000) => Some(Settings { levels, ..usual }),
-        Limits::Budget(budget @ 1..=65_536) => Some(Settings { budget, ..usual }),
-        _ => None,
-    }
 }

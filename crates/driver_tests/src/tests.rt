@@ -1,9 +1,7 @@
 // Runs of scripts over the machine and devices.
 use crate::devices::Devices;
 use crate::more_rows::{HIT, faults, fronts, places};
-use crate::rows::{
-    BOOT, BOOTED, Limits, Row, SSH, USUAL_DEVICES, limited, networks, refusals, updates,
-};
+use crate::rows::{BOOT, BOOTED, Row, SSH, USUAL_DEVICES, refusals};
 use crate::runs::{check, check_all, run};
 use crate::texts::repeated;
 use report_text::ScriptRefusal;
@@ -15,9 +13,6 @@ use std::test::Fail;
 #[test]
 fn runs(rt: HostRuntime) -> Result<(), Fail> {
     let alloc = rt.alloc();
-    check_all(alloc, updates())?;
-    check_all(alloc, limited())?;
-    check_all(alloc, networks())?;
     check_all(alloc, refusals())?;
     check_all(alloc, places())?;
     check_faults(alloc)?;
@@ -47,7 +42,6 @@ fn check_hit(
     fails: &[u64],
 ) -> Result<(), Fail> {
     let row = Row {
-        limits: Limits::Usual,
         devices,
         policy: SSH,
         script: HIT,
@@ -68,7 +62,7 @@ fn check_many(rt: &impl Abort, alloc: Global, packets: u32, settled: &str) -> Re
     }
     output.push_str(settled)?;
     let policy = "policy { out 2; }";
-    let (end, sink) = run(alloc, Limits::Usual, USUAL_DEVICES, policy, &script, &[])?;
+    let (end, sink) = run(alloc, USUAL_DEVICES, policy, &script, &[])?;
     assert_eq!(rt; end, SimEnd::Done);
     assert!(rt; sink.bytes() == output.as_bytes(), "{packets} packets");
     Ok(())
@@ -92,7 +86,7 @@ fn check_full(rt: &impl Abort, alloc: Global) -> Result<(), Fail> {
     script.push_str("plug 65\nplug 65\npacket 65 1\nunplug 1\nplug 65\n")?;
     output.push_str("closed c65 full\ngone c65\nabsent c65\nclosed c1 link\ngone c65\n")?;
     let devices = Devices::Drawing(65);
-    let (end, sink) = run(alloc, Limits::Usual, devices, SSH, &script, &[])?;
+    let (end, sink) = run(alloc, devices, SSH, &script, &[])?;
     assert_eq!(rt; end, SimEnd::Done);
     assert_eq!(rt; sink.bytes(), output.as_bytes());
     Ok(())
@@ -101,11 +95,11 @@ fn check_full(rt: &impl Abort, alloc: Global) -> Result<(), Fail> {
 // A comment of the greatest length, and one that is too long.
 fn check_long_lines(rt: &impl Abort, alloc: Global) -> Result<(), Fail> {
     let script = repeated(alloc, "plug 1\n#", "x", 8191, "\nplug 2\n")?;
-    let (end, sink) = run(alloc, Limits::Usual, USUAL_DEVICES, SSH, &script, &[])?;
+    let (end, sink) = run(alloc, USUAL_DEVICES, SSH, &script, &[])?;
     assert_eq!(rt; end, SimEnd::Done);
     assert_eq!(rt; sink.bytes(), b"open c1\nopen c2\n".as_slice());
     let script = repeated(alloc, "plug 1\n#", "x", 8192, "\nplug 2\n")?;
-    let (end, sink) = run(alloc, Limits::Usual, USUAL_DEVICES, SSH, &script, &[])?;
+    let (end, sink) = run(alloc, USUAL_DEVICES, SSH, &script, &[])?;
     let refused = SimEnd::Script {
         line: 4,
         kind: ScriptRefusal::TooLong,

@@ -5,7 +5,7 @@ ghost use Rattle.maple_base.specs.PolicyFaults.{fault_numbered};
 
 use machine_steps::Note;
 use maple_base::{PolicyFault, Seen};
-use report_text::{Line, PolicyRefusal, ScriptRefusal};
+use report_text::{Line, ScriptRefusal};
 
 /// The line of a note, if it has one.
 pub fn line_of(note: &Note) -> Option<Line>
@@ -60,7 +60,7 @@ fn policy_line(line: u32, column: u32, kind: u8) -> Option<Line>
         Some(fault) => Some(Line::RefusedPolicy {
             line,
             column,
-            kind: PolicyRefusal::Fault(fault),
+            kind: fault,
         }),
     }
 }

@@ -55,7 +55,6 @@ use Rattle.tree_prune.specs.Stale.{stale_in}
 use Rattle.priority_plan.specs.Rules.{rules_of}
 use Rattle.report_text.specs.declared.line.Line.{Line}
 use Rattle.report_text.specs.declared.line.Line.TheVariants as lines
-use Rattle.report_text.specs.declared.line.PolicyRefusal.TheVariants.{Fault as PolicyFaulty}
 use Rattle.report_text.specs.declared.line.ScriptRefusal.{ScriptRefusal}
 use Rattle.report_text.specs.declared.line.ScriptRefusal.TheVariants.{Grammar, TooLong, Switch as NoSwitch}
 use Rattle.report_text.specs.Report.{spelled}
@@ -423,7 +422,7 @@ seen_lines device port seen = []
 
 abbrev pub policy_lines : ℕ → ℕ → Option PolicyFault → List Line
 policy_lines line column None = []
-policy_lines line column (Some fault) = lines.RefusedPolicy line column (PolicyFaulty fault) ∷ []
+policy_lines line column (Some fault) = lines.RefusedPolicy line column fault ∷ []
 
 abbrev pub script_refusal : ℕ → Option ScriptRefusal
 script_refusal n = if n == 1 then Some Grammar else (if n == 2 then Some TooLong else (if n == 3 then Some NoSwitch else None))

@@ -88,26 +88,20 @@ of_options (w ∷ v ∷ ws) c h = of_first (setting_given w) (setting_named w) v
 of_chosen : (c : Chosen) → AreIn c → IsCommand (Sim (settings_of c))
 of_chosen c h =
     record {
-      budget = record { some = budget_some c.budget h.budget; few = budget_few c.budget h.budget };
-      capacity = capacity_few c.capacity h.capacity;
-      levels = levels_few c.levels h.levels;
+      some_budget = some_of 4096 c.budget 65536 (omega arith) h.budget;
+      budget = few_of 4096 c.budget 65536 (omega arith) h.budget;
+      capacity = few_of 1024 c.capacity 65535 (omega arith) h.capacity;
+      some_levels = some_of 32768 c.levels 65000 (omega arith) h.levels;
+      levels = few_of 32768 c.levels 65000 (omega arith) h.levels;
     }
   where
-    budget_some : (o : Option ℕ) → IsIn 65536 o → 1 ≤ unwrap_or o 4096
-    budget_some None h = omega arith
-    budget_some (Some n) h = h.some
+    some_of : (usual : ℕ) (o : Option ℕ) (most : ℕ) → 1 ≤ usual → IsIn most o → 1 ≤ unwrap_or o usual
+    some_of usual None most u h = u
+    some_of usual (Some n) most u h = h.some
 
-    budget_few : (o : Option ℕ) → IsIn 65536 o → unwrap_or o 4096 ≤ 65536
-    budget_few None h = omega arith
-    budget_few (Some n) h = h.few
-
-    capacity_few : (o : Option ℕ) → IsIn 65535 o → unwrap_or o 1024 ≤ 65535
-    capacity_few None h = omega arith
-    capacity_few (Some n) h = h.few
-
-    levels_few : (o : Option ℕ) → IsIn 65000 o → unwrap_or o 32768 ≤ 65000
-    levels_few None h = omega arith
-    levels_few (Some n) h = h.few
+    few_of : (usual : ℕ) (o : Option ℕ) (most : ℕ) → usual ≤ most → IsIn most o → unwrap_or o usual ≤ most
+    few_of usual None most u h = u
+    few_of usual (Some n) most u h = h.few
 
 of_sim : (o : Option Chosen) → IfSome o AreIn → IfSome (option_map (λ c. Sim (settings_of c)) o) IsCommand
 of_sim None h = tt

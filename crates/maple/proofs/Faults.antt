@@ -6,7 +6,6 @@ use Rattle.maple_base.proofs.FaultNumbers.{numbered_back}
 use Rattle.policy_text.specs.declared.reading.ReadError.TheVariants.{Refused}
 use Rattle.policy_text.specs.Texts.{IsRefused}
 use Rattle.report_text.specs.declared.line.Line.TheVariants.{RefusedPolicy}
-use Rattle.report_text.specs.declared.line.PolicyRefusal.TheVariants.{Fault}
 use Rattle.maple.specs.Refusals.{IsRefusal}
 
 -- the number that is told is that of a fault
@@ -28,5 +27,5 @@ no_other text line column kind r n =
     let back : None ≡ Some f = n ∙ ap fault_numbered e ∙ numbered_back f in cc
 
 -- what the reader tells of a text is its refusal
-pub refusal_is : (text : List ℕ) (line column kind : ℕ) (fault : PolicyFault) → IsRefused text (Refused line column kind) → Some fault ≡ fault_numbered kind → IsRefusal text (RefusedPolicy line column (Fault fault))
+pub refusal_is : (text : List ℕ) (line column kind : ℕ) (fault : PolicyFault) → IsRefused text (Refused line column kind) → Some fault ≡ fault_numbered kind → IsRefusal text (RefusedPolicy line column fault)
 refusal_is text line column kind fault r n = (line, column, fault, subst (λ k. IsRefused text (Refused line column k)) (fault_is text line column kind fault r n) r, refl)

@@ -1,11 +1,8 @@
 pub mod Budgets
 pub mod Commands
-pub mod Deeds
 pub mod Endings
 pub mod Faults
-pub mod FirstLines
 pub mod Known
-pub mod Marks
 pub mod OptionWords
 pub mod Prefixes
 pub mod Runs

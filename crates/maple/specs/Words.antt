@@ -1,12 +1,12 @@
--- The words of a command line: `sim` and its options, or `check` alone. An option is two words, `--name value`, or one, `--name=value`; each stands at most once, in any order.
+-- The words of a command line: `sim` and its options, or `check` alone. An option is two words, `--name value`, or one, `--name=value`; each stands at most
+-- once, in any order.
 use Rattle.std.specs.Prelude.{ℕ, ◌&&◌, ◌==◌, nat_le, if◌then◌else◌, List, [], ◌∷◌, length, Option, Some, None, unwrap_or, codes}
 use Rattle.std.specs.Option.{option_and_then, option_map}
 use Rattle.std.specs.Str.{bytes_eq}
 use Rattle.maple_base.specs.Limits.{most_budget}
 use Rattle.maple_text.specs.Numbers.{number_of}
-use Rattle.plain_world.specs.declared.settings.Settings.{Settings}
-use Rattle.plain_world.specs.Bounding.{bounds_of}
-use Rattle.plain_world.specs.Knowing.{AreBounds}
+use Rattle.maple_base.specs.declared.decision.Settings.{Settings}
+use Rattle.machine_steps.specs.Sound.{AreInRange}
 use Rattle.maple.specs.declared.words.Command.{Command}
 use Rattle.maple.specs.declared.words.Command.TheVariants.{Sim, Check}
 use Rattle.maple.specs.declared.words.Setting.{Setting}
@@ -65,7 +65,8 @@ first_of s None others = others
 -- the setting that a word names, with the value behind `=`
 abbrev pub setting_given : List ℕ → Option (Setting × List ℕ)
 setting_given word =
-    first_of Budget (behind_text (codes "--budget=") word) (first_of Capacity (behind_text (codes "--capacity=") word) (first_of Levels (behind_text (codes "--levels=") word) None))
+    first_of Budget (behind_text (codes "--budget=") word)
+    (first_of Capacity (behind_text (codes "--capacity=") word) (first_of Levels (behind_text (codes "--levels=") word) None))
 
 -- the last word is an option with its value behind `=`
 abbrev pub option_last : Option (Setting × List ℕ) → Chosen → Option Chosen
@@ -73,7 +74,8 @@ option_last (Some (s, value)) c = with_setting s value c
 option_last None c = None
 
 -- an option of one word, with those of the words behind it, or one of two words, with those of the words behind the second
-abbrev pub option_first : Option (Setting × List ℕ) → Option Setting → List ℕ → Chosen → (Chosen → Option Chosen) → (Chosen → Option Chosen) → Option Chosen
+abbrev pub option_first : Option (Setting × List ℕ) → Option Setting → List ℕ → Chosen → (Chosen → Option Chosen) → (Chosen → Option Chosen)
+    → Option Chosen
 option_first (Some (s, value)) name word c behind_one behind_two = option_and_then behind_one (with_setting s value c)
 option_first None (Some s) word c behind_one behind_two = option_and_then behind_two (with_setting s word c)
 option_first None None word c behind_one behind_two = None
@@ -87,9 +89,10 @@ options (w ∷ v ∷ ws) c = option_first (setting_given w) (setting_named w) v 
 abbrev pub none_chosen : Chosen
 none_chosen = record { budget = None; capacity = None; levels = None }
 
--- a setting that isn't chosen is its default
+-- a setting that isn't chosen is its default; no thread works besides the driver
 abbrev pub settings_of : Chosen → Settings
-settings_of c = record { budget = unwrap_or c.budget 4096; capacity = unwrap_or c.capacity 1024; levels = unwrap_or c.levels 32768 }
+settings_of c =
+    record { capacity = unwrap_or c.capacity 1024; levels = unwrap_or c.levels 32768; budget = unwrap_or c.budget 4096; workers = 0 }
 
 -- `check` has no options
 abbrev pub check_alone : List (List ℕ) → Option Command
@@ -99,9 +102,11 @@ check_alone ws = None
 -- the command that these words give, where they are in the grammar
 abbrev pub command_of : List (List ℕ) → Option Command
 command_of [] = None
-command_of (w ∷ ws) = if bytes_eq w (codes "sim") then option_map (λ c. Sim (settings_of c)) (options ws none_chosen) else (if bytes_eq w (codes "check") then check_alone ws else None)
+command_of (w ∷ ws) =
+    if bytes_eq w (codes "sim") then option_map (λ c. Sim (settings_of c)) (options ws none_chosen)
+    else (if bytes_eq w (codes "check") then check_alone ws else None)
 
 -- the settings of a command are in their ranges
 abbrev pub IsCommand : Command → Type 0
-IsCommand (Sim settings) = AreBounds (bounds_of settings)
+IsCommand (Sim settings) = AreInRange settings
 IsCommand Check = Unit {0}

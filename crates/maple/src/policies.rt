@@ -13,7 +13,7 @@ use maple_base::PolicyFault;
 use maple_io::Sink;
 use policy_lang::Policy;
 use policy_text::{ReadError, print_policy, read_policy};
-use report_text::{Line, PolicyRefusal, write_line};
+use report_text::{Line, write_line};
 use std::alloc::Global;
 
 /// Writes the printed form of a policy.
@@ -48,7 +48,7 @@ pub fn policy_of(alloc: Global, text: &[u8]) -> Result<Policy, PolicyStop>
             Some(fault) => Err(PolicyStop::Refused(Line::RefusedPolicy {
                 line,
                 column,
-                kind: PolicyRefusal::Fault(fault),
+                kind: fault,
             })),
             // The reader tells no other number.
             None => unreachable!(),

@@ -1,4 +1,5 @@
 // What the runs of `tests` are given, and what has to come of them.
+use crate::devices::Kind;
 
 /// The exit statuses.
 pub const DONE: u8 = 0;
@@ -15,13 +16,27 @@ pub const WRITE_FAULT: u8 = 5;
 
 pub const TOO_LONG: u8 = 7;
 
-/// What a run is given, and what has to come of it. Where no words are told, they are `sim` alone.
+/// Packets for one port are dropped, and all others go out of port 2.
+pub const SSH: &str = "policy { if pkt.tp_dst is 22 { drop; } out 2; }";
+
+/// What a run is given, and what has to come of it. Where no words are told, they are `sim` alone; where
+/// no devices are told, they are those of the program, and where no status is told, it is `DONE`.
 #[derive(Clone, Copy)]
 pub enum Row {
     /// Words, an input, the output and the status.
     Run(&'static [&'static str], &'static str, &'static str, u8),
+    /// A policy, a script and the output, as `texts` has them.
+    Sim(&'static str, &'static str, &'static str),
+    /// Words, and the same.
+    With(&'static [&'static str], &'static str, &'static str, &'static str),
+    /// Devices, and the same.
+    Over(&'static [Kind], &'static str, &'static str, &'static str),
+    /// The same, where a line of the script is refused.
+    Stops(&'static str, &'static str, &'static str),
     /// Words that are refused.
     Usage(&'static [&'static str]),
+    /// Words, and what comes of a packet to port 80 under `SSH`.
+    Web(&'static [&'static str], &'static str),
     /// A policy, and what it decides of a packet at port 1.
     Decision(&'static str, &'static str),
     /// A policy that `sim` and `check` refuse, and where and why.
@@ -40,10 +55,8 @@ pub enum Row {
     Line(&'static str, &'static str),
     /// A frame whose headers can't be read, and the number of its fault.
     Malformed(&'static str, u8),
-    /// So many tests that are all false, and the output of two packets.
-    FalseTests(u32, &'static str),
-    /// So many rounds of an update and ten packets.
-    Rounds(u32),
+    /// Words, so many tests that are all false, and what comes of two packets.
+    FalseTests(&'static [&'static str], u32, &'static str),
     /// One link more than may be known.
     Links,
     /// An input whose second part comes so many times, the output and the status.
@@ -78,33 +91,8 @@ pub fn limits() -> &'static [Row] {
     LIMITS
 }
 
-pub fn whole_runs() -> &'static [Row] {
-    WHOLE_RUNS
-}
-
 const COMMAND_LINES: &[Row] = &[
-    // A miss, an answer and hits.
-    Row::Run(
-        &["sim"],
-        "policy { drop; }",
-        "state 1 pruned 0\nend\n",
-        DONE,
-    ),
-    Row::Run(
-        &["sim"],
-        "policy { out 2; }\n%%\npacket 1 1\npacket 1 1\n",
-        "state 1 pruned 0\nmiss c1 1 0\nanswer s1 1 out 2 learned\nhit c1 1 out 2\nend\n",
-        DONE,
-    ),
-    Row::Run(
-        &["sim"],
-        "policy { drop; }\n%%\npacket 1 007 tp_dst=80\npacket 1 65535 dl_type=2054",
-        "state 1 pruned 0\nmiss c1 7 0\nanswer s1 7 drop learned\nhit c1 65535 drop\nend\n",
-        DONE,
-    ),
-    Row::Run(&["sim"], "", "refused policy 1:1 Syntax\n", POLICY),
     // Words.
-    Row::Usage(&[]),
     Row::Usage(&["simm"]),
     Row::Usage(&["sim", "sim"]),
     Row::Usage(&["--"]),
@@ -150,44 +138,19 @@ const COMMAND_LINES: &[Row] = &[
     Row::Usage(&["check", "--levels=4"]),
     Row::Usage(&["--capacity=4", "sim"]),
     // Budgets: a packet to port 80 takes 5 steps, and one to port 22 takes 4.
-    Row::Run(&["sim", "--budget", "4"], TO_PORT_80, SPENT, DONE),
-    Row::Run(&["sim", "--budget=4"], TO_PORT_80, SPENT, DONE),
-    Row::Run(&["sim", "--budget", "00004"], TO_PORT_80, SPENT, DONE),
-    Row::Run(
-        &["sim", "--budget=00000000000000000004"],
-        TO_PORT_80,
-        SPENT,
-        DONE,
-    ),
-    Row::Run(&["sim", "--budget=1"], TO_PORT_80, SPENT, DONE),
-    Row::Run(&["sim", "--budget", "5"], TO_PORT_80, ANSWERED, DONE),
-    Row::Run(&["sim", "--budget=5"], TO_PORT_80, ANSWERED, DONE),
-    Row::Run(&["sim", "--budget", "65536"], TO_PORT_80, ANSWERED, DONE),
-    Row::Run(&["sim"], TO_PORT_80, ANSWERED, DONE),
+    Row::Web(&["sim", "--budget=4"], "spent s1 1"),
+    Row::Web(&["sim", "--budget", "00004"], "spent s1 1"),
+    Row::Web(&["sim", "--budget=00000000000000000004"], "spent s1 1"),
+    Row::Web(&["sim", "--budget=1"], "spent s1 1"),
+    Row::Web(&["sim", "--budget=5"], "answer s1 1 out 2 learned"),
+    Row::Web(&["sim", "--budget=65536"], "answer s1 1 out 2 learned"),
     // Of a run that was spent nothing is learned; what was learned stays.
-    Row::Run(
-        &["sim", "--budget", "4"],
-        "policy { if pkt.tp_dst is 22 { drop; } out 2; }
-%%
-packet 1 1 tp_dst=80
-packet 1 1 tp_dst=80
-packet 1 1 tp_dst=22
-packet 1 9 tp_dst=80
-packet 1 1 tp_dst=22
-",
-        "state 1 pruned 0
-miss c1 1 0
-spent s1 1
-miss c1 1 0
-spent s1 1
-miss c1 1 0
-answer s1 1 drop learned
-miss c1 9 0
-spent s1 9
-hit c1 1 drop
-end
-",
-        DONE,
+    Row::With(
+        &["sim", "--budget=4"],
+        SSH,
+        "boot / packet 1 1 tp_dst=80 / packet 1 1 tp_dst=80 / packet 1 1 tp_dst=22 / settle / packet 1 9 tp_dst=80 / packet 1 1 tp_dst=22",
+        "boot / miss c1 1 0 / spent s1 1 / miss c1 1 0 / spent s1 1 / miss c1 1 0 / answer s1 1 drop learned / settled 2 / \
+miss c1 9 0 / spent s1 9 / hit c1 1 drop / end",
     ),
 ];
 
@@ -201,6 +164,11 @@ const SCRIPT_LINES: &[Row] = &[
     Row::Packet("packet 01 0x1 nw_proto=17 tp_src=65535 tp_dst=053"),
     Row::Packet("packet 1 1 nw_proto=1 tp_src=255 tp_dst=0"),
     Row::Packet("packet 1 1 nw_proto=2 nw_dst=10.0.0.1 dl_dst=02:00:00:00:00:09"),
+    Row::Sim(
+        "policy { drop; }",
+        "boot / packet 1 007 tp_dst=80 / settle / packet 1 65535 dl_type=2054",
+        "boot / miss c1 7 0 / answer s1 7 drop learned / settled 2 / hit c1 65535 drop / end",
+    ),
     Row::Line("fly 1", "Grammar"),
     Row::Line("packet 1", "Grammar"),
     Row::Line("packet 1 65536", "Grammar"),
@@ -220,63 +188,57 @@ const SCRIPT_LINES: &[Row] = &[
     Row::Line("newpolicy 1", "Grammar"),
     Row::Line("rules", "Grammar"),
     Row::Line("rules 18446744073709551616", "Grammar"),
-    Row::Line("packet 2 1", "Switch"),
+    Row::Line("plug", "Grammar"),
+    Row::Line("unplug -1", "Grammar"),
+    Row::Line("turn 65 100001", "Grammar"),
+    Row::Line("settle 1", "Grammar"),
+    // Places without a device.
+    Row::Line("packet 65 1", "Switch"),
     Row::Line("packet 0 1", "Switch"),
-    Row::Line("frame 65 1 00", "Switch"),
-    Row::Line("plug 1", "Later"),
-    Row::Line("unplug 2", "Later"),
-    Row::Line("turn 1 1", "Later"),
-    Row::Line("settle", "Later"),
+    Row::Line("frame 18446744073709551615 1 00", "Switch"),
+    Row::Line("plug 0", "Switch"),
+    Row::Line("plug 0x41", "Switch"),
+    Row::Line("unplug 65", "Switch"),
+    Row::Line("turn 0 1", "Switch"),
     // A line of 8,192 bytes, and one of a byte more.
     Row::Repeated(
-        "policy { drop; }\n%%\n#",
+        "policy { drop; }\n%%\nplug 1\n#",
         "x",
         8191,
-        "\n",
-        "state 1 pruned 0\nend\n",
+        "\nplug 2\n",
+        "open c1\nopen c2\nend\n",
         DONE,
     ),
     Row::Repeated(
-        "policy { out 2; }\n%%\npacket 1 1\n#",
+        "policy { drop; }\n%%\nplug 1\n#",
         "x",
         8192,
-        "\npacket 1 1\n",
-        "state 1 pruned 0\nmiss c1 1 0\nanswer s1 1 out 2 learned\nrefused script 4 TooLong\n",
+        "\nplug 2\n",
+        "open c1\nrefused script 4 TooLong\n",
         SCRIPT,
     ),
     // The lines of the policy, its end, empty lines and comments have numbers too.
     Row::Run(
         &["sim"],
-        "policy {\n out 2;\n}\n%%\n\n# a comment\npacket 1 1\nfly 1\nfly 2",
-        "state 1 pruned 0\nmiss c1 1 0\nanswer s1 1 out 2 learned\nrefused script 8 Grammar\n",
+        "policy {\n out 2;\n}\n%%\n\n# a comment\nplug 1\nfly 1\nfly 2",
+        "open c1\nrefused script 8 Grammar\n",
         SCRIPT,
     ),
+    // The last line has no line feed.
     Row::Run(
         &["sim"],
-        "policy { drop; }\n%%\nfly 1",
-        "state 1 pruned 0\nrefused script 3 Grammar\n",
-        SCRIPT,
-    ),
-    // A first fragment of a TCP packet to port 22, which has no ports, and the same packet whole.
-    Row::Run(
-        &["sim"],
-        "policy { if pkt.tp_dst is 22 { drop; } out 2; }
-%%
-frame 1 1 02000000000202000000000108004500002800002000400600000a0000010a00000204d20016
-",
-        "state 1 pruned 0\nmiss c1 1 0\nanswer s1 1 out 2 learned\nend\n",
+        "policy { drop; }\n%%\nplug 01\nunplug 0x1",
+        "open c1\nclosed c1 link\nend\n",
         DONE,
     ),
+    // A run ends at `quit`, whatever stands behind it.
     Row::Run(
         &["sim"],
-        "policy { if pkt.tp_dst is 22 { drop; } out 2; }
-%%
-frame 1 1 02000000000202000000000108004500002800000000400600000a0000010a00000204d20016
-packet 1 1 dl_dst=02:00:00:00:00:02 tp_dst=22
-",
-        "state 1 pruned 0\nmiss c1 1 0\nanswer s1 1 drop learned\nhit c1 1 drop\nend\n",
+        "policy { drop; }\n%%\nplug 1\nquit\nplug 2\nfly 1\n",
+        "open c1\nend\n",
         DONE,
     ),
+    Row::Run(&["sim"], "policy { drop; }\n%%\nquit", "end\n", DONE),
     // A frame cut short in each header.
     Row::Malformed("00", 1),
     Row::Malformed("0200000000020200000000018100", 2),
@@ -306,8 +268,8 @@ const POLICIES: &[Row] = &[
     Row::Decision("policy { out 0002; } # end", "out 2"),
     Row::Decision("policy { out 0x2; }", "out 2"),
     Row::Decision("policy { out (2); }", "out 2"),
-    Row::Refused("policy { out x; }", "1:14 UnknownName"),
-    Row::Refused("policy { if 1 { drop; } }", "1:13 TypeMismatch"),
+    Row::Refused("policy { drop; out x; }", "1:20 UnknownName"),
+    Row::Refused("policy { if (1) { drop; } }", "1:13 TypeMismatch"),
     Row::Refused("policy { if pkt.dl_pcp is 1 { drop; } }", "1:13 Token"),
     Row::Refused("policy { if pkt.tp_dst is 22 drop; }", "1:30 Syntax"),
     Row::Refused("policy { out 18446744073709551616; }", "1:14 NumberRange"),
@@ -496,14 +458,7 @@ const EXPRESSIONS: &[Row] = &[
 
 const LIMITS: &[Row] = &[
     // Limits of a policy: 4,096 nodes and one more, 65,536 bytes and one more, and of its form.
-    Row::Repeated(
-        "policy {",
-        " out 1;",
-        2048,
-        " }",
-        "state 1 pruned 0\nend\n",
-        DONE,
-    ),
+    Row::Repeated("policy {", " out 1;", 2048, " }", "end\n", DONE),
     Row::Repeated(
         "policy {",
         " out 1;",
@@ -512,14 +467,7 @@ const LIMITS: &[Row] = &[
         "refused policy 1:14346 Nodes\n",
         POLICY,
     ),
-    Row::Repeated(
-        "policy { drop; }",
-        " ",
-        65_520,
-        "",
-        "state 1 pruned 0\nend\n",
-        DONE,
-    ),
+    Row::Repeated("policy { drop; }", " ", 65_520, "", "end\n", DONE),
     Row::Repeated(
         "policy { drop; }",
         " ",
@@ -529,213 +477,22 @@ const LIMITS: &[Row] = &[
         POLICY,
     ),
     Row::Deep,
-    // A tree that needs 1,024 rules, and one that needs one more.
+    // A tree that needs 1,024 rules and as many levels, and a rule or a level too many.
     Row::FalseTests(
+        &["sim"],
         1023,
-        "state 1 pruned 0\nmiss c1 1 0\nanswer s1 1 out 2 learned\nhit c1 1 out 2\nend\n",
+        "answer s1 1 out 2 learned / settled 1027 / hit c1 1 out 2",
     ),
     Row::FalseTests(
+        &["sim"],
         1024,
-        "state 1 pruned 0\nmiss c1 1 0\nanswer s1 1 out 2 unlearned rows 1025 1024\nmiss c1 1 0\nanswer s1 1 out 2 unlearned rows 1025 1024\nend\n",
+        "answer s1 1 out 2 unlearned rows 1025 1024 / settled 1 / miss c1 1 0 / answer s1 1 out 2 unlearned rows 1025 1024",
     ),
-];
-
-const WHOLE_RUNS: &[Row] = &[
-    // Tests of all fields, chained and nested. The first packet fails them all; a later one misses for
-    // reason 1 where it leaves the path of that packet at a test, and for 0 where it does at a read.
-    Row::Run(
-        &["sim"],
-        "policy {
-  if pkt.in_port is 9 { out 109; }
-  if pkt.dl_src is 5 { out 101; }
-  if pkt.dl_dst is 6 { out 102; }
-  if pkt.dl_vlan is 7 { out 103; }
-  if pkt.dl_type is 2054 { out 104; }
-  if pkt.nw_tos is 4 { out 105; }
-  if pkt.nw_proto is 6 { if pkt.tp_dst is 22 { drop; } if pkt.tp_src is 1000 { out 106; } }
-  if pkt.nw_src is 1 { if pkt.nw_dst is 2 { out 107; } }
-  out 2;
-}
-%%
-packet 1 1 nw_proto=17 tp_dst=80 nw_src=3
-packet 1 1 nw_proto=17 tp_dst=80 nw_src=3
-packet 1 9 nw_proto=17 tp_dst=80 nw_src=3
-packet 1 9 nw_proto=17 tp_dst=80 nw_src=3
-packet 1 1 dl_src=5
-packet 1 1 dl_src=5
-packet 1 1 dl_dst=6
-packet 1 1 dl_dst=6
-packet 1 1 dl_vlan=7
-packet 1 1 dl_vlan=7
-packet 1 1 dl_type=2054
-packet 1 1 dl_type=2054
-packet 1 1 nw_tos=4 nw_proto=17
-packet 1 1 nw_tos=4 nw_proto=17
-packet 1 1 nw_proto=6 tp_dst=22 nw_src=3
-packet 1 1 nw_proto=6 tp_dst=22 nw_src=3
-packet 1 1 nw_proto=6 tp_dst=80 tp_src=1000
-packet 1 1 nw_proto=6 tp_dst=80 tp_src=1000
-packet 1 1 nw_proto=6 tp_dst=80 tp_src=2000 nw_src=3
-packet 1 1 nw_proto=6 tp_dst=80 tp_src=2000 nw_src=3
-packet 1 1 nw_proto=17 nw_src=1 nw_dst=2
-packet 1 1 nw_proto=17 nw_src=1 nw_dst=2
-packet 1 1 nw_proto=17 nw_src=1 nw_dst=3
-packet 1 1 nw_proto=17 nw_src=1 nw_dst=3
-packet 1 1 dl_type=34525
-packet 1 1 dl_type=34525
-packet 1 1 nw_proto=17 tp_dst=80 nw_src=3
-packet 1 9 nw_proto=17 tp_dst=80 nw_src=3
-packet 1 1 dl_src=5
-packet 1 1 dl_dst=6
-packet 1 1 dl_vlan=7
-packet 1 1 dl_type=2054
-packet 1 1 nw_tos=4 nw_proto=17
-packet 1 1 nw_proto=6 tp_dst=22 nw_src=3
-packet 1 1 nw_proto=6 tp_dst=80 tp_src=1000
-packet 1 1 nw_proto=6 tp_dst=80 tp_src=2000 nw_src=3
-packet 1 1 nw_proto=17 nw_src=1 nw_dst=2
-packet 1 1 nw_proto=17 nw_src=1 nw_dst=3
-packet 1 1 dl_type=34525
-",
-        "state 1 pruned 0
-miss c1 1 0
-answer s1 1 out 2 learned
-hit c1 1 out 2
-miss c1 9 1
-answer s1 9 out 109 learned
-hit c1 9 out 109
-miss c1 1 1
-answer s1 1 out 101 learned
-hit c1 1 out 101
-miss c1 1 1
-answer s1 1 out 102 learned
-hit c1 1 out 102
-miss c1 1 1
-answer s1 1 out 103 learned
-hit c1 1 out 103
-miss c1 1 1
-answer s1 1 out 104 learned
-hit c1 1 out 104
-miss c1 1 1
-answer s1 1 out 105 learned
-hit c1 1 out 105
-miss c1 1 1
-answer s1 1 drop learned
-hit c1 1 drop
-miss c1 1 1
-answer s1 1 out 106 learned
-hit c1 1 out 106
-miss c1 1 1
-answer s1 1 out 2 learned
-hit c1 1 out 2
-miss c1 1 1
-answer s1 1 out 107 learned
-hit c1 1 out 107
-miss c1 1 1
-answer s1 1 out 2 learned
-hit c1 1 out 2
-miss c1 1 0
-answer s1 1 out 2 learned
-hit c1 1 out 2
-hit c1 1 out 2
-hit c1 9 out 109
-hit c1 1 out 101
-hit c1 1 out 102
-hit c1 1 out 103
-hit c1 1 out 104
-hit c1 1 out 105
-hit c1 1 drop
-hit c1 1 out 106
-hit c1 1 out 2
-hit c1 1 out 107
-hit c1 1 out 2
-hit c1 1 out 2
-end
-",
-        DONE,
+    Row::FalseTests(
+        &["sim", "--levels=1023"],
+        1023,
+        "answer s1 1 out 2 unlearned levels 1024 1023 / settled 1 / miss c1 1 0 / answer s1 1 out 2 unlearned levels 1024 1023",
     ),
-    // The files of the folder `examples`.
-    Row::Run(
-        &["sim"],
-        "policy { if pkt.tp_dst is 80 { out 2; } drop; }
-%%
-packet 1 1 tp_dst=80
-packet 1 1 tp_dst=80
-packet 1 3 tp_dst=443
-packet 1 3 tp_dst=22
-packet 1 3 tp_dst=80
-",
-        "state 1 pruned 0
-miss c1 1 0
-answer s1 1 out 2 learned
-hit c1 1 out 2
-miss c1 3 0
-answer s1 3 drop learned
-hit c1 3 drop
-hit c1 3 out 2
-end
-",
-        DONE,
-    ),
-    Row::Run(
-        &["sim"],
-        "policy { if pkt.tp_dst is 22 { drop; } out 2; }
-%%
-# A first fragment of a TCP packet to port 22: it has no ports.
-frame 1 1 02000000000202000000000108004500002800002000400600000a0000010a00000204d20016
-# The same packet whole.
-frame 1 1 02000000000202000000000108004500002800000000400600000a0000010a00000204d20016
-# Its first 33 bytes: the IP header is cut short.
-frame 1 1 02000000000202000000000108004500002800000000400600000a0000010a0000
-packet 1 1 tp_dst=22
-",
-        "state 1 pruned 0
-miss c1 1 0
-answer s1 1 out 2 learned
-miss c1 1 1
-answer s1 1 drop learned
-miss c1 1 0
-malformed c1 3
-hit c1 1 drop
-end
-",
-        DONE,
-    ),
-    Row::Run(
-        &["check"],
-        "# SSH is closed but at switch 1; known hosts get their packets along shortest ways.
-table seen;
-policy learning {
-  if pkt.tp_dst is 0x16 and (not (pkt.switch == 1)) { drop; }
-  if seen[pkt.nw_src] as port { if up(pkt.switch, port) { out port, (port + 1); } }
-  if host(pkt.dl_dst) as to { route to; } else { flood; } # to all else
-}
-",
-        "table seen;
-policy learning {
-  if pkt.tp_dst is 22 and not pkt.switch == 1 {
-    drop;
-  }
-  if seen[pkt.nw_src] as port {
-    if up(pkt.switch, port) {
-      out port, port + 1;
-    }
-  }
-  if host(pkt.dl_dst) as to {
-    route to;
-  } else {
-    flood;
-  }
-}
-",
-        DONE,
-    ),
+    Row::Links,
     Row::Endless,
 ];
-
-const TO_PORT_80: &str =
-    "policy { if pkt.tp_dst is 22 { drop; } out 2; }\n%%\npacket 1 1 tp_dst=80\n";
-
-const SPENT: &str = "state 1 pruned 0\nmiss c1 1 0\nspent s1 1\nend\n";
-
-const ANSWERED: &str = "state 1 pruned 0\nmiss c1 1 0\nanswer s1 1 out 2 learned\nend\n";

@@ -9,9 +9,10 @@ pub enum Status {
     Done,
     /// The words aren't in the grammar.
     Usage,
-    /// The policy is refused: its text is of none, or of one that the command doesn't run yet.
+    /// The policy is refused: its text is of none.
     Policy,
-    /// A line of the script isn't in the grammar.
+    /// A line of the script isn't in the grammar, has more than 8,192 bytes, or names a place without a
+    /// device.
     Script,
     /// A read failed.
     ReadFault,

@@ -4,9 +4,8 @@ ghost use Rattle.std.specs.Option.{option_copied, option_map};
 ghost use Rattle.maple.specs.Words.{behind_text, check_alone, command_of, once, options, setting_given, setting_named, settings_of, value_of, with_setting, within};
 ghost use Rattle.maple.specs.WordViews.{given_of};
 
-use maple_base::{Bytes, MOST_BUDGET, Words};
+use maple_base::{Bytes, MOST_BUDGET, Settings, Words};
 use maple_text::number_of;
-use plain_world::Settings;
 
 /// The most rules of a switch, and of its levels.
 const MOST_CAPACITY: u32 = 65_535;
@@ -79,9 +78,10 @@ fn settings_of(chosen: Chosen) -> Settings
     ensures { result ≡ settings_of chosen }
 {
     Settings {
-        budget: chosen.budget.unwrap_or(4_096),
         capacity: chosen.capacity.unwrap_or(1_024),
         levels: chosen.levels.unwrap_or(32_768),
+        budget: chosen.budget.unwrap_or(4_096),
+        workers: 0,
     }
 }
 

@@ -22,10 +22,8 @@ use Rattle.report_text.specs.declared.line.Why.{Why}
 use Rattle.report_text.specs.declared.line.Why.TheVariants.{Bad, Version, Twice, Full, Clear, Early, Xids, Link, Fault}
 use Rattle.report_text.specs.declared.line.Learnt.{Learnt}
 use Rattle.report_text.specs.declared.line.Learnt.TheVariants.{Learned, Known, Levels, Rows, Quiet as quiet}
-use Rattle.report_text.specs.declared.line.PolicyRefusal.{PolicyRefusal}
-use Rattle.report_text.specs.declared.line.PolicyRefusal.TheVariants.{Fault as policy_fault, Later}
 use Rattle.report_text.specs.declared.line.ScriptRefusal.{ScriptRefusal}
-use Rattle.report_text.specs.declared.line.ScriptRefusal.TheVariants.{Grammar, TooLong, Switch, Later as later}
+use Rattle.report_text.specs.declared.line.ScriptRefusal.TheVariants.{Grammar, TooLong, Switch}
 
 -- one text and then another
 infixr 8 ◌&◌
@@ -129,15 +127,10 @@ spelled_update UnknownSwitch = codes "UnknownSwitch"
 spelled_update PortRange = codes "PortRange"
 spelled_update (full count limit) = codes "Full " & decimal count & codes " " & decimal limit
 
-unfoldable pub spelled_policy : PolicyRefusal → List ℕ
-spelled_policy (policy_fault fault) = fault_name fault
-spelled_policy Later = codes "Later"
-
 unfoldable pub spelled_script : ScriptRefusal → List ℕ
 spelled_script Grammar = codes "Grammar"
 spelled_script TooLong = codes "TooLong"
 spelled_script Switch = codes "Switch"
-spelled_script later = codes "Later"
 
 -- a line, with its line feed
 abbrev pub spelled : Line → List ℕ
@@ -146,7 +139,7 @@ spelled (Closed c why) = codes "closed c" & decimal c & codes " " & spelled_why 
 spelled (Ready c s) = codes "ready c" & decimal c & codes " s" & decimal s & codes "\n"
 spelled (State n pruned) = codes "state " & decimal n & codes " pruned " & decimal pruned & codes "\n"
 spelled (RefusedUpdate kind) = codes "refused update " & spelled_update kind & codes "\n"
-spelled (RefusedPolicy l c kind) = codes "refused policy " & decimal l & codes ":" & decimal c & codes " " & spelled_policy kind & codes "\n"
+spelled (RefusedPolicy l c kind) = codes "refused policy " & decimal l & codes ":" & decimal c & codes " " & fault_name kind & codes "\n"
 spelled (RefusedScript l kind) = codes "refused script " & decimal l & codes " " & spelled_script kind & codes "\n"
 spelled (Error c kind code) = codes "error c" & decimal c & codes " " & decimal kind & codes " " & decimal code & codes "\n"
 spelled (Quiet s retired) = codes "quiet s" & decimal s & codes " retired " & decimal retired & codes "\n"

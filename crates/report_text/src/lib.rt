@@ -8,5 +8,5 @@ mod sheet;
 mod spelling;
 mod writing;
 
-pub use line::{Learnt, Line, PolicyRefusal, SHORT_LINE, ScriptRefusal, Why};
+pub use line::{Learnt, Line, SHORT_LINE, ScriptRefusal, Why};
 pub use writing::{line_len, write_line};

@@ -32,7 +32,7 @@ pub enum Line {
     RefusedPolicy {
         line: u32,
         column: u32,
-        kind: PolicyRefusal,
+        kind: PolicyFault,
     },
     /// `refused script L KIND`: a fault of a script at this line, from 1 on.
     RefusedScript {
@@ -162,15 +162,6 @@ pub enum Why {
     Fault,
 }
 
-/// Why the text of a policy was refused.
-#[derive(Clone, Copy, Debug, PartialEq, Eq)]
-pub enum PolicyRefusal {
-    /// A fault of the text.
-    Fault(PolicyFault),
-    /// What this program can't do yet.
-    Later,
-}
-
 /// Why a line of a script was refused.
 #[derive(Clone, Copy, Debug, PartialEq, Eq)]
 pub enum ScriptRefusal {
@@ -180,8 +171,6 @@ pub enum ScriptRefusal {
     TooLong,
     /// It names a place that isn't among the devices.
     Switch,
-    /// What this program can't do yet.
-    Later,
 }
 
 /// What was learned from a packet.

@@ -1,10 +1,10 @@
 // The spelling of each line.
 ghost use Rattle.std.specs.Prelude.{◌≡◌, ◌≤◌, ◌++◌, [], true, length, map, decimal, codes};
 ghost use Rattle.maple_base.specs.PolicyFaults.{fault_name};
-ghost use Rattle.report_text.specs.Report.{◌&◌, behind, joined, spelled_match, spelled_port, spelled_actions, spelled_hop, spelled_decision, spelled_learnt, spelled_script, spelled_policy, spelled};
+ghost use Rattle.report_text.specs.Report.{◌&◌, behind, joined, spelled_match, spelled_port, spelled_actions, spelled_hop, spelled_decision, spelled_learnt, spelled_script, spelled};
 ghost use Rattle.report_text.specs.Short.{is_short};
 
-use crate::line::{Learnt, Line, PolicyRefusal, SHORT_LINE, ScriptRefusal, Why};
+use crate::line::{Learnt, Line, SHORT_LINE, ScriptRefusal, Why};
 use crate::match_text::match_text;
 use crate::shapes::{number, one, three, two};
 use crate::sheet::Sheet;
@@ -156,7 +156,7 @@ fn refused_update<S: Sheet>(kind: UpdateRefused, sheet: &mut S)
     }
 }
 
-fn refused_policy<S: Sheet>(line: u32, column: u32, kind: PolicyRefusal, sheet: &mut S)
+fn refused_policy<S: Sheet>(line: u32, column: u32, kind: PolicyFault, sheet: &mut S)
     ensures { S.takes sheet.old (spelled (Line.RefusedPolicy line column kind)) sheet.new }
 {
     two(
@@ -167,18 +167,8 @@ fn refused_policy<S: Sheet>(line: u32, column: u32, kind: PolicyRefusal, sheet: 
         b" ",
         sheet,
     );
-    sheet.text(policy_word(kind));
+    sheet.text(fault_word(kind));
     sheet.text(b"\n");
-}
-
-#[tactic(auto, unfolding(crate::specs::Report::spelled_policy))]
-fn policy_word(kind: PolicyRefusal) -> &'static [u8]
-    ensures { result.now ≡ spelled_policy kind }
-{
-    match kind {
-        PolicyRefusal::Fault(fault) => fault_word(fault),
-        PolicyRefusal::Later => b"Later",
-    }
 }
 
 #[tactic(auto, unfolding(maple_base::specs::PolicyFaults::fault_name))]
@@ -209,7 +199,6 @@ fn refused_script<S: Sheet>(line: u32, kind: ScriptRefusal, sheet: &mut S)
         ScriptRefusal::Grammar => one(head, line, b" Grammar\n", sheet),
         ScriptRefusal::TooLong => one(head, line, b" TooLong\n", sheet),
         ScriptRefusal::Switch => one(head, line, b" Switch\n", sheet),
-        ScriptRefusal::Later => one(head, line, b" Later\n", sheet),
     }
 }
 

@@ -16,6 +16,4 @@ pub use frame::frame_of;
 pub use laws::grammar_laws;
 pub use packet_spec::PacketSpec;
 pub use reading::read_line;
-pub use report_text::{
-    Learnt, Line, PolicyRefusal, SHORT_LINE, ScriptRefusal, Why, line_len, write_line,
-};
+pub use report_text::{Learnt, Line, SHORT_LINE, ScriptRefusal, Why, line_len, write_line};

@@ -1,9 +1,7 @@
 // The room that the lines of reports take: the longest line of each kind.
 use crate::text::match_of;
 use maple_base::{Actions, Decision, Path, Place, PolicyFault, UpdateRefused};
-use script_text::{
-    Learnt, Line, PolicyRefusal, SHORT_LINE, ScriptRefusal, Why, line_len, write_line,
-};
+use script_text::{Learnt, Line, SHORT_LINE, ScriptRefusal, Why, line_len, write_line};
 use std::alloc::Global;
 use std::test::Fail;
 
@@ -168,7 +166,7 @@ const OTHERS: [(Line, usize); 22] = [
         Line::RefusedPolicy {
             line: u32::MAX,
             column: u32::MAX,
-            kind: PolicyRefusal::Fault(PolicyFault::TypeMismatch),
+            kind: PolicyFault::TypeMismatch,
         },
         50,
     ),

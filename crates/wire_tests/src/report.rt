@@ -1,7 +1,7 @@
 // The lines of reports.
 use crate::text::match_of;
 use maple_base::{Actions, Decision, Path, Place, PolicyFault, UpdateRefused};
-use report_text::{Learnt, Line, PolicyRefusal, ScriptRefusal, Why, write_line};
+use report_text::{Learnt, Line, ScriptRefusal, Why, write_line};
 use std::alloc::Global;
 use std::test::Fail;
 
@@ -167,11 +167,11 @@ const CLOSED: [(Line, &str); 9] = [
     ),
 ];
 
-fn refused_rows() -> [(Line, &'static str); 11] {
+fn refused_rows() -> [(Line, &'static str); 10] {
     REFUSED
 }
 
-const REFUSED: [(Line, &str); 11] = [
+const REFUSED: [(Line, &str); 10] = [
     (
         Line::RefusedUpdate {
             kind: UpdateRefused::UnknownTable,
@@ -221,17 +221,10 @@ const REFUSED: [(Line, &str); 11] = [
         "refused script 5 Switch",
     ),
     (
-        Line::RefusedScript {
-            line: 6,
-            kind: ScriptRefusal::Later,
-        },
-        "refused script 6 Later",
-    ),
-    (
         Line::RefusedPolicy {
             line: 1,
             column: 14,
-            kind: PolicyRefusal::Fault(PolicyFault::UnknownName),
+            kind: PolicyFault::UnknownName,
         },
         "refused policy 1:14 UnknownName",
     ),
@@ -239,7 +232,7 @@ const REFUSED: [(Line, &str); 11] = [
         Line::RefusedPolicy {
             line: 1,
             column: 13,
-            kind: PolicyRefusal::Fault(PolicyFault::TypeMismatch),
+            kind: PolicyFault::TypeMismatch,
         },
         "refused policy 1:13 TypeMismatch",
     ),
@@ -247,7 +240,7 @@ const REFUSED: [(Line, &str); 11] = [
         Line::RefusedPolicy {
             line: 1,
             column: 1,
-            kind: PolicyRefusal::Fault(PolicyFault::Syntax),
+            kind: PolicyFault::Syntax,
         },
         "refused policy 1:1 Syntax",
     ),

@@ -1,35 +1,23 @@
-use Rattle.std.proofs.Common.{◌≡◌, ◌++◌, [], refl, ap, ◌∙◌}
-use Rattle.policy_lang.specs.PolicyTree.{policy_tree}
-use Rattle.std.proofs.KnownBytes.{Appends-nil}
-use Rattle.plain_world.specs.Bounding.{bounds_of}
-use Rattle.plain_world.specs.Now.{opening}
-use Rattle.plain_world.specs.Report.{text_of}
-use Rattle.maple.specs.Report.{beginning}
-use Rattle.maple.specs.Lines.{ended_lines}
-use Rattle.maple.proofs.Runs.{ends_run, opens, cut_short}
+use Rattle.std.proofs.Common.{ℕ, ap, ◌∙◌}
+use Rattle.std.specs.Prelude.{Some, None}
+use Rattle.std.proofs.lemmas.List.{length-map}
+use Rattle.script_orders.specs.Lines.{ended_lines}
+use Rattle.script_orders.specs.Orders.{refused_from}
+use Rattle.maple.proofs.Runs.{ended, failed, lacked}
 use Rattle.maple.proofs.sim.run_script.Goals as goal
-
-pub run_lines-requires-clause-known : goal.run_lines-requires-clause-known
-run_lines-requires-clause-known g c = ((beginning (policy_tree c.args.policy)).next, (c.in-Ok-plug_in.ensures (opening (policy_tree c.args.policy)) c.in-Ok.ensures).1)
 
 pub returns-in-Done-clause-runs : goal.returns-in-Done-clause-runs
 returns-in-Done-clause-runs g c =
-    let p = c.in-Ok-plug_in.ensures (opening (policy_tree c.args.policy)) c.in-Ok.ensures in
-    let first = text_of (beginning (policy_tree c.args.policy)).lines in
-    let text : c.deref.result.now ≡ first = c.deref.ensures.value ∙ p.0 ∙ ap (λ b. b ++ first) c.new-text.ensures.items in
-    ends_run (policy_tree c.args.policy) (bounds_of c.args.settings) c.args.first (ended_lines c.args.script.now) (g.O.Sink.tells c.args.output.now) (g.O.Sink.tells c.put_text.new.output) (g.O.Sink.tells c.run_lines.new.output) c.deref.result.now c.run_lines.result text (c.in-Done.ensures.spared (λ e. cc)) c.in-Done.ensures.ends.1 (c.run_lines.ensures.runs (beginning (policy_tree c.args.policy)).next p.1)
+    ended _ _ _ (g.O.Sink.tells c.drive.new.to) _ None c.finish.result (ap (λ (n : ℕ). refused_from n c.args.first (ended_lines c.args.script.now)) (length-map c.args.all.now g.D.Device.meaning) ∙ c.drive.ensures.done c.in-Done.is) (rw c.in-Done.is at c.drive.ensures.ends) (c.drive.ensures.spared (λ e. cc)) c.finish.ensures.ends
 
-pub returns-in_default-put_text-clause-runs : goal.returns-in_default-put_text-clause-runs
-returns-in_default-put_text-clause-runs g c =
-    let p = c.in-Ok-plug_in.ensures (opening (policy_tree c.args.policy)) c.in-Ok.ensures in
-    let first = text_of (beginning (policy_tree c.args.policy)).lines in
-    let text : c.deref.result.now ≡ first = c.deref.ensures.value ∙ p.0 ∙ ap (λ b. b ++ first) c.new-text.ensures.items in
-    cut_short (policy_tree c.args.policy) (bounds_of c.args.settings) c.args.first (ended_lines c.args.script.now) (g.O.Sink.tells c.args.output.now) (g.O.Sink.tells c.put_text.new.output) c.put_text.result c.in_default-put_text.not-Done (rw text at c.put_text.ensures.ends)
+pub returns-in-Script-clause-runs : goal.returns-in-Script-clause-runs
+returns-in-Script-clause-runs g c =
+    ended _ _ _ (g.O.Sink.tells c.drive.new.to) _ (Some (c.in-Script.line, c.in-Script.kind)) c.refuse.result
+    (ap (λ (n : ℕ). refused_from n c.args.first (ended_lines c.args.script.now)) (length-map c.args.all.now g.D.Device.meaning) ∙ rw c.in-Script.is at c.drive.ensures.script) (rw c.in-Script.is at c.drive.ensures.ends) (c.drive.ensures.spared (λ e. cc)) c.refuse.ensures.ends
 
-pub returns-in_default-clause-runs : goal.returns-in_default-clause-runs
-returns-in_default-clause-runs g c =
-    opens (policy_tree c.args.policy) (bounds_of c.args.settings) c.args.first (ended_lines c.args.script.now) (g.O.Sink.tells c.args.output.now) (g.O.Sink.tells c.args.output.now) ([], (_, refl), Appends-nil (g.O.Sink.tells c.args.output.now).taken)
+pub returns-in-WriteFault-clause-runs : goal.returns-in-WriteFault-clause-runs
+returns-in-WriteFault-clause-runs g c =
+    failed _ _ (g.O.Sink.tells c.args.to.now) (g.O.Sink.tells c.drive.new.to) (rw c.in-WriteFault.is at c.drive.ensures.ends) (c.drive.ensures.fault c.in-WriteFault.is)
 
-pub returns-in_default-plug_in-clause-runs : goal.returns-in_default-plug_in-clause-runs
-returns-in_default-plug_in-clause-runs g c =
-    opens (policy_tree c.args.policy) (bounds_of c.args.settings) c.args.first (ended_lines c.args.script.now) (g.O.Sink.tells c.args.output.now) (g.O.Sink.tells c.args.output.now) ([], (_, refl), Appends-nil (g.O.Sink.tells c.args.output.now).taken)
+pub returns-in-NoMemory-clause-runs : goal.returns-in-NoMemory-clause-runs
+returns-in-NoMemory-clause-runs g c = lacked _ _ (g.O.Sink.tells c.args.to.now) (g.O.Sink.tells c.drive.new.to) (rw c.in-NoMemory.is at c.drive.ensures.ends)
