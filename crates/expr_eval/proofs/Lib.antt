@@ -1,3 +1,2 @@
-pub mod Walked
 pub mod Values
-pub mod FirstNumbers
+pub mod Numbers

@@ -6,13 +6,12 @@ use Rattle.maple_base.specs.declared.decision.Outcome.TheVariants.{Spent}
 use Rattle.maple_base.specs.declared.operator.Operator.{Operator}
 use Rattle.question_tree.specs.Asking.{Goes, Ends, Run, gives, ends}
 use Rattle.question_tree.specs.Leads.{Saying, Leads}
-use Rattle.question_tree.proofs.Walks.{leads_end}
+use Rattle.question_tree.proofs.Walks.{leads_next, leads_end}
 use Rattle.policy_lang.specs.Tree.{Term, Single, Call, Is, Not, Pair}
 use Rattle.policy_meaning.specs.Values.{Datum, Truth, Scope, applied}
 use Rattle.policy_meaning.specs.Meaning.{behind_left, value_of}
 use Rattle.policy_data.specs.declared.datum.Datum.{Datum as Kept}
 use Rattle.policy_data.specs.Data.{datum_of, IsSettled, IsMade}
-use Rattle.expr_eval.proofs.Walked.{on_gives}
 
 none_left : (t : Term) (switch : ℕ) (scope : Scope) → value_of t switch scope zero ≡ ends Spent
 none_left (Single x) switch scope = refl
@@ -49,6 +48,6 @@ pub unsettled_gives : {S : Type 0} (said : Saying S) (s : S) (b : Option Bool) (
     → IsSettled None b d → IsMade a b p d e → Leads said s (right left) t (Goes (e, rest)) → Leads said s (behind_left b p d right left) t (Goes (datum_of a, rest))
 unfolding then_applied
 unsettled_gives said s None p d right left t e rest a h m w =
-    on_gives said s (right left) t (e, rest) (then_applied p d) (Goes (datum_of a, rest)) w (ap (λ y. gives (y, rest)) (sym m))
+    leads_next said s (right left) t (e, rest) (then_applied p d) t (Goes (datum_of a, rest)) w (refl, ap (λ y. Goes (y, rest)) (sym m))
 unsettled_gives said s (Some b) p d right left t e rest a h m w =
     subst (λ i. Leads said s (if i then gives (Truth b, left) else right left) t (Goes (datum_of a, rest))) (sym h) (subst (λ y. Leads said s (right left) t (Goes (y, rest))) (sym m) w)

@@ -1,8 +1,8 @@
-//! Expressions of policies, evaluated by whoever answers their questions.
+//! Expressions, evaluated by whoever answers their questions.
 #![tactic(auto)]
 
 pub mod asker;
-pub mod expressions;
+pub mod walk;
 
-pub use asker::{Asker, Refusal, Stop};
-pub use expressions::{numbers, value};
+pub use asker::{Asker, Stop, Unanswered};
+pub use walk::{Local, Walk, count};

@@ -184,14 +184,15 @@ fn is_wanted(alloc: Global, row: &Row, run: &Result<Run, RecordError>) -> Result
     }
 }
 
-fn check_row(alloc: Global, row: &Row) -> Result<(), Fail> {
+// Whether a run of a row is as it is wanted, over a view whose count of refusals stands so.
+fn check_row(alloc: Global, row: &Row, refusals: u64) -> Result<(), Fail> {
     let (body, budget, refuses, _, decision) = row;
     let text = format!(in alloc; "policy {{ {body} }}")?;
     let policy = read_policy(alloc, text.as_bytes())?;
     let mut view = Changing {
         reads: 0,
         refuses: *refuses,
-        refusals: 0,
+        refusals,
     };
     let run = recorded(alloc, &policy, *budget, &mut view)?;
     if is_wanted(alloc, row, &run)? {
@@ -204,7 +205,8 @@ fn check_row(alloc: Global, row: &Row) -> Result<(), Fail> {
 #[test]
 fn runs_read_cells_in_order_and_once(rt: HostRuntime) -> Result<(), Fail> {
     for row in rows() {
-        check_row(rt.alloc(), row)?;
+        check_row(rt.alloc(), row, 0)?;
+        check_row(rt.alloc(), row, u64::MAX)?;
     }
     Ok(())
 }

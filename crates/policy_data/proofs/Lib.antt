@@ -1,3 +1,1 @@
-pub mod Names
-pub mod PortLists
-pub mod SameNames
+pub mod Places

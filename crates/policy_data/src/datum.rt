@@ -1,7 +1,6 @@
 // What expressions give.
 ghost use Rattle.std.specs.Prelude.{◌≡◌};
-ghost use Rattle.policy_meaning.specs.Values.{number_in, truth_in, place_in};
-ghost use Rattle.policy_meaning.specs.Values.{applied, settling};
+ghost use Rattle.policy_meaning.specs.Values.{number_in, truth_in, place_in, applied, settling};
 ghost use Rattle.policy_data.specs.Data.{datum_of, IsSettled, IsMade};
 
 use maple_base::{Operator, Place};
@@ -29,10 +28,7 @@ impl Datum {
     pub fn truth(self) -> bool
         ensures { result ≡ truth_in (datum_of self) }
     {
-        match self {
-            Datum::Truth(truth) => truth,
-            _ => false,
-        }
+        matches!(self, Datum::Truth(true))
     }
 
     /// The answer where a left part that is this settles an operator: false settles `and`, true

@@ -1,19 +1,21 @@
 // The names in force.
-ghost use Rattle.std.specs.Prelude.{◌≡◌, ◌-◌, [], ◌∷◌, OnOk, length, drop};
-ghost use Rattle.std.specs.Str.{bytes_eq};
+ghost use Rattle.std.specs.Prelude.{◌≡◌, ◌-◌, [], ◌∷◌, drop, length, OnOk};
+ghost use Rattle.std.specs.List.{position};
 ghost use Rattle.policy_meaning.specs.Values.{named, assigned};
 ghost use Rattle.policy_data.specs.Data.{datum_of};
+ghost use Rattle.policy_data.specs.Scopes.{is_named};
 
 use crate::Datum;
 use maple_base::{Name, NoMemory};
 use std::alloc::Global;
+use std::collections::VecDeque;
 use std::marker::Model;
 
 /// The names in force and what they stand for.
 #[derive(Drop)]
 pub struct Scope {
-    // The last declared stands last.
-    names: Vec<(Name, Datum)>,
+    // The last declared stands first.
+    names: VecDeque<(Name, Datum)>,
 }
 
 impl Model for Scope {
@@ -25,10 +27,11 @@ impl Model for Scope {
     ghost view = { λ a. in_force a.names.items };
 }
 
-fn same_name(first: &Name, second: &Name) -> bool
-    ensures { result ≡ bytes_eq first.now second.now }
+// The first place of a name.
+fn place_of(names: &VecDeque<(Name, Datum)>, name: &Name) -> Option<usize>
+    ensures { result ≡ position (is_named name.now) names.now.items }
 {
-    *first == *second
+    names.iter().position(|entry| entry.0.text() == name.text())
 }
 
 impl Scope {
@@ -36,9 +39,8 @@ impl Scope {
     pub fn new(alloc: Global) -> Scope
         ensures { result ≡ [] }
     {
-        Scope {
-            names: Vec::new(alloc),
-        }
+        let names = VecDeque::new(alloc);
+        Scope { names }
     }
 
     /// How many names are in force.
@@ -48,45 +50,41 @@ impl Scope {
         self.names.len()
     }
 
-    /// What a name stands for: of two like names the one declared last counts. A name that isn't
-    /// in force gives 0.
+    /// What the name that was declared last of its like stands for, or 0 where it isn't in force.
+    #[tactic(auto, using(crate::proofs::Places::named_here, crate::proofs::Places::named_nowhere))]
     pub fn named(&self, name: &Name) -> Datum
         ensures { datum_of result ≡ named name.now self.now }
     {
-        for index in (0..self.names.len()).rev() {
-            let (other, datum) = self.names[index];
-            if same_name(&other, name) {
-                return datum;
-            }
+        match place_of(&self.names, name) {
+            Some(place) => self.names[place].1,
+            None => Datum::Number(0),
         }
-        Datum::Number(0)
     }
 
     /// Declares a name.
     pub fn declare(&mut self, name: Name, datum: Datum) -> Result<(), NoMemory>
         ensures { OnOk result (self.new ≡ (name, datum_of datum) ∷ self.old) }
     {
-        self.names.push((name, datum))?;
+        self.names.push_front((name, datum))?;
         Ok(())
     }
 
     /// Gives the name that was declared last of its like another value; does nothing where it isn't in force.
+    #[tactic(auto, using(crate::proofs::Places::assigned_here, crate::proofs::Places::assigned_nowhere))]
     pub fn assign(&mut self, name: &Name, datum: Datum)
         ensures { self.new ≡ assigned name.now (datum_of datum) self.old }
     {
-        for index in (0..self.names.len()).rev() {
-            let (other, _) = self.names[index];
-            if same_name(&other, name) {
-                self.names[index] = (other, datum);
-                return;
-            }
+        if let Some(place) = place_of(&self.names, name) {
+            self.names[place].1 = datum;
         }
     }
 
     /// Keeps as many names as this, those that were declared first.
+    #[tactic(auto, using(crate::proofs::Places::kept_first))]
     pub fn truncate(&mut self, len: usize)
         ensures { self.new ≡ drop (length self.old - len) self.old }
     {
-        self.names.truncate(len);
+        let newer = self.names.len().saturating_sub(len);
+        self.names.drain(..newer);
     }
 }

@@ -1,4 +1,3 @@
-pub mod Asked
 pub mod Hops
 pub mod Branches
 pub mod Blocks

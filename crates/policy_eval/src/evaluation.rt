@@ -9,7 +9,7 @@ ghost use Rattle.policy_eval.specs.Answers.{IsBudget};
 ghost use Rattle.policy_eval.specs.Evaluated.{Evaluates};
 
 use crate::run;
-use expr_eval::{Asker, Refusal};
+use expr_eval::{Asker, Unanswered};
 use maple_base::{Cell, EnvNow, Field, Key, NoMemory, Outcome, Value};
 use policy_lang::Policy;
 use std::alloc::Global;
@@ -24,19 +24,17 @@ struct Evaluator<'a, E: EnvNow> {
 impl<'a, E: EnvNow> Asker for Evaluator<'a, E> {
     ghost holds = { λ s. [] };
 
-    ghost refused = { λ s. 0 };
-
     ghost said = { λ s a t. Evaluates s.key.now s.env.now t.key.now t.env.now E.has a };
 
-    fn field(&mut self, field: Field) -> Result<u64, Refusal> {
+    fn field(&mut self, field: Field) -> Result<u64, Unanswered> {
         Ok(self.key.get(field))
     }
 
-    fn test(&mut self, field: Field, value: u64) -> Result<bool, Refusal> {
+    fn test(&mut self, field: Field, value: u64) -> Result<bool, Unanswered> {
         Ok(self.key.get(field) == value)
     }
 
-    fn cell(&mut self, cell: Cell) -> Result<Value, Refusal> {
+    fn cell(&mut self, cell: Cell) -> Result<Value, Unanswered> {
         Ok(self.env.cell(cell))
     }
 }
@@ -55,9 +53,9 @@ pub fn eval<E: EnvNow>(
     requires budget { IsBudget budget }
     ensures { IfOk result (λ outcome. outcome ≡ eval_of (tree_of policy.now.body) budget (E.has env.now) switch key.now) }
 {
-    let mut evaluator = Evaluator { env, key };
-    match run(alloc, policy, budget, switch, &mut evaluator) {
+    let (outcome, _) = run(alloc, policy, budget, switch, Evaluator { env, key });
+    match outcome {
         Ok(outcome) => Ok(outcome),
-        Err(_) => Err(NoMemory),
+        Err(Unanswered) => Err(NoMemory),
     }
 }

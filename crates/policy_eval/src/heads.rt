@@ -1,17 +1,16 @@
 // What an `if` asks.
-ghost use Rattle.std.specs.Prelude.{◌≡◌, ◌<◌, ◌≤◌, false, OnOk, IfOk};
+ghost use Rattle.std.specs.Prelude.{◌≡◌, ◌<◌, false, OnOk, IfOk};
 ghost use Rattle.std.specs.Option.{option_map};
-ghost use Rattle.maple_base.specs.Counts.{HasRisen};
-ghost use Rattle.expr_eval.specs.Walked.{IsUnread};
 ghost use Rattle.policy_lang.specs.TreeOf.{ask_of};
 ghost use Rattle.policy_data.specs.Data.{datum_of};
 ghost use Rattle.policy_meaning.specs.Values.{source_cell, source_told};
 ghost use Rattle.policy_meaning.specs.Meaning.{head_of};
 ghost use Rattle.policy_eval.specs.Parts.{source_of, binds_of, GivesHead};
 
-use expr_eval::{Asker, Stop, value};
+use crate::statements::Runner;
+use expr_eval::{Asker, Stop, count};
 use maple_base::{Cell, Name, Value};
-use policy_data::{Datum, Scope, Steps, bind, number_in_table, place_of_host, port_of_hop};
+use policy_data::Datum;
 use policy_lang::{Expr, Head};
 
 // What a head that binds a name reads: where a host is, by which port a switch is reached, or what
@@ -23,81 +22,68 @@ pub enum Source {
     Table(Name),
 }
 
-// The cell that is read by a number.
-fn cell_at(source: &Source, switch: u64, number: u64) -> Cell
-    ensures { result ≡ source_cell (source_of source.now) switch number }
-{
-    match source {
-        Source::Host => Cell::Host(number),
-        Source::Hop => Cell::Hop {
-            from: switch,
-            to: number,
-        },
-        Source::Table(table) => Cell::Num {
-            table: *table,
-            key: number,
-        },
-    }
-}
-
-// What its value tells.
-fn told_by(source: &Source, value: Value) -> Option<Datum>
-    ensures { option_map datum_of result ≡ source_told (source_of source.now) value }
-{
-    match source {
-        Source::Host => place_of_host(value),
-        Source::Hop => port_of_hop(value),
-        Source::Table(_) => number_in_table(value),
-    }
-}
-
-// Whether a head that binds a name holds; the name is then in force.
-#[tactic(auto, using(question_tree::proofs::Walks::leads_end, question_tree::proofs::Walks::leads_next, question_tree::proofs::Walks::leads_cell, crate::proofs::Asked::bound_names))]
-fn binds<A: Asker>(
-    source: &Source,
-    expr: &Expr,
-    name: &Name,
-    switch: u64,
-    scope: &mut Scope,
-    steps: &mut Steps,
-    asker: &mut A,
-) -> Result<bool, Stop>
-    ensures given { GivesHead A.said asker.old (binds_of source.now expr.now name.now switch scope.old steps.old) asker.new result scope.new steps.new }
-    ensures kept { IfOk result (λ held. held ≡ false → scope.new ≡ scope.old) }
-    ensures held { A.holds asker.new ≡ A.holds asker.old }
-    ensures count { A.refused asker.old ≤ A.refused asker.new }
-    ensures unread { IsUnread result → HasRisen (A.refused asker.old) (A.refused asker.new) }
-    ensures fewer { OnOk result (steps.new < steps.old) }
-{
-    steps.count()?;
-    let number = value(expr, switch, scope, steps, asker)?.number();
-    let found = asker.cell(cell_at(source, switch, number))?;
-    Ok(bind(name, told_by(source, found), scope)?)
-}
-
-/// Whether a head holds at a switch; a name that it binds is then in force.
-#[tactic(auto, using(question_tree::proofs::Walks::leads_end, question_tree::proofs::Walks::leads_next))]
-pub fn head<A: Asker>(
-    head: &Head,
-    switch: u64,
-    scope: &mut Scope,
-    steps: &mut Steps,
-    asker: &mut A,
-) -> Result<bool, Stop>
-    ensures given { GivesHead A.said asker.old (head_of (ask_of head.now) switch scope.old steps.old) asker.new result scope.new steps.new }
-    ensures kept { IfOk result (λ held. held ≡ false → scope.new ≡ scope.old) }
-    ensures held { A.holds asker.new ≡ A.holds asker.old }
-    ensures count { A.refused asker.old ≤ A.refused asker.new }
-    ensures unread { IsUnread result → HasRisen (A.refused asker.old) (A.refused asker.new) }
-    ensures fewer { OnOk result (steps.new < steps.old) }
-{
-    match head {
-        Head::Host(expr, name) => binds(&Source::Host, expr, name, switch, scope, steps, asker),
-        Head::Hop(expr, name) => binds(&Source::Hop, expr, name, switch, scope, steps, asker),
-        Head::Lookup(table, expr, name) => {
-            let source = Source::Table(*table);
-            binds(&source, expr, name, switch, scope, steps, asker)
+impl Source {
+    // The cell that is read by a number.
+    fn cell(self, from: u64, number: u64) -> Cell
+        ensures { result ≡ source_cell (source_of self) from number }
+    {
+        match self {
+            Source::Host => Cell::Host(number),
+            Source::Hop => Cell::Hop { from, to: number },
+            Source::Table(table) => Cell::Num { table, key: number },
         }
-        Head::Test(expr) => Ok(value(expr, switch, scope, steps, asker)?.truth()),
+    }
+
+    // What its value tells.
+    fn told(self, value: Value) -> Option<Datum>
+        ensures { option_map datum_of result ≡ source_told (source_of self) value }
+    {
+        match (self, value) {
+            (Source::Host, Value::At(place)) => Some(Datum::At(place)),
+            (Source::Hop, Value::At(place)) => Some(Datum::Number(place.port)),
+            (Source::Table(_), Value::Number(number)) => Some(Datum::Number(number)),
+            _ => None,
+        }
+    }
+}
+
+impl<A: Asker> Runner<A> {
+    // Whether a head that binds a name holds; the name is then in force.
+    #[tactic(auto, using(question_tree::proofs::Walks::leads_end, question_tree::proofs::Walks::leads_next, question_tree::proofs::Walks::leads_cell))]
+    fn binds(&mut self, source: Source, expr: &Expr, name: &Name) -> Result<bool, Stop>
+        ensures given { GivesHead A.said self.old (binds_of source expr.now name.now) result self.new }
+        ensures kept { IfOk result (λ held. held ≡ false → self.new.local.scope ≡ self.old.local.scope) }
+        ensures place { self.new.local.switch ≡ self.old.local.switch }
+        ensures held { A.holds self.new.walk.asker ≡ A.holds self.old.walk.asker }
+        ensures fewer { OnOk result (self.new.walk.steps < self.old.walk.steps) }
+    {
+        count(&mut self.walk.steps)?;
+        let number = self.walk.value(expr, &self.local)?.number();
+        let found = self
+            .walk
+            .asker
+            .cell(source.cell(self.local.switch, number))?;
+        let Some(datum) = source.told(found) else {
+            return Ok(false);
+        };
+        self.local.scope.declare(*name, datum)?;
+        Ok(true)
+    }
+
+    // Whether a head holds; a name that it binds is then in force.
+    #[tactic(auto, using(question_tree::proofs::Walks::leads_end, question_tree::proofs::Walks::leads_next))]
+    pub fn head(&mut self, head: &Head) -> Result<bool, Stop>
+        ensures given { GivesHead A.said self.old (head_of (ask_of head.now)) result self.new }
+        ensures kept { IfOk result (λ held. held ≡ false → self.new.local.scope ≡ self.old.local.scope) }
+        ensures place { self.new.local.switch ≡ self.old.local.switch }
+        ensures held { A.holds self.new.walk.asker ≡ A.holds self.old.walk.asker }
+        ensures fewer { OnOk result (self.new.walk.steps < self.old.walk.steps) }
+    {
+        match head {
+            Head::Host(expr, name) => self.binds(Source::Host, expr, name),
+            Head::Hop(expr, name) => self.binds(Source::Hop, expr, name),
+            Head::Lookup(table, expr, name) => self.binds(Source::Table(*table), expr, name),
+            Head::Test(expr) => Ok(self.walk.value(expr, &self.local)?.truth()),
+        }
     }
 }

@@ -3,6 +3,7 @@
 
 pub mod evaluation;
 mod heads;
+mod statements;
 pub mod walk;
 mod ways;
 

@@ -1,28 +1,19 @@
 // The way of a `route`.
-ghost use Rattle.std.specs.Prelude.{◌≡◌, ◌==◌, ◌≤◌, length, IfOk, IsTrue};
-ghost use Rattle.maple_base.specs.Counts.{HasRisen};
+ghost use Rattle.std.specs.Prelude.{◌≡◌, ◌+◌, ◌≤◌, length, IfOk, IsTrue};
+ghost use Rattle.std.specs.List.{list_all};
+ghost use Rattle.maple_base.specs.Paths.{is_hop};
 ghost use Rattle.maple_base.specs.Ports.{is_port};
 ghost use Rattle.maple_base.specs.declared.decision.Decision.TheVariants.{Drop as Dropped};
 ghost use Rattle.maple_base.specs.declared.decision.Outcome.TheVariants.{Decided};
 ghost use Rattle.expr_eval.specs.declared.asker.Stop.TheVariants.{Ended};
-ghost use Rattle.expr_eval.specs.Walked.{IsUnread};
 ghost use Rattle.policy_meaning.specs.Meaning.{way_to};
-ghost use Rattle.policy_eval.specs.Parts.{GivesWay, GivesHop, way_from};
+ghost use Rattle.policy_eval.specs.Parts.{GivesWay, GivesPath, way_from};
 
-use expr_eval::{Asker, Stop};
+use expr_eval::{Asker, Stop, Walk, count};
 use maple_base::{Cell, Decision, Outcome, Path, Place, Value, is_port};
-use policy_data::Steps;
-use std::alloc::Global;
 
 // The most next hops of a way.
-const MOST_HOPS: usize = 63;
-
-// Whether a way has as many hops as it may.
-fn is_full(hops: &[Place]) -> bool
-    ensures { result ≡ (length hops.now == 63) }
-{
-    hops.len() == MOST_HOPS
-}
+const MOST_HOPS: u32 = 63;
 
 // The packet is dropped, since there is no way.
 fn lost() -> Stop
@@ -31,71 +22,45 @@ fn lost() -> Stop
     Stop::Ended(Outcome::Decided(Decision::Drop))
 }
 
-// The next hop of a way, which takes a step.
-fn next_hop<A: Asker>(from: u64, to: Place, steps: &mut Steps, asker: &mut A) -> Result<Place, Stop>
-    ensures given { GivesHop A.said asker.old from to steps.old asker.new result steps.new }
-    ensures port { IfOk result (λ hop. IsTrue (is_port hop.port)) }
-    ensures held { A.holds asker.new ≡ A.holds asker.old }
-    ensures count { A.refused asker.old ≤ A.refused asker.new }
-    ensures unread { IsUnread result → HasRisen (A.refused asker.old) (A.refused asker.new) }
+// The way from a switch to a place, of at most so many next hops; each takes a step.
+#[tactic(auto, using(crate::proofs::Hops::there, crate::proofs::Hops::far, crate::proofs::Hops::spent, crate::proofs::Hops::hop_ends, crate::proofs::Hops::hop_goes))]
+fn way<A: Asker>(more: u32, from: u64, to: Place, walk: &mut Walk<A>) -> Result<Vec<Place>, Stop>
+    requires { IsTrue (is_port to.port) }
+    ensures given { GivesWay A.said walk.old (way_from more to walk.old.steps from) result walk.new }
+    ensures some { IfOk result (λ v. 1 ≤ length v.items) }
+    ensures few { IfOk result (λ v. length v.items ≤ more + 1) }
+    ensures ports { IfOk result (λ v. IsTrue (list_all is_hop v.items)) }
+    ensures held { A.holds walk.new.asker ≡ A.holds walk.old.asker }
 {
-    steps.count()?;
+    if from == to.switch {
+        let mut places = Vec::new(walk.alloc);
+        places.push(to)?;
+        return Ok(places);
+    }
+    if more == 0 {
+        return Err(lost());
+    }
+    count(&mut walk.steps)?;
     let cell = Cell::Hop {
         from,
         to: to.switch,
     };
-    match asker.cell(cell)? {
-        Value::At(hop) => Ok(hop),
-        _ => Err(lost()),
-    }
-}
-
-// The way from a switch to a place, of at most 63 next hops.
-fn way<A: Asker>(
-    alloc: Global,
-    switch: u64,
-    to: Place,
-    steps: &mut Steps,
-    asker: &mut A,
-) -> Result<Path, Stop>
-    requires { IsTrue (is_port to.port) }
-    ensures given { GivesWay A.said asker.old (way_from 63 to steps.old switch) asker.new result }
-    ensures held { A.holds asker.new ≡ A.holds asker.old }
-    ensures count { A.refused asker.old ≤ A.refused asker.new }
-    ensures unread { IsUnread result → HasRisen (A.refused asker.old) (A.refused asker.new) }
-{
-    let mut hops = Vec::new(alloc);
-    let mut from = switch;
-    while from != to.switch {
-        if is_full(&hops) {
-            return Err(lost());
-        }
-        let hop = next_hop(from, to, steps, asker)?;
-        hops.push(Place {
-            switch: from,
-            port: hop.port,
-        })?;
-        from = hop.switch;
-    }
-    hops.push(to)?;
-    Ok(Path::new(hops))
+    let Value::At(hop) = walk.asker.cell(cell)? else {
+        return Err(lost());
+    };
+    let mut places = way(more - 1, hop.switch, to, walk)?;
+    let port = hop.port;
+    places.insert(0, Place { switch: from, port })?;
+    Ok(places)
 }
 
 /// The way from a switch to a place; the run ends with a drop where there is none.
-pub fn way_to<A: Asker>(
-    alloc: Global,
-    switch: u64,
-    to: Place,
-    steps: &mut Steps,
-    asker: &mut A,
-) -> Result<Path, Stop>
-    ensures given { GivesWay A.said asker.old (way_to switch to steps.old) asker.new result }
-    ensures held { A.holds asker.new ≡ A.holds asker.old }
-    ensures count { A.refused asker.old ≤ A.refused asker.new }
-    ensures unread { IsUnread result → HasRisen (A.refused asker.old) (A.refused asker.new) }
+pub fn way_to<A: Asker>(from: u64, to: Place, walk: &mut Walk<A>) -> Result<Path, Stop>
+    ensures given { GivesPath A.said walk.old (way_to from to walk.old.steps) result walk.new }
+    ensures held { A.holds walk.new.asker ≡ A.holds walk.old.asker }
 {
     if !is_port(to.port) {
         return Err(lost());
     }
-    way(alloc, switch, to, steps, asker)
+    Ok(Path::new(way(MOST_HOPS, from, to, walk)?))
 }

@@ -1,7 +1,7 @@
 // Names: what is wrong with those of a policy by the places of a text, and what those in force stand
 // for in an evaluation.
-use maple_base::{Name, NoMemory, Place, Value};
-use policy_data::{Datum, Scope, bind, number_in_table, place_of_host, port_of_hop};
+use maple_base::{Name, NoMemory, Place};
+use policy_data::{Datum, Scope};
 use policy_lang::nodes::nodes;
 use policy_lang::{Node, Policy, first_name_fault};
 use policy_text::read_policy;
@@ -78,100 +78,50 @@ fn faults_of_names_by_places(rt: HostRuntime) -> Result<(), Fail> {
     Ok(())
 }
 
-// What `b` stands for behind `a` for 1, `b` for 2, what is found for `b`, and 4 assigned to `a`.
-fn named_behind(
-    alloc: Global,
-    found: Option<Datum>,
-    kept: usize,
-) -> Result<(bool, Datum, Datum), Fail> {
+// What `a` and `b` stand for behind `a` for 1, `b` for 2, what is found for `b`, and 4 assigned to `a`,
+// where so many names are kept.
+fn named_behind(alloc: Global, found: Option<Datum>, kept: usize) -> Result<(Datum, Datum), Fail> {
     let a = Name::new(b"a").ok_or("a name")?;
     let b = Name::new(b"b").ok_or("a name")?;
     let mut scope = Scope::new(alloc);
     scope.declare(a, Datum::Number(1))?;
     scope.declare(b, Datum::Number(2))?;
-    let held = bind(&b, found, &mut scope)?;
+    if let Some(datum) = found {
+        scope.declare(b, datum)?;
+    }
     scope.assign(&a, Datum::Number(4));
     scope.truncate(kept);
-    Ok((held, scope.named(&a), scope.named(&b)))
+    Ok((scope.named(&a), scope.named(&b)))
 }
 
-// What a head asks for.
-#[derive(Clone, Copy)]
-enum Head {
-    Host,
-    Hop,
-    Number,
-}
-
-fn found_of(head: Head, value: Value) -> Option<Datum> {
-    match head {
-        Head::Host => place_of_host(value),
-        Head::Hop => port_of_hop(value),
-        Head::Number => number_in_table(value),
-    }
-}
-
-// A head, the value of its cell, how many names are kept, and whether it holds, with what `a` and `b` stand for.
-type Named = (Head, Value, usize, (bool, Datum, Datum));
+// What is found for `b`, how many names are kept, and what `a` and `b` stand for.
+type Named = (Option<Datum>, usize, (Datum, Datum));
 
 fn named_rows() -> &'static [Named] {
     NAMED
 }
 
-const PLACE: Place = Place { switch: 3, port: 6 };
+const PLACE: Datum = Datum::At(Place { switch: 3, port: 6 });
+
+const NONE: Datum = Datum::Number(0);
+
+const FIRST_B: Datum = Datum::Number(2);
 
 const FOUR: Datum = Datum::Number(4);
 
 const NAMED: &[Named] = &[
-    (
-        Head::Host,
-        Value::At(PLACE),
-        3,
-        (true, FOUR, Datum::At(PLACE)),
-    ),
-    (
-        Head::Hop,
-        Value::At(PLACE),
-        3,
-        (true, FOUR, Datum::Number(6)),
-    ),
-    (
-        Head::Number,
-        Value::Number(80),
-        3,
-        (true, FOUR, Datum::Number(80)),
-    ),
-    (
-        Head::Number,
-        Value::Nothing,
-        3,
-        (false, FOUR, Datum::Number(2)),
-    ),
-    (
-        Head::Hop,
-        Value::At(PLACE),
-        2,
-        (true, FOUR, Datum::Number(2)),
-    ),
-    (
-        Head::Host,
-        Value::Nothing,
-        1,
-        (false, FOUR, Datum::Number(0)),
-    ),
-    (
-        Head::Host,
-        Value::Nothing,
-        0,
-        (false, Datum::Number(0), Datum::Number(0)),
-    ),
+    (Some(PLACE), 3, (FOUR, PLACE)),
+    (Some(Datum::Truth(true)), 3, (FOUR, Datum::Truth(true))),
+    (None, 3, (FOUR, FIRST_B)),
+    (Some(PLACE), 2, (FOUR, FIRST_B)),
+    (None, 1, (FOUR, NONE)),
+    (None, 0, (NONE, NONE)),
 ];
 
 #[test]
 fn names_in_force(rt: HostRuntime) -> Result<(), Fail> {
-    for (head, value, kept, want) in named_rows() {
-        let found = found_of(*head, *value);
-        assert_eq!(rt; named_behind(rt.alloc(), found, *kept)?, *want, "{kept}");
+    for (found, kept, want) in named_rows() {
+        assert_eq!(rt; named_behind(rt.alloc(), *found, *kept)?, *want, "{kept}");
     }
     Ok(())
 }

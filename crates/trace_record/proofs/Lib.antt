@@ -1,5 +1,4 @@
 pub mod Free
-pub mod KnownFields
 pub mod Recordings
 pub mod Runs
-pub mod TableOfCells
+pub mod Tables

@@ -1,18 +1,32 @@
 -- The notes of a recorder.
-use Rattle.std.specs.Prelude.{◌≡◌, true}
-use Rattle.std.specs.List.{list_all}
+use Rattle.std.specs.Prelude.{◌≡◌, ℕ}
 use Rattle.maple_base.specs.declared.key.Key.{Key}
 use Rattle.maple_base.specs.declared.cells.Cell.{Cell}
 use Rattle.maple_base.specs.declared.cells.Value.{Value}
-use Rattle.question_tree.specs.Cells.{AreGiven, is_of_kind}
+use Rattle.question_tree.specs.Cells.{AreGiven}
 use Rattle.question_tree.specs.Through.{Seen}
 use Rattle.question_tree.specs.Leads.{Answer}
-use Rattle.question_tree.specs.Notes.{Notes}
+use Rattle.question_tree.specs.Notes.{Notes, seen}
+use Rattle.policy_lang.specs.declared.Policy.{Policy}
+use Rattle.policy_lang.specs.TreeOf.{tree_of}
+use Rattle.policy_meaning.specs.Meaning.{meaning}
+use Rattle.question_tree.specs.Laws.{IsTrace}
+use Rattle.maple_base.specs.declared.decision.Outcome.{Outcome}
+use Rattle.trace_record.specs.declared.recorder.Notes.{Notes as Kept}
 
--- an answer is noted, the key stays, each noted cell was given by the view, with a value of its kind, and what the view gave it still gives
-pub record Records (k l : Key) (s t : Seen) (gave now : Cell → Value → Type 0) (a : Answer) : Type 0 where
-  pub key : k ≡ l
-  pub notes : Notes k s a t
-  pub told : AreGiven gave s.cells → AreGiven now t.cells
+-- the answers that were noted
+abbrev pub answers_of : Kept → Seen
+answers_of n = seen n.items n.cells
+
+-- an answer is noted, the key stays, each noted cell was given by the view, and what the view gave it still gives
+pub record Records (old : Kept) (gave : Cell → Value → Type 0) (a : Answer) (new : Kept) (now : Cell → Value → Type 0) : Type 0 where
+  pub key : old.key ≡ new.key
+  pub notes : Notes old.key (answers_of old) a (answers_of new)
+  pub told : AreGiven gave old.cells → AreGiven now new.cells
   pub kept : (d : Cell) (w : Value) → gave d w → now d w
-  pub kinds : list_all is_of_kind s.cells ≡ true → list_all is_of_kind t.cells ≡ true
+
+-- behind a walk through a policy, where there were no notes ahead of it: the notes are the trace, and what the view gave
+pub record IsRecorded (p : Policy) (budget switch : ℕ) (k : Key) (n : Kept) (start gave : Cell → Value → Type 0) (o : Outcome) : Type 0 where
+  pub trace : IsTrace (meaning (tree_of p.body) budget switch) k n.items n.cells o
+  pub given : AreGiven gave n.cells
+  pub kept : (d : Cell) (w : Value) → start d w → gave d w

@@ -2,13 +2,10 @@
 #![tactic(auto)]
 
 mod asked_items;
-mod cell_key;
-mod facts;
 pub mod laws;
 mod read_cells;
 mod recorder;
 pub mod recording;
-mod rules;
 pub mod view;
 
 pub use recording::{RecordError, Run, record};

@@ -1,10 +1,9 @@
 // What was read in cells.
-ghost use Rattle.std.specs.Prelude.{◌≡◌, ◌++◌, ◌∷◌, [], None, true, OnOk, IsTrue};
+ghost use Rattle.std.specs.Prelude.{◌≡◌, ◌++◌, ◌∷◌, [], None, true, OnOk, IsTrue, IfSome};
 ghost use Rattle.std.specs.List.{list_all};
 ghost use Rattle.maple_base.specs.Kinds.{of_kind};
 ghost use Rattle.question_tree.specs.Cells.{given, is_of_kind};
 
-use crate::cell_key::CellKey;
 use maple_base::{Cell, Cells, NoMemory, Value};
 use std::alloc::Global;
 use std::collections::HashMap;
@@ -14,15 +13,15 @@ use std::marker::Model;
 #[derive(Drop)]
 pub struct ReadCells {
     list: Vec<(Cell, Value)>,
-    // The same by the cells' keys.
-    table: HashMap<CellKey, Value>,
+    // The same as a table.
+    table: HashMap<Cell, Value>,
 }
 
 impl Model for ReadCells {
     ghost use Rattle.std.specs.Prelude.{List};
     ghost use Rattle.maple_base.specs.declared.cells.Cell.{Cell};
     ghost use Rattle.maple_base.specs.declared.cells.Value.{Value as CellValue};
-    ghost use Rattle.trace_record.specs.CellKeys.{AreKept};
+    ghost use Rattle.trace_record.specs.Tables.{AreKept};
 
     ghost Value = { List (Cell × CellValue) };
 
@@ -42,33 +41,29 @@ impl ReadCells {
     }
 
     // What was read in a cell.
+    #[tactic(auto, using(crate::proofs::Tables::given_kind))]
     pub fn given(&self, cell: &Cell) -> Option<Value>
-        ensures { result ≡ given cell.now self.now }
+        ensures given { result ≡ given cell.now self.now }
+        ensures kind { IfSome result (λ value. IsTrue (of_kind cell.now value)) }
     {
-        self.table.get(&CellKey::new(cell)).copied()
-    }
-
-    // Each value is of its cell's kind.
-    pub fn law(&self)
-        ensures { list_all is_of_kind self.now ≡ true }
-    {
-        let _ = &self.list;
+        self.table.get(cell).copied()
     }
 
     // Notes what was read in a new cell behind the others.
-    pub fn push(&mut self, cell: Cell, value: Value) -> Result<(), NoMemory>
-        requires new { given cell self.old ≡ None }
-        requires kind { IsTrue (of_kind cell value) }
-        ensures { OnOk result (self.new ≡ self.old ++ (cell, value) ∷ []) }
+    pub fn push(&mut self, cell: &Cell, value: Value) -> Result<(), NoMemory>
+        requires new { given cell.now self.old ≡ None }
+        requires kind { IsTrue (of_kind cell.now value) }
+        ensures { OnOk result (self.new ≡ self.old ++ (cell.now, value) ∷ []) }
     {
         self.list.reserve(1)?;
-        self.table.insert(CellKey::new(&cell), value)?;
-        self.list.push_reserved((cell, value));
+        self.table.insert(*cell, value)?;
+        self.list.push_reserved((*cell, value));
         Ok(())
     }
 
     pub fn into_cells(self) -> Cells
-        ensures { result ≡ self }
+        ensures cells { result ≡ self }
+        ensures kinds { list_all is_of_kind result ≡ true }
     {
         Cells::new(self.list)
     }

@@ -1,5 +1,5 @@
 // Recording: what a policy asks of a packet and of its environment, and what it decides.
-ghost use Rattle.std.specs.Prelude.{◌≡◌, ◌<◌, Ok, Err, IfOk, IsTrue, OnOk};
+ghost use Rattle.std.specs.Prelude.{◌≡◌, ◌<◌, Err, IfOk, IsTrue, OnOk};
 ghost use Rattle.maple_base.specs.declared.cells.Cell.{Cell as CellData};
 ghost use Rattle.maple_base.specs.declared.cells.Value.{Value as ValueData};
 ghost use Rattle.maple_base.specs.Counts.{HasRisen};
@@ -7,11 +7,10 @@ ghost use Rattle.maple_base.specs.Keys.{valid_key};
 ghost use Rattle.policy_eval.specs.Answers.{IsBudget};
 ghost use Rattle.question_tree.specs.Cells.{AreGiven};
 ghost use Rattle.trace_record.specs.Runs.{IsRun, IsOfCall};
-ghost use Rattle.trace_record.specs.declared.recording.RecordError.TheVariants.{Unread, NoMemory as Failed};
+ghost use Rattle.trace_record.specs.declared.recording.RecordError.TheVariants.{Unread};
 
-use crate::recorder::walked;
-use expr_eval::Refusal;
-use maple_base::{Cells, EnvView, Items, Key, NoMemory, Outcome, Witness};
+use crate::recorder::walk;
+use maple_base::{Cells, EnvView, Items, Key, Outcome, Witness};
 use policy_lang::Policy;
 use policy_meaning::laws::meaning_laws;
 use question_tree::laws::reading_laws;
@@ -58,14 +57,6 @@ pub enum RecordError {
     /// Memory ran out.
     #[error("out of memory")]
     NoMemory,
-}
-
-impl From<NoMemory> for RecordError {
-    ghost from_gives = { λ _ e. e ≡ Failed };
-
-    fn from(_error: NoMemory) -> RecordError {
-        RecordError::NoMemory
-    }
 }
 
 impl Run {
@@ -128,28 +119,6 @@ impl Run {
     }
 }
 
-// How a call ends whose run ended so, where the view's count of refusals stood and stands so. The
-// count tells where the view refused; at its end it can't rise, and the run tells.
-fn answered(
-    outcome: Result<Outcome, Refusal>,
-    before: u64,
-    after: u64,
-) -> Result<Outcome, RecordError>
-    requires { outcome ≡ Err Refusal.Unread → HasRisen before after }
-    ensures outcome { IfOk result (λ o. outcome ≡ Ok o) }
-    ensures unread { before < after → result ≡ Err Unread }
-    ensures refused { result ≡ Err Unread → HasRisen before after }
-{
-    if before < after {
-        return Err(RecordError::Unread);
-    }
-    match outcome {
-        Ok(outcome) => Ok(outcome),
-        Err(Refusal::Unread) => Err(RecordError::Unread),
-        Err(Refusal::NoMemory) => Err(RecordError::NoMemory),
-    }
-}
-
 /// Runs a policy at a switch on a packet, in at most so many steps, and records what it asks and
 /// decides. `Unread` comes exactly where the view refused to tell a cell in this call.
 pub fn record<V: EnvView>(
@@ -172,8 +141,15 @@ pub fn record<V: EnvView>(
     reading_laws();
     meaning_laws();
     let before = view.refusals();
-    let (outcome, notes) = walked(alloc, policy, budget, switch, key, view);
-    let outcome = answered(outcome, before, view.refusals())?;
+    let (outcome, notes) = walk(alloc, policy, budget, switch, key, view).finish();
+    let after = view.refusals();
+    let outcome = match outcome {
+        _ if before < after => return Err(RecordError::Unread),
+        Ok(outcome) => outcome,
+        // A count at its end can't rise, so the notes tell.
+        Err(_) if notes.was_refused && after == u64::MAX => return Err(RecordError::Unread),
+        Err(_) => return Err(RecordError::NoMemory),
+    };
     Ok(Run {
         number,
         switch,

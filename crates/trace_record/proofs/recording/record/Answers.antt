@@ -1,23 +1,17 @@
-use Rattle.trace_record.specs.Runs.{Recorded}
-use Rattle.trace_record.proofs.Runs.{walked_run}
+use Rattle.std.proofs.Common.{rules, subst}
+use Rattle.std.proofs.lemmas.Result.{IfOk-at_ok}
+use Rattle.trace_record.proofs.Runs.{is_run}
 use Rattle.trace_record.proofs.recording.record.Goals as goal
 
 pub invariant_of-result : goal.invariant_of-result
 invariant_of-result g c =
-    let run : Recorded = record {
-      number = c.args.number;
-      switch = c.args.switch;
-      key = c.args.key.now;
-      items = c.into_items.result;
-      cells = c.into_cells.result;
-      outcome = c.in_ok-outcome.outcome;
-      budget = c.args.budget;
-      policy = c.of.result.value;
-    } in
-    walked_run c.reading_laws.ensures.few c.reading_laws.ensures.ends c.meaning_laws.ensures.begins c.meaning_laws.ensures.ports c.meaning_laws.ensures.few
-    run c.args.policy.now c.walked-outcome.result.1.items c.walked-outcome.result.1.cells c.walked-outcome.result.0
-    c.of.ensures c.into_items.ensures c.into_cells.ensures c.in_ok-outcome.ensures.outcome c.requires.budget c.walked-outcome.ensures.trace c.walked-outcome.ensures.kinds
+    let reading = c.reading_laws.ensures in
+    let means = c.meaning_laws.ensures in
+    let recorded = IfOk-at_ok _ c.in-Ok.is (rw (← c.finish-outcome.ensures.notes) at c.walk.ensures.recorded) in
+    rw (c.into_items.ensures, c.of.ensures)
+    (is_run reading.few reading.ends means.begins means.ports means.few _ c.requires.budget (rw c.into_cells.ensures.cells recorded.trace) c.into_cells.ensures.kinds)
 
--- the call gave a run, so the run had its outcome
 pub returns-clause-kept : goal.returns-clause-kept
-returns-clause-kept g c = rw c.in_ok-outcome.ensures.outcome at c.walked-outcome.ensures.kept
+returns-clause-kept g c =
+    let recorded = IfOk-at_ok _ c.in-Ok.is (rw (← c.finish-outcome.ensures.notes) at c.walk.ensures.recorded) in
+    λ d v h. subst (λ w. g.V.EnvView.gave w d v) (search rules) (recorded.kept d v h)
