@@ -72,6 +72,15 @@ plugged_at driver at k kept there plugged = (kept.stages at k there).plugged ∙
 pub staged : (c : ℕ) (m n : State) (stage : Stage) → is_plugged c n ≡ is_plugged c m → was_opened c n ≡ was_opened c m → IsStaged c m stage → IsStaged c n stage
 staged c m n stage p o h = record { plugged = p ∙ h.plugged; opened = o ∙ h.opened }
 
+-- where one channel became another, by the stage of that one and of those beside it
+pub stages_but : (m : State) (at : ℕ) (k l : Channel) (old new : Driver) → ChannelAt at k l old new → IsStaged (at + 1) m l.stage
+    → ((n : ℕ) (x : Channel) → (n + 1 ≡ at + 1 → ⊥) → slice_get old.channels.items n ≡ Some x → IsStaged (n + 1) m x.stage)
+    → (n : ℕ) (x : Channel) → slice_get new.channels.items n ≡ Some x → IsStaged (n + 1) m x.stage
+stages_but m at k l old new h here beside n x there =
+    ⊎_elim (λ e. (let is : l ≡ x = same_Some l x (sym (is_there at k l old new h) ∙ ap (slice_get new.channels.items) (sym e) ∙ there) in
+    subst (λ i. IsStaged (i + 1) m x.stage) (sym e) (subst (IsStaged (at + 1) m) (ap (λ (y : Channel). y.stage) is) here)))
+    (λ o. beside n x (λ e. o (omega (arith, e))) (sym (is_beside at k l old new h n o) ∙ there)) (cases_eq n at)
+
 -- it holds of what is not plugged in, whatever it says
 pub none_plugged : (P : Channel → Type 0) (at : ℕ) (driver : Driver) (k : Channel) → slice_get driver.channels.items at ≡ Some k → (k.stage ≡ Plugged → ⊥) → WhilePlugged P at driver
 none_plugged P at driver k there other = λ l e plugged. absurd (other (ap (λ (x : Channel). x.stage) (same_Some k l (sym there ∙ e)) ∙ plugged))
@@ -133,10 +142,7 @@ module _ (laws : DrivingLaws) (old new : Driver) (entry : Entry) (reply : Reply)
         (fresh_but old new kept at k l h fresh)
       where
         was : (n : ℕ) (x : Channel) → slice_get new.channels.items n ≡ Some x → IsStaged (n + 1) old.core x.stage
-        was n x there =
-            ⊎_elim (λ e. (let is : l ≡ x = same_Some l x (sym (is_there at k l old new h) ∙ ap (slice_get new.channels.items) (sym e) ∙ there) in
-            subst (λ m. IsStaged (m + 1) old.core x.stage) (sym e) (subst (IsStaged (at + 1) old.core) (sym same ∙ ap (λ (y : Channel). y.stage) is) (kept.stages at k h.there))))
-            (λ o. kept.stages n x (sym (is_beside at k l old new h n o) ∙ there)) (cases_eq n at)
+        was = stages_but old.core at k l old new h (subst (IsStaged (at + 1) old.core) (sym same) (kept.stages at k h.there)) (λ n x o there. kept.stages n x there)
 
   -- ---- the session at a place ends
 
@@ -158,11 +164,9 @@ module _ (laws : DrivingLaws) (old new : Driver) (entry : Entry) (reply : Reply)
         here = record { plugged = shut; opened = opened (at + 1) ∙ (kept.stages at k h.there).opened ∙ ap was_plugged_in plugged }
 
         stages : (n : ℕ) (x : Channel) → slice_get new.channels.items n ≡ Some x → IsStaged (n + 1) new.core x.stage
-        stages n x there =
-            ⊎_elim (λ e. (let is : l ≡ x = same_Some l x (sym (is_there at k l old new h) ∙ ap (slice_get new.channels.items) (sym e) ∙ there) in
-            subst (λ m. IsStaged (m + 1) new.core x.stage) (sym e) (subst (IsStaged (at + 1) new.core) (sym left ∙ ap (λ (y : Channel). y.stage) is) here)))
-            (λ o. (let other : n + 1 ≡ at + 1 → ⊥ = λ e. o (omega (arith, e)) in
-            staged (n + 1) old.core new.core x.stage (beside_plugged (n + 1) other) (opened (n + 1)) (kept.stages n x (sym (is_beside at k l old new h n o) ∙ there)))) (cases_eq n at)
+        stages =
+            stages_but new.core at k l old new h (subst (IsStaged (at + 1) new.core) (sym left) here)
+            (λ n x o there. staged (n + 1) old.core new.core x.stage (beside_plugged (n + 1) o) (opened (n + 1)) (kept.stages n x there))
 
         plugs : (c : ℕ) → is_plugged c new.core ≡ true → is_plugged c old.core ≡ true
         plugs c open_now =

@@ -3,7 +3,7 @@ use Rattle.std.proofs.Common.{◌≡◌, ◌⊎◌, ℕ, ◌+◌, ◌^◌, ◌<�
 use Rattle.std.specs.Prelude.{Some, is_some}
 use Rattle.std.specs.List.{slice_get}
 use Rattle.std.proofs.lemmas.Bool.{cases_Bool, cases_eq, ne_eqb}
-use Rattle.std.proofs.lemmas.Option.{same_Some, slice_get_within}
+use Rattle.std.proofs.lemmas.Option.{slice_get_within}
 use Rattle.policy_lang.specs.declared.Policy.{Policy}
 use Rattle.machine_replies.specs.Told.{IsOpenedNow, is_end}
 use Rattle.machine_steps.specs.declared.entry.Entry.TheVariants as entries
@@ -20,7 +20,7 @@ use Rattle.sim_channels.specs.declared.driver.Driver.{Driver}
 use Rattle.sim_channels.specs.Channels.{IsKept, IsStaged, was_plugged_in}
 use Rattle.sim_channels.specs.Driving.{DrivingLaws}
 use Rattle.sim_channels.proofs.Keeping.{opened_same, plugged_same, policy_same, reached_on, reached_sound, session_same, settings_same}
-use Rattle.sim_channels.proofs.Kept.{ChannelAt, fresh_but, is_as_long, is_beside, is_there, staged}
+use Rattle.sim_channels.proofs.Kept.{ChannelAt, fresh_but, is_as_long, staged, stages_but}
 
 -- the stage of a place that was opened now, in vain or not
 abbrev pub stage_by : Bool → Stage
@@ -79,11 +79,9 @@ module _ (laws : DrivingLaws) (old new : Driver) (reply : Reply) (kept : IsKept 
           ap is_some (session_same laws old.core (entries.Open (at + 1)) reply new.core kept.reached steps refl c (ne_eqb (at + 1) c (λ e. o (sym e))))
 
       stages : (n : ℕ) (x : Channel) → slice_get new.channels.items n ≡ Some x → IsStaged (n + 1) new.core x.stage
-      stages n x there =
-          ⊎_elim (λ e. (let is : l ≡ x = same_Some l x (sym (is_there at k l old new h) ∙ ap (slice_get new.channels.items) (sym e) ∙ there) in
-          subst (λ m. IsStaged (m + 1) new.core x.stage) (sym e) (subst (IsStaged (at + 1) new.core) (sym stage ∙ ap (λ (y : Channel). y.stage) is) here)))
-          (λ o. (let other : n + 1 ≡ at + 1 → ⊥ = λ e. o (omega (arith, e)) in
-          staged (n + 1) old.core new.core x.stage (beside_plugged (n + 1) other) (beside_opened (n + 1) other) (kept.stages n x (sym (is_beside at k l old new h n o) ∙ there)))) (cases_eq n at)
+      stages =
+          stages_but new.core at k l old new h (subst (IsStaged (at + 1) new.core) (sym stage) here)
+          (λ n x o there. staged (n + 1) old.core new.core x.stage (beside_plugged (n + 1) o) (beside_opened (n + 1) o) (kept.stages n x there))
 
   -- another policy is in force: who drives the machine knows whether it learns hosts
   pub kept_policy : (policy : Policy) → Steps old.core (entries.NewPolicy policy) reply new.core → new.channels.items ≡ old.channels.items → new.budget ≡ old.budget

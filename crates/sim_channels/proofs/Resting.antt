@@ -18,7 +18,7 @@ use Rattle.sim_channels.specs.Channels.{Fits, IsKept, bench, is_plugged_in}
 use Rattle.sim_channels.specs.Waiting.{IsAtRest, IsOffered}
 use Rattle.sim_channels.proofs.Slots.{SlotBy, slots_found}
 
-plugged_in : (stage : Stage) → is_plugged_in stage ≡ true → stage ≡ Plugged
+pub plugged_in : (stage : Stage) → is_plugged_in stage ≡ true → stage ≡ Plugged
 plugged_in Unplugged e = absurd (cc)
 plugged_in Plugged e = refl
 plugged_in Left e = absurd (cc)

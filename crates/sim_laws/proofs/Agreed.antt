@@ -22,9 +22,9 @@ use Rattle.machine_moves.proofs.Found.{its_connection}
 use Rattle.sim_steps.specs.Agreeing.{AreCut, appended_by, appended_of, call_in, calls_of, heard_in, heard_of, logged, sent_in, sent_of, taken_by}
 use Rattle.sim_steps.specs.Benches.{Bench, Slot, is_plugged, opening_bench, slot_at}
 use Rattle.sim_steps.specs.Deeds.{Event, Happens, NextIs, Runs, entry_in, reply_in}
+use Rattle.sim_stretches.proofs.Turned.{is_turn}
 use Rattle.sim_laws.specs.Laws.{AgreeLaw}
 use Rattle.sim_laws.proofs.Changes.{EndsBy, Feeds, Flows, Hears, IsQuiet, deed_changes, logged_nothing}
-use Rattle.sim_laws.proofs.History.{is_turn}
 use Rattle.sim_laws.proofs.Places.{opening_slot}
 
 -- ---- what holds along a run, for one place

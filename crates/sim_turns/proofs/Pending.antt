@@ -11,19 +11,13 @@ use Rattle.sim_steps.specs.Benches.{Slot, is_plugged}
 use Rattle.sim_steps.specs.Parts.{HasPending, IsExhausted}
 use Rattle.sim_channels.specs.Channels.{Fits, bench, is_plugged_in, slot_by, slots_of}
 use Rattle.sim_channels.specs.declared.channel.Channel.{Channel}
-use Rattle.sim_channels.specs.declared.channel.Stage.{Stage}
-use Rattle.sim_channels.specs.declared.channel.Stage.TheVariants.{Unplugged, Plugged, Left}
 use Rattle.sim_channels.specs.declared.driver.Driver.{Driver}
+use Rattle.sim_channels.proofs.Resting.{plugged_in}
 use Rattle.sim_channels.proofs.Slots.{slot_next, slots_found, slots_get}
 use Rattle.sim_turns.specs.Taking.{NoneBefore, waits_in}
 use Rattle.sim_turns.specs.Turning.{Waits}
 
 -- ---- the test
-
-pub plugged_in : (stage : Stage) → is_plugged_in stage ≡ true → stage ≡ Plugged
-plugged_in Plugged e = refl
-plugged_in Unplugged e = absurd (cc)
-plugged_in Left e = absurd (cc)
 
 positive : (n : ℕ) → nat_lt 0 n ≡ true → 0 < n
 positive n e = grind (arith, nat_tests)
