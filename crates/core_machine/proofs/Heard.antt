@@ -26,7 +26,7 @@ use Rattle.switch_session.specs.Parts.{Update, version_refusal}
 use Rattle.switch_session.specs.Sessions.{leaves, next_starts, onward, clears_behind, breaks_off, ended, put}
 use Rattle.switch_session.specs.Calls.{Answer, Passes, Lacks, HearsHello, HearsEcho, HearsFeatures, HearsPacket, HearsPort, HearsReply, HearsError, HearsBody, CanBeHeard, Hears, is_awaited, acknowledged_by, is_live as is_live_phase}
 use Rattle.machine_steps.specs.Machine.{Session, is_live, is_open, has_ended}
-use Rattle.machine_sessions.specs.Sessions.{due}
+use Rattle.machine_parts.specs.Sessions.{due}
 use Rattle.machine_steps.specs.Steps.{is_spared}
 
 -- ---- what stays of a session

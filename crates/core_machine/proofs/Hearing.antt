@@ -24,20 +24,20 @@ use Rattle.switch_traces.specs.Traces.{Learnings}
 use Rattle.machine_steps.specs.declared.job.Job.{Job}
 use Rattle.machine_steps.specs.declared.reply.Reply.{Reply}
 use Rattle.machine_steps.specs.declared.reply.Reply.TheVariants.{Done, NoMemory, Ended}
-use Rattle.machine_joins.specs.Joining.{change_at, unheard, IsJoining, Joined}
+use Rattle.core_machine.specs.Joining.{change_at, unheard, IsJoining, Joined}
 use Rattle.switch_session.specs.Sessions.{forgotten, forgets_number}
 use Rattle.machine_steps.specs.Steps.{HearsMessage, LacksForMessage, HearsOf, HearsFeatures, HearsPacket, Updates, Lacks, is_spared, switch_of, why_of, error_lines}
-use Rattle.machine_sessions.specs.declared.connection.Connection.{Connection}
-use Rattle.machine_packets.specs.Packets.{HearsPacketOf}
-use Rattle.machine_sessions.specs.Hearing.{HearsAt}
+use Rattle.machine_parts.specs.declared.connection.Connection.{Connection}
+use Rattle.core_machine.specs.Packets.{HearsPacketOf}
+use Rattle.machine_parts.specs.Hearing.{HearsAt}
 use Rattle.core_machine.specs.Hearing.{LacksMemory}
-use Rattle.machine_report.specs.Ready.{ready_lines, ready_count}
+use Rattle.machine_parts.specs.Ready.{ready_lines, ready_count}
 use Rattle.machine_steps.specs.Machine.{Session, State, is_of, is_open, session_at, with_session, traces_in, put_traces}
 use Rattle.machine_steps.specs.Places.{IsAt, CanReach}
-use Rattle.machine_sessions.specs.Sessions.{session_of, due, due_all}
+use Rattle.machine_parts.specs.Sessions.{session_of, due, due_all}
 use Rattle.machine_steps.specs.Sound.{IsSound, IsInOrder, AreOthers}
 use Rattle.machine_steps.proofs.Sound.Stepping.{can_reach}
-use Rattle.machine_sessions.proofs.Keyed.{set_by_key, find_passes}
+use Rattle.machine_parts.proofs.Keyed.{set_by_key, find_passes}
 use Rattle.machine_parts.proofs.There.{all_there}
 use Rattle.core_machine.proofs.Heard.{MadeOf, made, brings, due_made, connection_made, few_ports, small_packet}
 

@@ -1,3 +1,9 @@
+pub mod Features
+pub mod Following
 pub mod Heard
 pub mod Hearing
+pub mod Joining
+pub mod OneSession
+pub mod Packets
+pub mod Reaching
 pub mod Sending

@@ -5,6 +5,8 @@ ghost use Rattle.machine_steps.specs.Sound.{IsSound};
 ghost use Rattle.machine_steps.specs.Steps.{Steps, link_end};
 
 use crate::messages::hear;
+use crate::policies::renew;
+use crate::updates::change;
 use machine_answers::{commit, decide};
 use machine_parts::Parts;
 use machine_parts::ends::end_session;
@@ -13,8 +15,6 @@ use machine_parts::opens::open_session;
 use machine_parts::reads::{open_jobs, read_cell, read_policy, read_rules};
 use machine_parts::takes::{take_out, take_report};
 use machine_steps::{Entry, Reply};
-use machine_updates::policies::renew;
-use machine_updates::updates::change;
 use switch_session::End;
 
 /// Does what an entry asks, and answers.

@@ -1,9 +1,16 @@
 //! The machine of the controller: what it does at each entry.
 #![tactic(auto)]
 
+mod advancing;
 mod dispatch;
+mod joins;
 mod machine;
 mod messages;
+mod next;
+mod packet_ins;
+mod policies;
+mod states;
+mod updates;
 mod view;
 
 pub use machine::Core;

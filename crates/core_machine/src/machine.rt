@@ -6,10 +6,9 @@ ghost use Rattle.machine_steps.specs.Sound.{AreInRange, IsSound};
 ghost use Rattle.machine_steps.specs.Steps.{Steps};
 
 use crate::dispatch::step;
-use machine_parts::Parts;
-use machine_sessions::Opened;
+use crate::policies::declare_tables;
+use machine_parts::{Opened, Parts};
 use machine_steps::{Entry, Reply, machine_laws};
-use machine_updates::policies::declare_tables;
 use maple_base::{NoMemory, Settings};
 use policy_lang::Policy;
 use std::alloc::Global;

@@ -14,7 +14,7 @@ use Rattle.policy_lang.specs.declared.Policy.{Policy}
 use Rattle.env_cells.specs.Environment.{Environment}
 use Rattle.topo_paths.specs.Scenes.{cell_in}
 use Rattle.report_text.specs.declared.line.Line.TheVariants as lines
-use Rattle.question_tree.specs.Cells.{AreGiven, Gives}
+use Rattle.policy_meaning.specs.Cells.{AreGiven, Gives}
 use Rattle.trace_record.specs.Runs.{IsOfCall, IsRun, Recorded}
 use Rattle.machine_steps.specs.declared.job.Job.{Job}
 use Rattle.machine_steps.specs.declared.reply.Differs.{Differs}
@@ -27,7 +27,7 @@ use Rattle.machine_steps.specs.Running.{CurrentRunsAreNow, IsRunNow}
 use Rattle.machine_steps.specs.Sound.{IsSound}
 use Rattle.machine_steps.specs.Steps.{Commits}
 use Rattle.machine_answers.specs.Concluding.{HasJob, HasJobOf, HasNoJobOf, HasRun, IsFresh, IsStale}
-use Rattle.machine_sessions.proofs.Keyed.{elsewhere, find_passes, first_there}
+use Rattle.machine_parts.proofs.Keyed.{elsewhere, find_passes, first_there}
 
 -- cells that a view over an environment gave have their values there
 pub all_gives : (gave : Cell → Value → Type 0) (env : Cell → Value) → ((c : Cell) (v : Value) → gave c v → env c ≡ v) → (cs : List (Cell × Value)) → AreGiven gave cs → Gives env cs

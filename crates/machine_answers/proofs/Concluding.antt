@@ -34,17 +34,17 @@ use Rattle.machine_steps.specs.Sound.{HeadsRight, IsInOrder, IsServed, IsSound}
 use Rattle.machine_steps.specs.Steps.{Answers, HeadsFor, Keeps, close_job, learnt, next_trace, sends}
 use Rattle.machine_steps.proofs.Sound.Aims.{aimed_so}
 use Rattle.machine_steps.proofs.Sound.Zipped.{find_all}
-use Rattle.machine_sessions.specs.declared.connection.Connection.{Connection}
-use Rattle.machine_sessions.specs.Answering.{AnswersOne, CanAnswer, KeepsOne}
-use Rattle.machine_sessions.specs.Sessions.{due, due_all, session_of}
-use Rattle.machine_sessions.proofs.Aiming.{aimed_due}
+use Rattle.machine_parts.specs.declared.connection.Connection.{Connection}
+use Rattle.machine_parts.specs.Answering.{AnswersOne, CanAnswer, KeepsOne}
+use Rattle.machine_parts.specs.Sessions.{due, due_all, session_of}
+use Rattle.machine_parts.proofs.Aiming.{aimed_due}
 use Rattle.machine_parts.specs.declared.parts.Parts.TheInside.{Inside}
 use Rattle.machine_answers.specs.Concluding.{AnswersIn, CanAnswerIn, HasRun, HasTrace, StandAt, count_behind}
 use Rattle.machine_parts.specs.Seen.{IsRoomy, seen}
 use Rattle.machine_parts.proofs.There.{all_there}
-use Rattle.machine_sessions.proofs.Keyed.{each-set, each_at, remove_by_key}
-use Rattle.machine_sessions.proofs.Retiring.{has_place, put_there, told_there}
-use Rattle.machine_sessions.proofs.Sessions.{StandsAt, changed, due_changed, here, place_is, stands, within}
+use Rattle.machine_parts.proofs.Keyed.{each-set, each_at, remove_by_key}
+use Rattle.machine_parts.proofs.Retiring.{has_place, put_there, told_there}
+use Rattle.machine_parts.proofs.Sessions.{StandsAt, changed, due_changed, here, place_is, stands, within}
 
 -- ---- a packet is sent, or not
 

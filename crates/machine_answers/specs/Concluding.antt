@@ -20,9 +20,9 @@ use Rattle.machine_steps.specs.declared.reply.Reply.TheVariants.{Spent}
 use Rattle.machine_steps.specs.Machine.{State, is_of, policy_number, tells, traces_of}
 use Rattle.machine_steps.specs.Running.{CanLearn, IsRunNow}
 use Rattle.machine_steps.specs.Steps.{Answers, Concludes, IsJob, close_job}
-use Rattle.machine_sessions.specs.declared.connection.Connection.{Connection}
-use Rattle.machine_sessions.specs.Answering.{AnswersOne, CanAnswer}
-use Rattle.machine_sessions.specs.Sessions.{session_of}
+use Rattle.machine_parts.specs.declared.connection.Connection.{Connection}
+use Rattle.machine_parts.specs.Answering.{AnswersOne, CanAnswer}
+use Rattle.machine_parts.specs.Sessions.{session_of}
 
 -- the open job of a number stands at this place
 pub record HasJob (number at : ℕ) (m : State) : Type 0 where

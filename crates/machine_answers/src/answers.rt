@@ -4,11 +4,9 @@ ghost use Rattle.std.specs.List.{slice_get};
 ghost use Rattle.machine_answers.specs.Concluding.{AnswersAt, AnswersIn, CanAnswerIn, ConcludesAt, HasRun, HasTrace, SpendsAt, count_behind};
 ghost use Rattle.machine_steps.specs.Sound.{IsSound};
 
-use machine_parts::Parts;
+use machine_parts::answering::answer;
 use machine_parts::shared::next_number;
-use machine_report::make_room;
-use machine_sessions::answering::answer;
-use machine_sessions::{Connection, finding, lists};
+use machine_parts::{Connection, Parts, finding, lists, make_room};
 use machine_steps::{Job, Reply, running_laws};
 use maple_base::{NoMemory, Outcome, Settings};
 use report_text::{Learnt, Line};

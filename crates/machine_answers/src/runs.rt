@@ -2,7 +2,7 @@
 ghost use Rattle.std.specs.Prelude.{◌≡◌, ◌≢◌, ◌<◌, ◌↔◌, ◌==◌, IsTrue, IfOk, OnErr, MatchOption, Contains, find, length, option_copied, position};
 ghost use Rattle.maple_base.specs.Keys.{valid_key};
 ghost use Rattle.policy_eval.specs.Answers.{IsBudget};
-ghost use Rattle.question_tree.specs.Cells.{Gives};
+ghost use Rattle.policy_meaning.specs.Cells.{Gives};
 ghost use Rattle.topo_paths.specs.Scenes.{cell_in};
 ghost use Rattle.trace_record.specs.Runs.{IsOfCall, IsRun};
 ghost use Rattle.tree_prune.specs.Stale.{differs, stale_in};

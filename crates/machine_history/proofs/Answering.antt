@@ -3,8 +3,8 @@ use Rattle.std.proofs.Common.{◌≡◌, ◌≢◌, ◌⊎◌, ℕ, Bool, true, 
 use Rattle.std.specs.Prelude.{◌==◌, find, Contains, Option, Some, None, option_map}
 use Rattle.std.proofs.lemmas.Bool.{eq-eqb, eqb-true}
 use Rattle.maple_base.specs.declared.decision.Outcome.{Outcome}
-use Rattle.question_tree.specs.Laws.{OwnTrace}
-use Rattle.question_tree.specs.Readings.{items_of, cells_of}
+use Rattle.policy_meaning.specs.QuestionLaws.{OwnTrace}
+use Rattle.policy_meaning.specs.Readings.{items_of, cells_of}
 use Rattle.topo_paths.specs.Scenes.{cell_in}
 use Rattle.trace_record.specs.Runs.{Recorded}
 use Rattle.report_text.specs.declared.line.Learnt.TheVariants.{Learned}

@@ -6,7 +6,7 @@ use Rattle.maple_base.specs.declared.decision.Decision.{Decision}
 use Rattle.maple_base.specs.declared.decision.Outcome.{Outcome}
 use Rattle.maple_base.specs.declared.decision.Outcome.TheVariants.{Decided, Spent as SpentRun}
 use Rattle.maple_base.specs.Decisions.{actions_at}
-use Rattle.question_tree.specs.Cells.{Gives}
+use Rattle.policy_meaning.specs.Cells.{Gives}
 use Rattle.topo_paths.specs.Scenes.{cell_in}
 use Rattle.report_text.specs.declared.line.Learnt.{Learnt}
 use Rattle.report_text.specs.declared.line.Learnt.TheVariants.{Learned}

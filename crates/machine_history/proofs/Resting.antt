@@ -9,7 +9,7 @@ use Rattle.maple_base.specs.declared.cells.Value.{Value}
 use Rattle.maple_base.specs.declared.cells.Port.{Port}
 use Rattle.maple_base.specs.declared.key.Key.{Key}
 use Rattle.update_plan.proofs.Members.{in_filter}
-use Rattle.question_tree.specs.Cells.{Gives}
+use Rattle.policy_meaning.specs.Cells.{Gives}
 use Rattle.env_cells.specs.declared.updates.Update.{Update}
 use Rattle.env_cells.specs.declared.updates.Update.TheVariants.{Switch, Host}
 use Rattle.env_cells.specs.Changes.{applied}

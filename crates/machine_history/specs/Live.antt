@@ -8,7 +8,7 @@ use Rattle.maple_base.specs.declared.cells.Cell.{Cell}
 use Rattle.maple_base.specs.declared.cells.Value.{Value}
 use Rattle.maple_base.specs.declared.items.Item.{Item}
 use Rattle.maple_base.specs.declared.decision.Decision.{Decision}
-use Rattle.question_tree.specs.Readings.{items_of, cells_of}
+use Rattle.policy_meaning.specs.Readings.{items_of, cells_of}
 use Rattle.topo_paths.specs.Scenes.{cell_in}
 use Rattle.report_text.specs.declared.line.Learnt.TheVariants.{Learned}
 use Rattle.trace_tree.specs.declared.node.Trace.{Trace}

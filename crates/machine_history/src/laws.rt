@@ -2,7 +2,7 @@
 ghost use Rattle.machine_history.specs.Laws.{ListsAreLive, OpenedOnce, AnswersAreEvaluation, LearningIsExact};
 
 use machine_steps::{machine_laws, running_laws};
-use question_tree::laws::tree_laws;
+use policy_meaning::question_laws::tree_laws;
 use tree_prune::live_laws;
 
 /// Of each legal history: the machine's lists of traces are the live traces, each job's number is

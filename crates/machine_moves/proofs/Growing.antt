@@ -34,7 +34,7 @@ use Rattle.machine_steps.specs.declared.reply.Reply.TheVariants.{NoMemory}
 use Rattle.machine_steps.specs.Machine.{PolicyState, Session, State, is_open, this_state, was_opened, traces_of, with_session, with_traces}
 use Rattle.machine_steps.specs.Steps.{switch_of, teaches, entry_of, updated, renewed, Reaches, Updates, Opens, EndsSession, TakesMessages, emptied, Joins, HearsFeatures, Teaches, TeachesBy, HearsPacket, HearsOf, HearsInput, Keeps, Concludes, Commits, Decides, Steps}
 use Rattle.machine_steps.proofs.Later.{is_later}
-use Rattle.machine_moves.specs.Laws.{OpensOnly, ConnectionsOpen, StatesGrow}
+use Rattle.machine_moves.specs.MoveLaws.{OpensOnly, ConnectionsOpen, StatesGrow}
 use Rattle.machine_moves.proofs.Following.{lends_nothing}
 
 -- the states so far, by their numbers

@@ -11,7 +11,7 @@ use Rattle.machine_steps.specs.Sound.{AreOthers, IsSound}
 use Rattle.machine_steps.proofs.Sound.Zipped.{all_others, all_weaker, find_passes, pairs_to}
 use Rattle.machine_steps.proofs.Sound.Following.{others_turn}
 use Rattle.machine_moves.specs.Moves.{TakesBy}
-use Rattle.machine_moves.specs.Laws.{OpenIsKept}
+use Rattle.machine_moves.specs.MoveLaws.{OpenIsKept}
 use Rattle.machine_moves.proofs.Found.{its_connection, found_beside, found_gone, found_without}
 use Rattle.machine_moves.proofs.Turning.{Turns, Turned, turns_end, turned_kept, turned_placed}
 

@@ -4,15 +4,15 @@ use Rattle.std.specs.List.{AllPairs, filter}
 use Rattle.report_text.specs.declared.line.Line.{Line}
 use Rattle.report_text.specs.declared.line.Line.TheVariants.{Closed}
 use Rattle.switch_session.specs.declared.told.End.{End}
-use Rattle.machine_sessions.specs.declared.connection.Connection.{Connection}
+use Rattle.machine_parts.specs.declared.connection.Connection.{Connection}
 use Rattle.machine_steps.specs.declared.job.Job.{Job}
 use Rattle.machine_parts.specs.declared.parts.Parts.TheInside.{Inside}
 use Rattle.machine_steps.specs.Machine.{Session, State, with_session}
 use Rattle.machine_parts.specs.Seen.{seen}
-use Rattle.machine_sessions.specs.Sessions.{session_of}
+use Rattle.machine_parts.specs.Sessions.{session_of}
 use Rattle.machine_steps.specs.Sound.{AreOthers}
 use Rattle.machine_steps.specs.Steps.{closes, why_of}
-use Rattle.machine_sessions.proofs.Sessions.{StandsAt, changed}
+use Rattle.machine_parts.proofs.Sessions.{StandsAt, changed}
 
 -- behind the change the fields are seen as the state in which the session is closed
 pub closed_is : (a : Inside) (m : State) (view : seen a ≡ m) (c at : ℕ) (s e : Session) (is : StandsAt m c at s) (end : End) (t : Connection) (jobs : List Job) (lines : List Line)

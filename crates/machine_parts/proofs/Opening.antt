@@ -8,12 +8,12 @@ use Rattle.report_text.specs.declared.line.Line.{Line}
 use Rattle.report_text.specs.declared.line.Line.TheVariants.{Closed, Open}
 use Rattle.report_text.specs.declared.line.Why.TheVariants.{Full}
 use Rattle.switch_session.specs.Calls.{opened}
-use Rattle.machine_sessions.specs.declared.connection.Connection.{Connection}
+use Rattle.machine_parts.specs.declared.connection.Connection.{Connection}
 use Rattle.machine_parts.specs.declared.parts.Parts.TheInside.{Inside}
 use Rattle.machine_steps.specs.Machine.{State, is_open, open_count, tells}
 use Rattle.machine_parts.specs.Seen.{seen}
-use Rattle.machine_sessions.specs.Sessions.{session_of, due_all}
-use Rattle.machine_sessions.proofs.Sessions.{due_push, due_small}
+use Rattle.machine_parts.specs.Sessions.{session_of, due_all}
+use Rattle.machine_parts.proofs.Sessions.{due_push, due_small}
 
 count_seen : (xs : List Connection) → length (filter (λ (k : Connection). is_open (session_of k)) xs) ≡ length (filter is_open (map session_of xs))
 count_seen [] = refl

@@ -17,8 +17,8 @@ use Rattle.switch_traces.proofs.list.TraceList.TheSendSync as list
 use Rattle.switch_traces.specs.contracts.traces.SwitchTraces
 use Rattle.machine_steps.proofs.job.Job.TheSendSync as job
 use Rattle.machine_steps.proofs.Sending.{shared_send}
-use Rattle.machine_sessions.proofs.connection.Connection.TheSendSync as connection
-use Rattle.machine_sessions.proofs.opened.Opened.TheSendSync as opened
+use Rattle.machine_parts.proofs.connection.Connection.TheSendSync as connection
+use Rattle.machine_parts.proofs.opened.Opened.TheSendSync as opened
 use Rattle.policy_lang.specs.contracts.Policy
 use Rattle.machine_parts.proofs.parts.Past.TheSendSync as past
 use Rattle.machine_parts.specs.contracts.parts.Parts

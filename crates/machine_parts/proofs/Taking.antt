@@ -3,14 +3,14 @@ use Rattle.std.proofs.Common.{◌≡◌, ℕ, suc, true, false, List, ◌++◌, 
 use Rattle.std.specs.List.{AllPairs, remove}
 use Rattle.std.proofs.lemmas.List.{take-set, drop-set-lt}
 use Rattle.switch_session.specs.Calls.{TakesOut}
-use Rattle.machine_sessions.specs.declared.connection.Connection.{Connection}
+use Rattle.machine_parts.specs.declared.connection.Connection.{Connection}
 use Rattle.machine_parts.specs.declared.parts.Parts.TheInside.{Inside}
 use Rattle.machine_steps.specs.Machine.{Session, State, is_open, with_session, without_session}
 use Rattle.machine_parts.specs.Seen.{seen}
-use Rattle.machine_sessions.specs.Sessions.{session_of, due}
+use Rattle.machine_parts.specs.Sessions.{session_of, due}
 use Rattle.machine_steps.specs.Sound.{AreOthers}
 use Rattle.machine_steps.specs.Steps.{emptied}
-use Rattle.machine_sessions.proofs.Sessions.{StandsAt, changed, removed}
+use Rattle.machine_parts.proofs.Sessions.{StandsAt, changed, removed}
 
 -- what is changed at a place goes with it
 pub remove_set : {X : Type 0} (xs : List X) (at : ℕ) (x : X) → remove (set xs at x) at ≡ remove xs at

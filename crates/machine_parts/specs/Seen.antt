@@ -1,10 +1,10 @@
 -- What is seen of the machine's parts, and what they always keep ready.
 use Rattle.std.specs.Prelude.{◌≡◌, ◌+◌, ◌≤◌, map, None, vec_len, vec_capacity}
 use Rattle.std.specs.List.{AllByRecursion}
-use Rattle.machine_sessions.specs.declared.connection.Connection.{Connection}
+use Rattle.machine_parts.specs.declared.connection.Connection.{Connection}
 use Rattle.machine_parts.specs.declared.parts.Past.{Past}
 use Rattle.machine_parts.specs.declared.parts.Parts.TheInside.{Inside}
-use Rattle.machine_sessions.specs.Sessions.{session_of, due_all}
+use Rattle.machine_parts.specs.Sessions.{session_of, due_all}
 use Rattle.machine_steps.specs.Machine.{State, PolicyState}
 
 abbrev pub seen_past : Past → PolicyState

@@ -2,9 +2,9 @@
 ghost use Rattle.machine_steps.specs.Sound.{IsSound};
 ghost use Rattle.machine_steps.specs.Steps.{EndsSession};
 
+use crate::end_lines::close;
 use crate::parts::Parts;
 use crate::shared::index_of;
-use machine_report::close;
 use machine_steps::Reply;
 use switch_session::End;
 

@@ -4,8 +4,9 @@ ghost use Rattle.machine_steps.specs.declared.reply.Reply.TheVariants.{Done};
 ghost use Rattle.machine_steps.specs.Machine.{tells_all};
 ghost use Rattle.machine_steps.specs.Steps.{Lacks, note_lines};
 
+use crate::note_lines::line_of;
 use crate::parts::Parts;
-use machine_report::{line_of, make_room};
+use crate::room::make_room;
 use machine_steps::{Note, Reply};
 use maple_base::NoMemory;
 

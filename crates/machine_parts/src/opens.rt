@@ -3,10 +3,10 @@ ghost use Rattle.std.specs.Prelude.{◌≡◌, IfOk, OnErr};
 ghost use Rattle.machine_steps.specs.Sound.{IsSound};
 ghost use Rattle.machine_steps.specs.Steps.{Opens};
 
+use crate::connection::Connection;
+use crate::finding::open_count;
 use crate::parts::Parts;
-use machine_report::{MOST_DUE, make_room};
-use machine_sessions::Connection;
-use machine_sessions::finding::open_count;
+use crate::room::{MOST_DUE, make_room};
 use machine_steps::Reply;
 use maple_base::NoMemory;
 use report_text::{Line, Why};

@@ -1,6 +1,7 @@
 // All that the machine keeps.
 
-use machine_sessions::{Connection, Opened};
+use crate::connection::Connection;
+use crate::opened::Opened;
 use machine_steps::Job;
 use maple_base::{Settings, Witness};
 use policy_lang::Policy;

@@ -5,10 +5,11 @@ ghost use Rattle.machine_steps.specs.declared.reply.Reply.TheVariants.{Count, Va
 ghost use Rattle.machine_steps.specs.Sound.{IsSound};
 ghost use Rattle.machine_steps.specs.Steps.{LendsPolicy, TellsRules};
 
+use crate::lists::rules_of;
 use crate::parts::Parts;
+use crate::room::make_room;
+use crate::rule_lines::tell_rules;
 use crate::shared::policy_number;
-use machine_report::{make_room, tell_rules};
-use machine_sessions::lists::rules_of;
 use machine_steps::Reply;
 use maple_base::{Cell, EnvNow, NoMemory};
 use of10_codec::in_order;

@@ -3,9 +3,9 @@ ghost use Rattle.std.specs.Prelude.{◌≡◌, ◌+◌, None, IfOk, MatchOption,
 ghost use Rattle.machine_steps.specs.Machine.{policy_number, session_at, tells};
 ghost use Rattle.machine_steps.specs.Places.{IsAt};
 
+use crate::finding::place_of;
 use crate::parts::Parts;
-use machine_report::make_room;
-use machine_sessions::finding::place_of;
+use crate::room::make_room;
 use maple_base::NoMemory;
 use report_text::Line;
 

@@ -3,13 +3,13 @@ ghost use Rattle.std.specs.Prelude.{◌≡◌, ◌⊎◌, [], None, MatchOption,
 ghost use Rattle.std.specs.List.{flat_map};
 ghost use Rattle.report_text.specs.Report.{spelled};
 ghost use Rattle.machine_steps.specs.declared.reply.Reply.TheVariants.{Lines};
-ghost use Rattle.machine_sessions.specs.Finding.{IsKeptAt};
+ghost use Rattle.machine_parts.specs.Finding.{IsKeptAt};
 ghost use Rattle.machine_steps.specs.Sound.{IsSound};
 ghost use Rattle.machine_steps.specs.Steps.{Lacks, TakesMessages, kept_at};
 
+use crate::finding::{is_open, kept_place, remove};
 use crate::parts::Parts;
-use machine_report::written;
-use machine_sessions::finding::{is_open, kept_place, remove};
+use crate::text::written;
 use machine_steps::Reply;
 use maple_base::{Bytes, NoMemory};
 

@@ -13,11 +13,11 @@ use Rattle.maple_base.specs.Keys.{in_domain}
 use Rattle.maple_base.specs.Limits.{most_items}
 use Rattle.maple_base.specs.Ports.{is_port, controller_port}
 use Rattle.maple_base.specs.Questions.{meets, clash, within_domain}
-use Rattle.question_tree.specs.Cells.{Gives}
-use Rattle.question_tree.specs.Readings.{items_of}
-use Rattle.question_tree.specs.Through.{through, nothing}
+use Rattle.policy_meaning.specs.Cells.{Gives}
+use Rattle.policy_meaning.specs.Readings.{items_of}
+use Rattle.policy_meaning.specs.Through.{through, nothing}
 use Rattle.policy_meaning.specs.Meaning.{meaning}
-use Rattle.policy_meaning.specs.Laws.{decides_ports}
+use Rattle.policy_meaning.specs.PolicyLaws.{decides_ports}
 use Rattle.topo_paths.specs.Scenes.{cell_in}
 use Rattle.trace_tree.specs.declared.node.Trace.{Trace}
 use Rattle.trace_tree.specs.Shape.{Shape, Branches, Empty, Ends, Reads, Tests, NoBranch, Branch}

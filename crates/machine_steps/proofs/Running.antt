@@ -12,9 +12,9 @@ use Rattle.maple_base.specs.declared.decision.Outcome.TheVariants.{Decided}
 use Rattle.policy_lang.specs.declared.Policy.{Policy}
 use Rattle.policy_lang.specs.Tree.{Acts}
 use Rattle.policy_lang.specs.PolicyTree.{policy_tree}
-use Rattle.question_tree.specs.Laws.{IsTrace, IsTraceOf}
+use Rattle.policy_meaning.specs.QuestionLaws.{IsTrace, IsTraceOf}
 use Rattle.policy_meaning.specs.Meaning.{meaning}
-use Rattle.policy_meaning.specs.Laws.{begins_at, decides_ports}
+use Rattle.policy_meaning.specs.PolicyLaws.{begins_at, decides_ports}
 use Rattle.topo_paths.specs.Scenes.{cell_in}
 use Rattle.trace_record.specs.Runs.{Recorded}
 use Rattle.tree_prune.specs.Laws.{SameIsEqual}

@@ -6,8 +6,8 @@ use Rattle.maple_base.specs.declared.decision.Decision.{Decision}
 use Rattle.maple_base.specs.declared.decision.Outcome.TheVariants.{Decided}
 use Rattle.maple_base.specs.Kinds.{of_kind}
 use Rattle.policy_lang.specs.PolicyTree.{policy_tree}
-use Rattle.question_tree.specs.Cells.{Gives}
-use Rattle.question_tree.specs.Readings.{items_of, cells_of}
+use Rattle.policy_meaning.specs.Cells.{Gives}
+use Rattle.policy_meaning.specs.Readings.{items_of, cells_of}
 use Rattle.policy_meaning.specs.Meaning.{eval_of}
 use Rattle.topo_paths.specs.Scenes.{cell_in}
 use Rattle.trace_record.specs.Runs.{Recorded, IsRun}

@@ -12,9 +12,9 @@ use Rattle.maple_base.specs.Ports.{is_port}
 use Rattle.env_cells.specs.Environment.{Environment, knows}
 use Rattle.topo_paths.specs.Scenes.{cell_in}
 use Rattle.policy_meaning.specs.Meaning.{meaning}
-use Rattle.policy_meaning.specs.Laws.{begins_at, decides_ports}
-use Rattle.question_tree.specs.Cells.{Gives}
-use Rattle.question_tree.specs.Laws.{IsTrace}
+use Rattle.policy_meaning.specs.PolicyLaws.{begins_at, decides_ports}
+use Rattle.policy_meaning.specs.Cells.{Gives}
+use Rattle.policy_meaning.specs.QuestionLaws.{IsTrace}
 use Rattle.priority_plan.specs.Rules.{level_limit, levels_of}
 use Rattle.switch_session.specs.Sessions.{heading}
 use Rattle.trace_tree.specs.declared.node.Trace.{Trace}

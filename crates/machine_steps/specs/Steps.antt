@@ -39,9 +39,9 @@ use Rattle.env_cells.specs.Refusals.{refusal_of}
 use Rattle.topo_paths.specs.Scenes.{links_in, cell_in}
 use Rattle.topo_paths.specs.Walks.{Link}
 use Rattle.policy_lang.specs.declared.Policy.{Policy}
-use Rattle.question_tree.specs.Asking.{Asking}
-use Rattle.question_tree.specs.Readings.{items_of, cells_of}
-use Rattle.question_tree.specs.Through.{through, nothing}
+use Rattle.policy_meaning.specs.Asking.{Asking}
+use Rattle.policy_meaning.specs.Readings.{items_of, cells_of}
+use Rattle.policy_meaning.specs.Through.{through, nothing}
 use Rattle.policy_meaning.specs.Meaning.{meaning, eval_of}
 use Rattle.trace_record.specs.Runs.{Recorded}
 use Rattle.trace_tree.specs.declared.node.Trace.{Trace}

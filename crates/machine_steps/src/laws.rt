@@ -2,9 +2,9 @@
 ghost use Rattle.machine_steps.specs.Laws.{OpensSound, KeepsSound, RunsStay, LentRuns};
 ghost use Rattle.machine_steps.specs.Running.{CellsAreOfKind, CurrentRunsAreNow, RunsAreAsked, RunsCanBeLearned};
 
-use policy_meaning::laws::meaning_laws;
+use policy_meaning::policy_laws::meaning_laws;
+use policy_meaning::question_laws::{reading_laws, tree_laws};
 use priority_plan::plan_law;
-use question_tree::laws::{reading_laws, tree_laws};
 use switch_session::session_laws;
 use switch_traces::traces_laws;
 use trace_tree::scratch_laws;

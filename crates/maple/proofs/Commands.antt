@@ -3,12 +3,12 @@ use Rattle.std.proofs.Common.{◌≡◌, ℕ, List, refl, sym, subst, inl, inr}
 use Rattle.maple_base.specs.declared.decision.Settings.{Settings}
 use Rattle.maple_io.specs.Views.{SinkView}
 use Rattle.policy_lang.specs.declared.Policy.{Policy}
-use Rattle.policy_print.specs.Printed.{policy_text}
+use Rattle.policy_text.specs.Printed.{policy_text}
 use Rattle.policy_text.specs.Texts.{IsTextOf}
 use Rattle.report_text.specs.declared.line.Line.{Line}
 use Rattle.report_text.specs.Report.{spelled}
 use Rattle.device_port.specs.Devices.{Meaning}
-use Rattle.script_orders.specs.Lines.{ended_lines}
+use Rattle.script_text.specs.Lines.{ended_lines}
 use Rattle.sim_driver.specs.Runs.{given}
 use Rattle.maple.specs.declared.status.Status.{Status}
 use Rattle.maple.specs.declared.status.Status.TheVariants.{Done, Usage, Policy as PolicyRefused, Script, ReadFault, WriteFault, NoMemory, TooLong}

@@ -4,7 +4,7 @@ use Rattle.maple_io.specs.Views.{SourceView, SinkView, ReadFailed, NoReadFailed,
 use Rattle.policy_lang.specs.declared.Policy.{Policy}
 use Rattle.device_port.specs.Devices.{Meaning}
 use Rattle.maple_base.specs.declared.decision.Settings.{Settings}
-use Rattle.script_orders.specs.Orders.{refused_from}
+use Rattle.script_text.specs.Orders.{refused_from}
 use Rattle.sim_driver.specs.declared.drive.SimEnd.{SimEnd}
 use Rattle.sim_driver.specs.declared.drive.SimEnd.TheVariants as ends
 use Rattle.sim_driver.specs.Runs.{Given}
@@ -16,7 +16,7 @@ use Rattle.maple.specs.Ends.{WroteFront, WroteSome}
 use Rattle.maple_io.specs.Fronts.{IsFront}
 use Rattle.maple.specs.Lines.{policy_part, script_lines, first_number}
 use Rattle.policy_text.specs.Texts.{IsTextOf}
-use Rattle.policy_print.specs.Printed.{policy_text}
+use Rattle.policy_text.specs.Printed.{policy_text}
 use Rattle.report_text.specs.declared.line.Line.{Line}
 use Rattle.report_text.specs.declared.line.ScriptRefusal.{ScriptRefusal}
 use Rattle.report_text.specs.Report.{spelled}

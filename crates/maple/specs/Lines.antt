@@ -1,8 +1,8 @@
 -- The two parts of an input.
 use Rattle.std.specs.Prelude.{ℕ, ◌+◌, List}
 use Rattle.std.specs.List.{concat}
-use Rattle.script_orders.specs.Lines.{ended_lines}
-use Rattle.script_orders.specs.Marks.{ahead_of_mark, behind_mark, lines_to_mark}
+use Rattle.script_text.specs.Lines.{ended_lines}
+use Rattle.script_text.specs.Marks.{ahead_of_mark, behind_mark, lines_to_mark}
 
 -- the text of the policy: what the input has ahead of the first line that is %%, or all of it
 abbrev pub policy_part : List ℕ → List ℕ

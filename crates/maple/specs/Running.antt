@@ -6,7 +6,7 @@ use Rattle.report_text.specs.declared.line.Line.TheVariants.{RefusedScript}
 use Rattle.report_text.specs.declared.line.ScriptRefusal.{ScriptRefusal}
 use Rattle.report_text.specs.Report.{spelled}
 use Rattle.device_port.specs.Devices.{Meaning}
-use Rattle.script_orders.specs.Orders.{refused_from}
+use Rattle.script_text.specs.Orders.{refused_from}
 use Rattle.sim_driver.specs.declared.drive.SimEnd.{SimEnd}
 use Rattle.sim_driver.specs.Runs.{EndsWith, Given, IsFollowed}
 use Rattle.maple.specs.declared.status.Status.{Status}

@@ -1,7 +1,7 @@
 // What is written of a policy alone.
 ghost use Rattle.std.specs.Prelude.{◌≡◌, ◌≢◌, IfErr, IfOk};
 ghost use Rattle.maple_io.specs.Views.{NoWriteFailed};
-ghost use Rattle.policy_print.specs.Printed.{policy_text};
+ghost use Rattle.policy_text.specs.Printed.{policy_text};
 ghost use Rattle.report_text.specs.Report.{spelled};
 ghost use Rattle.policy_text.specs.Texts.{IsTextOf};
 ghost use Rattle.maple.specs.Ends.{Ends};

@@ -20,7 +20,7 @@ use crate::words::{Command, command_of};
 use device_port::Device;
 use maple_base::Words;
 use maple_io::{Sink, Source};
-use script_orders::split_at_mark;
+use script_text::split_at_mark;
 use std::alloc::Global;
 
 /// Runs Maple with the words of a command line, over devices, which stand at places from 1 on.

@@ -3,12 +3,12 @@ use Rattle.std.proofs.Common.{◌≡◌, ℕ, suc, ◌+◌, ◌<◌, ◌≤◌, 
 use Rattle.std.proofs.lemmas.List.{drop_all}
 use Rattle.maple_base.specs.declared.decision.Outcome.{Outcome}
 use Rattle.maple_base.specs.declared.decision.Outcome.TheVariants.{Spent}
-use Rattle.question_tree.specs.Asking.{End, Goes, Ends, Run, ◌>>=◌}
-use Rattle.question_tree.specs.Leads.{Saying, Leads}
-use Rattle.question_tree.proofs.Walks.{leads_next, leads_end}
+use Rattle.policy_meaning.specs.Asking.{End, Goes, Ends, Run, ◌>>=◌}
+use Rattle.policy_meaning.specs.Leads.{Saying, Leads}
+use Rattle.policy_meaning.proofs.Walks.{leads_next, leads_end}
 use Rattle.policy_lang.specs.declared.Statement.{Statement}
 use Rattle.policy_meaning.specs.Values.{Scope}
-use Rattle.policy_eval.specs.Parts.{statement_runs, runs_of}
+use Rattle.policy_eval.specs.StatementParts.{statement_runs, runs_of}
 
 abbrev Parts : Type 0
 Parts = Run (Scope × ℕ)

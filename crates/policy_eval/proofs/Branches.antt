@@ -3,9 +3,9 @@ use Rattle.std.proofs.Common.{◌≡◌, ℕ, ◌-◌, Bool, true, false, length
 use Rattle.std.specs.Prelude.{Option, Some, None}
 use Rattle.std.specs.Option.{option_map}
 use Rattle.maple_base.specs.declared.decision.Outcome.{Outcome}
-use Rattle.question_tree.specs.Asking.{End, Goes, Ends, Run, gives}
-use Rattle.question_tree.specs.Leads.{Saying, Leads}
-use Rattle.question_tree.proofs.Walks.{leads_next, leads_end}
+use Rattle.policy_meaning.specs.Asking.{End, Goes, Ends, Run, gives}
+use Rattle.policy_meaning.specs.Leads.{Saying, Leads}
+use Rattle.policy_meaning.proofs.Walks.{leads_next, leads_end}
 use Rattle.policy_lang.specs.declared.Expr.{Expr}
 use Rattle.policy_lang.specs.declared.Head.{Head}
 use Rattle.policy_lang.specs.declared.Block.{Block}
@@ -16,7 +16,7 @@ use Rattle.policy_lang.specs.TreeOf.{ask_of, if_or_else, tree_of}
 use Rattle.policy_lang.proofs.Rolls.{if_tree, while_tree}
 use Rattle.policy_meaning.specs.Values.{Scope}
 use Rattle.policy_meaning.specs.Meaning.{Running, act_of, acts_of, in_block, head_of, chosen, if_of}
-use Rattle.policy_eval.specs.Parts.{names_where, block_runs, second_runs, repeat_runs, statement_runs}
+use Rattle.policy_eval.specs.StatementParts.{names_where, block_runs, second_runs, repeat_runs, statement_runs}
 
 by_head : Running → Running → Scope → Option Scope × ℕ → Run (Scope × ℕ)
 by_head first second s (held, left) = chosen held first second s left

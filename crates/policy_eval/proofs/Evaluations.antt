@@ -4,11 +4,11 @@ use Rattle.maple_base.specs.declared.key.Key.{Key}
 use Rattle.maple_base.specs.declared.cells.Cell.{Cell}
 use Rattle.maple_base.specs.declared.cells.Value.{Value}
 use Rattle.maple_base.specs.declared.decision.Outcome.{Outcome}
-use Rattle.question_tree.specs.Asking.{Asking}
-use Rattle.question_tree.specs.Readings.{outcome_in}
-use Rattle.question_tree.specs.Leads.{Saying, Leads}
-use Rattle.question_tree.specs.Notes.{Truly}
-use Rattle.question_tree.proofs.Walks.{leads_as, leads_truly}
+use Rattle.policy_meaning.specs.Asking.{Asking}
+use Rattle.policy_meaning.specs.Readings.{outcome_in}
+use Rattle.policy_meaning.specs.Leads.{Saying, Leads}
+use Rattle.policy_meaning.specs.Notes.{Truly}
+use Rattle.policy_meaning.proofs.Walks.{leads_as, leads_truly}
 use Rattle.policy_eval.specs.Evaluated.{Evaluates}
 
 abbrev Evaluating : {E S : Type 0} → (S → Key) → (S → E) → (E → Cell → Value) → Saying S

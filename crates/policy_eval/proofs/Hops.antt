@@ -9,13 +9,13 @@ use Rattle.maple_base.specs.declared.cells.Value.TheVariants.{At}
 use Rattle.maple_base.specs.declared.decision.Decision.TheVariants.{Drop as Dropped, Path as Along}
 use Rattle.maple_base.specs.declared.decision.Outcome.{Outcome}
 use Rattle.maple_base.specs.declared.decision.Outcome.TheVariants.{Decided, Spent}
-use Rattle.question_tree.specs.Asking.{End, Goes, Ends, Run, gives, ends, ◌>>=◌}
-use Rattle.question_tree.specs.Leads.{Saying, CellIs, Leads}
+use Rattle.policy_meaning.specs.Asking.{End, Goes, Ends, Run, gives, ends, ◌>>=◌}
+use Rattle.policy_meaning.specs.Leads.{Saying, CellIs, Leads}
 use Rattle.policy_lang.specs.Tree.{Term}
 use Rattle.policy_meaning.specs.Values.{Datum as Given, Scope, place_in, hop_at}
 use Rattle.policy_meaning.specs.Meaning.{value_of, behind_hop, way, way_to, route_of}
-use Rattle.policy_eval.specs.Parts.{way_from}
-use Rattle.question_tree.proofs.Walks.{leads_next, leads_end}
+use Rattle.policy_eval.specs.StatementParts.{way_from}
+use Rattle.policy_meaning.proofs.Walks.{leads_next, leads_end}
 
 differs : (a b : ℕ) → a ≢ b → (a == b) ≡ false
 differs a b f = ⊎_elim (λ e. absurd (f (eqb-true a b e))) (λ e. e) (cases_Bool (a == b))

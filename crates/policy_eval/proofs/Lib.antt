@@ -1,6 +1,9 @@
-pub mod Hops
-pub mod Branches
 pub mod Blocks
-pub mod Rounds
-pub mod Whole
+pub mod Branches
 pub mod Evaluations
+pub mod Hops
+pub mod Numbers
+pub mod Places
+pub mod Rounds
+pub mod Values
+pub mod Whole

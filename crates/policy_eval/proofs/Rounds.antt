@@ -1,16 +1,16 @@
 -- A loop by the rounds that are left.
 use Rattle.std.proofs.Common.{◌≡◌, ℕ, zero, suc, ◌<◌, true, false, refl, sym, subst, arith}
 use Rattle.maple_base.specs.declared.decision.Outcome.{Outcome}
-use Rattle.question_tree.specs.Asking.{End, Goes, Ends, Run, ◌>>=◌}
-use Rattle.question_tree.specs.Leads.{Saying, Leads}
-use Rattle.question_tree.proofs.Walks.{leads_next, leads_end}
+use Rattle.policy_meaning.specs.Asking.{End, Goes, Ends, Run, ◌>>=◌}
+use Rattle.policy_meaning.specs.Leads.{Saying, Leads}
+use Rattle.policy_meaning.proofs.Walks.{leads_next, leads_end}
 use Rattle.policy_lang.specs.declared.Expr.{Expr}
 use Rattle.policy_lang.specs.declared.Block.{Block}
 use Rattle.policy_lang.specs.Tree.{Term}
 use Rattle.policy_lang.specs.TreeOf.{term_of}
 use Rattle.policy_meaning.specs.Values.{Datum, Scope, truth_in}
 use Rattle.policy_meaning.specs.Meaning.{Running, value_of, round, rounds}
-use Rattle.policy_eval.specs.Parts.{block_runs, repeat_runs}
+use Rattle.policy_eval.specs.StatementParts.{block_runs, repeat_runs}
 
 abbrev Parts : Type 0
 Parts = Run (Scope × ℕ)

@@ -3,9 +3,9 @@ use Rattle.std.proofs.Common.{◌≡◌, ℕ, [], subst}
 use Rattle.maple_base.specs.declared.decision.Decision.TheVariants.{Drop as Dropped}
 use Rattle.maple_base.specs.declared.decision.Outcome.{Outcome}
 use Rattle.maple_base.specs.declared.decision.Outcome.TheVariants.{Decided}
-use Rattle.question_tree.specs.Asking.{End, concluded}
-use Rattle.question_tree.specs.Leads.{Saying, Leads}
-use Rattle.question_tree.proofs.Walks.{leads_whole}
+use Rattle.policy_meaning.specs.Asking.{End, concluded}
+use Rattle.policy_meaning.specs.Leads.{Saying, Leads}
+use Rattle.policy_meaning.proofs.Walks.{leads_whole}
 use Rattle.policy_lang.specs.Tree.{Acts}
 use Rattle.policy_meaning.specs.Values.{Scope}
 use Rattle.policy_meaning.specs.Meaning.{acts_of, in_block, meaning}

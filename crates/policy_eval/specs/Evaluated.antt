@@ -3,8 +3,8 @@ use Rattle.std.specs.Prelude.{◌≡◌}
 use Rattle.maple_base.specs.declared.key.Key.{Key}
 use Rattle.maple_base.specs.declared.cells.Cell.{Cell}
 use Rattle.maple_base.specs.declared.cells.Value.{Value}
-use Rattle.question_tree.specs.Leads.{Answer}
-use Rattle.question_tree.specs.Notes.{Truly}
+use Rattle.policy_meaning.specs.Leads.{Answer}
+use Rattle.policy_meaning.specs.Notes.{Truly}
 
 -- a true answer, by which neither the key nor the environment changes
 pub record Evaluates {E : Type 0} (k : Key) (e : E) (l : Key) (f : E) (has : E → Cell → Value) (a : Answer) : Type 0 where

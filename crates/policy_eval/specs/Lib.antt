@@ -1,4 +1,9 @@
--- A reader must believe: Answers (the limits of a budget). Parts and Evaluated serve private contracts alone.
+-- A reader must believe: Data (what data stand for), Scopes (which names are in force), Walked (what the answers of a part of a run say), Answers (the limits
+-- of a budget). ExpressionParts, StatementParts and Evaluated serve private contracts alone.
 pub mod Answers
+pub mod Data
 pub mod Evaluated
-pub mod Parts
+pub mod ExpressionParts
+pub mod Scopes
+pub mod StatementParts
+pub mod Walked

@@ -8,8 +8,8 @@ ghost use Rattle.policy_meaning.specs.Meaning.{eval_of};
 ghost use Rattle.policy_eval.specs.Answers.{IsBudget};
 ghost use Rattle.policy_eval.specs.Evaluated.{Evaluates};
 
+use crate::asker::{Asker, Unanswered};
 use crate::run;
-use expr_eval::{Asker, Unanswered};
 use maple_base::{Cell, EnvNow, Field, Key, NoMemory, Outcome, Value};
 use policy_lang::Policy;
 use std::alloc::Global;

@@ -2,15 +2,16 @@
 ghost use Rattle.std.specs.Prelude.{◌≡◌, ◌<◌, false, OnOk, IfOk};
 ghost use Rattle.std.specs.Option.{option_map};
 ghost use Rattle.policy_lang.specs.TreeOf.{ask_of};
-ghost use Rattle.policy_data.specs.Data.{datum_of};
+ghost use Rattle.policy_eval.specs.Data.{datum_of};
 ghost use Rattle.policy_meaning.specs.Values.{source_cell, source_told};
 ghost use Rattle.policy_meaning.specs.Meaning.{head_of};
-ghost use Rattle.policy_eval.specs.Parts.{source_of, binds_of, GivesHead};
+ghost use Rattle.policy_eval.specs.StatementParts.{source_of, binds_of, GivesHead};
 
+use crate::asker::{Asker, Stop};
+use crate::datum::Datum;
+use crate::expression_walk::count;
 use crate::statements::Runner;
-use expr_eval::{Asker, Stop, count};
 use maple_base::{Cell, Name, Value};
-use policy_data::Datum;
 use policy_lang::{Expr, Head};
 
 // What a head that binds a name reads: where a host is, by which port a switch is reached, or what
@@ -49,7 +50,7 @@ impl Source {
 
 impl<A: Asker> Runner<A> {
     // Whether a head that binds a name holds; the name is then in force.
-    #[tactic(auto, using(question_tree::proofs::Walks::leads_end, question_tree::proofs::Walks::leads_next, question_tree::proofs::Walks::leads_cell))]
+    #[tactic(auto, using(policy_meaning::proofs::Walks::leads_end, policy_meaning::proofs::Walks::leads_next, policy_meaning::proofs::Walks::leads_cell))]
     fn binds(&mut self, source: Source, expr: &Expr, name: &Name) -> Result<bool, Stop>
         ensures given { GivesHead A.said self.old (binds_of source expr.now name.now) result self.new }
         ensures kept { IfOk result (λ held. held ≡ false → self.new.local.scope ≡ self.old.local.scope) }
@@ -71,7 +72,7 @@ impl<A: Asker> Runner<A> {
     }
 
     // Whether a head holds; a name that it binds is then in force.
-    #[tactic(auto, using(question_tree::proofs::Walks::leads_end, question_tree::proofs::Walks::leads_next))]
+    #[tactic(auto, using(policy_meaning::proofs::Walks::leads_end, policy_meaning::proofs::Walks::leads_next))]
     pub fn head(&mut self, head: &Head) -> Result<bool, Stop>
         ensures given { GivesHead A.said self.old (head_of (ask_of head.now)) result self.new }
         ensures kept { IfOk result (λ held. held ≡ false → self.new.local.scope ≡ self.old.local.scope) }

@@ -2,12 +2,13 @@
 ghost use Rattle.std.specs.Prelude.{◌≡◌, ◌≤◌, length, OnOk};
 ghost use Rattle.policy_lang.specs.TreeOf.{term_of, terms_of};
 ghost use Rattle.policy_meaning.specs.Meaning.{out_of, route_of, let_of, assign_of};
-ghost use Rattle.policy_eval.specs.Parts.{GoesOn, statement_runs, branch_runs, second_runs, repeat_runs, block_runs, runs_of};
+ghost use Rattle.policy_eval.specs.StatementParts.{GoesOn, statement_runs, branch_runs, second_runs, repeat_runs, block_runs, runs_of};
 
+use crate::asker::{Asker, Stop};
+use crate::expression_walk::{Local, Walk, count};
+use crate::ports::sent_out;
 use crate::ways::way_to;
-use expr_eval::{Asker, Local, Stop, Walk, count};
 use maple_base::{Decision, Name, Outcome};
-use policy_data::sent_out;
 use policy_lang::{Block, Expr, Head, Statement};
 
 // A run of a policy under way, and what it sees.
@@ -18,7 +19,7 @@ pub struct Runner<A> {
 
 impl<A: Asker> Runner<A> {
     // The packet goes out of these ports.
-    #[tactic(auto, using(question_tree::proofs::Walks::leads_end, question_tree::proofs::Walks::leads_next))]
+    #[tactic(auto, using(policy_meaning::proofs::Walks::leads_end, policy_meaning::proofs::Walks::leads_next))]
     fn out(&mut self, exprs: &[Expr]) -> Result<(), Stop>
         requires few { length exprs.now ≤ 16 }
         ensures given { GoesOn A.said self.old (out_of (terms_of exprs.now)) result self.new }
@@ -32,7 +33,7 @@ impl<A: Asker> Runner<A> {
     }
 
     // The packet goes along the way to a place.
-    #[tactic(auto, using(question_tree::proofs::Walks::leads_end, crate::proofs::Hops::route_ends, crate::proofs::Hops::route_goes))]
+    #[tactic(auto, using(policy_meaning::proofs::Walks::leads_end, crate::proofs::Hops::route_ends, crate::proofs::Hops::route_goes))]
     fn route(&mut self, expr: &Expr) -> Result<(), Stop>
         ensures given { GoesOn A.said self.old (route_of (term_of expr.now)) result self.new }
         ensures place { self.new.local.switch ≡ self.old.local.switch }
@@ -45,7 +46,7 @@ impl<A: Asker> Runner<A> {
     }
 
     // Declares a name.
-    #[tactic(auto, using(question_tree::proofs::Walks::leads_end, question_tree::proofs::Walks::leads_next))]
+    #[tactic(auto, using(policy_meaning::proofs::Walks::leads_end, policy_meaning::proofs::Walks::leads_next))]
     fn declare(&mut self, name: &Name, expr: &Expr) -> Result<(), Stop>
         ensures given { GoesOn A.said self.old (let_of name.now (term_of expr.now)) result self.new }
         ensures place { self.new.local.switch ≡ self.old.local.switch }
@@ -58,7 +59,7 @@ impl<A: Asker> Runner<A> {
     }
 
     // Gives a name another value.
-    #[tactic(auto, using(question_tree::proofs::Walks::leads_end, question_tree::proofs::Walks::leads_next))]
+    #[tactic(auto, using(policy_meaning::proofs::Walks::leads_end, policy_meaning::proofs::Walks::leads_next))]
     fn assign(&mut self, name: &Name, expr: &Expr) -> Result<(), Stop>
         ensures given { GoesOn A.said self.old (assign_of name.now (term_of expr.now)) result self.new }
         ensures place { self.new.local.switch ≡ self.old.local.switch }
@@ -93,7 +94,7 @@ impl<A: Asker> Runner<A> {
 
     // Runs the first block where a head holds, and else the second, if there is one.
     #[cycle(statements)]
-    #[tactic(auto, using(question_tree::proofs::Walks::leads_end, crate::proofs::Branches::first_ends, crate::proofs::Branches::first_goes, crate::proofs::Branches::second_on))]
+    #[tactic(auto, using(policy_meaning::proofs::Walks::leads_end, crate::proofs::Branches::first_ends, crate::proofs::Branches::first_goes, crate::proofs::Branches::second_on))]
     fn branch(&mut self, head: &Head, first: &Block, second: &Option<Block>) -> Result<(), Stop>
         ensures given { GoesOn A.said self.old (branch_runs head.now first.now second.now) result self.new }
         ensures place { self.new.local.switch ≡ self.old.local.switch }
@@ -140,7 +141,7 @@ impl<A: Asker> Runner<A> {
 
     // Runs a block; names that it declares are in force up to its end.
     #[cycle(statements)]
-    #[tactic(auto, using(question_tree::proofs::Walks::leads_end, question_tree::proofs::Walks::leads_next))]
+    #[tactic(auto, using(policy_meaning::proofs::Walks::leads_end, policy_meaning::proofs::Walks::leads_next))]
     pub fn block(&mut self, block: &Block) -> Result<(), Stop>
         ensures given { GoesOn A.said self.old (block_runs block.now) result self.new }
         ensures place { self.new.local.switch ≡ self.old.local.switch }

@@ -5,11 +5,12 @@ ghost use Rattle.maple_base.specs.Paths.{is_hop};
 ghost use Rattle.maple_base.specs.Ports.{is_port};
 ghost use Rattle.maple_base.specs.declared.decision.Decision.TheVariants.{Drop as Dropped};
 ghost use Rattle.maple_base.specs.declared.decision.Outcome.TheVariants.{Decided};
-ghost use Rattle.expr_eval.specs.declared.asker.Stop.TheVariants.{Ended};
+ghost use Rattle.policy_eval.specs.declared.asker.Stop.TheVariants.{Ended};
 ghost use Rattle.policy_meaning.specs.Meaning.{way_to};
-ghost use Rattle.policy_eval.specs.Parts.{GivesWay, GivesPath, way_from};
+ghost use Rattle.policy_eval.specs.StatementParts.{GivesWay, GivesPath, way_from};
 
-use expr_eval::{Asker, Stop, Walk, count};
+use crate::asker::{Asker, Stop};
+use crate::expression_walk::{Walk, count};
 use maple_base::{Cell, Decision, Outcome, Path, Place, Value, is_port};
 
 // The most next hops of a way.

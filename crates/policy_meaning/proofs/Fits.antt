@@ -14,7 +14,7 @@ use Rattle.maple_base.specs.declared.operator.Operator.{Operator}
 use Rattle.maple_base.specs.Ports.{is_port}
 use Rattle.maple_base.specs.Questions.{same_bool}
 use Rattle.policy_lang.specs.Tree.{Atom, Packet, Callee, Up, At, Term, Single, Call, Is, Not, Pair, Ask, Binds, Holds, Act, Acts, Drop, Flood, Out, Route, Let, Assign, If, IfElse, While, Done as NoActs, Then}
-use Rattle.question_tree.specs.Asking.{Done, AsksField, AsksTest, AsksCell, Goes, Ends, Run, gives, ◌>>=◌, count}
+use Rattle.policy_meaning.specs.Asking.{Done, AsksField, AsksTest, AsksCell, Goes, Ends, Run, gives, ◌>>=◌, count}
 use Rattle.policy_meaning.specs.Values.{Datum, Truth, Scope, truth_in, place_in, ports_among, sent_out, settling, hop_at}
 use Rattle.policy_meaning.specs.Meaning.{Giving, Running, atom_of, called, behind_left, value_of, numbers_of, head_of, behind_hop, way, way_to, leaving, in_block, nothing_done, chosen, if_of, round, rounds, act_of, acts_of}
 

@@ -15,8 +15,8 @@ use Rattle.maple_base.specs.Keys.{field_of}
 use Rattle.maple_base.specs.Ports.{is_port}
 use Rattle.maple_base.specs.Questions.{same_bool}
 use Rattle.policy_lang.specs.Tree.{Term, Single, Call, Is, Not, Pair, Ask, Binds, Holds, Act, Acts, Drop, Flood, Out, Route, Let, Assign, If, IfElse, While, Done as NoActs, Then}
-use Rattle.question_tree.specs.Asking.{Done, AsksField, AsksTest, AsksCell, End, Goes, Ends, Run, gives, ◌>>=◌, onward, count, concluded, whole}
-use Rattle.question_tree.specs.Readings.{outcome_in}
+use Rattle.policy_meaning.specs.Asking.{Done, AsksField, AsksTest, AsksCell, End, Goes, Ends, Run, gives, ◌>>=◌, onward, count, concluded, whole}
+use Rattle.policy_meaning.specs.Readings.{outcome_in}
 use Rattle.policy_meaning.specs.Values.{Datum, Truth, Scope, truth_in, place_in, settling}
 use Rattle.policy_meaning.specs.Meaning.{Giving, Running, atom_of, called, behind_left, value_of, numbers_of, head_of, behind_hop, way, way_to, leaving, in_block, nothing_done, chosen, if_of, round, rounds, act_of, acts_of}
 

@@ -1,3 +1,13 @@
 pub mod Fits
+pub mod Follows
 pub mod Kept
-pub mod Lawful
+pub mod Looked
+pub mod Noted
+pub mod PoliciesLawful
+pub mod QuestionsLawful
+pub mod Recorded
+pub mod Rightly
+pub mod Settled
+pub mod Traces
+pub mod Valid
+pub mod Walks

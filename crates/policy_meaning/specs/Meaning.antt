@@ -14,8 +14,8 @@ use Rattle.maple_base.specs.Ports.{is_port}
 use Rattle.maple_base.specs.Questions.{same_bool}
 use Rattle.policy_lang.specs.Tree.{Atom, Number, Var, SwitchOf, PortOf, PacketSwitch, Packet, Callee, Up, At, Term, Single, Call, Is, Not, Pair, Ask, Binds, Holds, Act, Acts, Drop, Flood, Out, Route, Let, Assign, If, IfElse, While, Done, Then}
 use Rattle.policy_meaning.specs.Values.{Datum, Numeral, Truth, Scope, number_in, truth_in, place_in, flag_in, named, assigned, ports_among, sent_out, opposite, place_at, applied, settling, hop_at, source_cell, source_told}
-use Rattle.question_tree.specs.Readings.{outcome_in}
-use Rattle.question_tree.specs.Asking.{Asking, Run, gives, ends, ◌>>=◌, field, test, cell, count, whole}
+use Rattle.policy_meaning.specs.Readings.{outcome_in}
+use Rattle.policy_meaning.specs.Asking.{Asking, Run, gives, ends, ◌>>=◌, field, test, cell, count, whole}
 
 -- a part of a run that gives something: with so many steps left, it gives this and how many are left then
 abbrev pub Giving : Type 0 → Type 0

@@ -1,4 +1,5 @@
-//! What a policy means, as a tree of questions.
+//! What a policy means: what its run asks of the packet and of the environment, as a tree of questions.
 #![tactic(auto)]
 
-pub mod laws;
+pub mod policy_laws;
+pub mod question_laws;

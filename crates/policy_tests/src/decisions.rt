@@ -1,7 +1,6 @@
 // What policies decide.
 use maple_base::{Cell, Decision, EnvNow, Key, Outcome, Place, Value, is_port};
-use policy_data::sent_out;
-use policy_eval::eval;
+use policy_eval::{eval, sent_out};
 use policy_lang::Policy;
 use policy_text::read_policy;
 use std::alloc::{AllocError, Global};

@@ -1,7 +1,7 @@
 // Names: what is wrong with those of a policy by the places of a text, and what those in force stand
 // for in an evaluation.
 use maple_base::{Name, NoMemory, Place};
-use policy_data::{Datum, Scope};
+use policy_eval::{Datum, Scope};
 use policy_lang::nodes::nodes;
 use policy_lang::{Node, Policy, first_name_fault};
 use policy_text::read_policy;

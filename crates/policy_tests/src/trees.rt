@@ -2,7 +2,7 @@
 use crate::support::{parts_of, push_bytes, text_of};
 use maple_base::{Name, NoMemory};
 use policy_lang::{Block, BuildError, Expr, Exprs, Head, Policy, Statement};
-use policy_print::print_policy;
+use policy_text::print_policy;
 use policy_tree::Parts;
 use std::alloc::Global;
 use std::test::Fail;

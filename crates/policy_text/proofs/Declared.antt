@@ -15,7 +15,7 @@ use Rattle.policy_grammar.specs.Grammar.{Phrase, phrase_tokens, Question, Host, 
 use Rattle.policy_outline.specs.FileNodes.{question_length, if_length, body_first, nodes_from, more_nodes, binding_nodes, question_nodes, statement_node, parts_nodes, statements_nodes, file_nodes}
 use Rattle.policy_tree.specs.Trees.{phrase_term, question_ask, action_act, statements_acts}
 use Rattle.policy_text.specs.Names.{ask_names, act_names, acts_names, NamesStandThere}
-use Rattle.policy_text.proofs.Depths.{phrase_alike, as_many}
+use Rattle.policy_text.proofs.TextDepths.{phrase_alike, as_many}
 
 -- ---- as many nodes are written as the tree has
 

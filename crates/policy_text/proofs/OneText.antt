@@ -5,7 +5,7 @@ use Rattle.policy_tokens.specs.Tokens.{tokens_of}
 use Rattle.policy_grammar.specs.Grammar.{File}
 use Rattle.policy_tree.specs.Laws.{OneFile}
 use Rattle.policy_tree.specs.Trees.{file_tree}
-use Rattle.policy_text.specs.Laws.{OnePolicy}
+use Rattle.policy_text.specs.TextLaws.{OnePolicy}
 use Rattle.policy_text.specs.Texts.{plain, IsFileOf}
 
 pub same_file : OneFile → (tokens : List Token) (f g : File) → IsFileOf f tokens → IsFileOf g tokens → f ≡ g

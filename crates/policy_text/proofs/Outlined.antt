@@ -22,7 +22,7 @@ use Rattle.policy_tree.specs.declared.building.Parts.{Parts}
 use Rattle.policy_tree.specs.Building.{ArePartsOf, IsMade}
 use Rattle.policy_text.specs.declared.reading.ReadError.TheVariants.{Refused}
 use Rattle.policy_text.specs.Texts.{plain, token_position, file_faults, IsFileOf, IsWrong}
-use Rattle.policy_text.proofs.Depths.{tree_free}
+use Rattle.policy_text.proofs.TextDepths.{tree_free}
 
 none_wrong : (place : Site → ℕ) (fs : List Fault) → first_by place fs ≡ None → fs ≡ []
 none_wrong place [] h = refl

@@ -3,9 +3,9 @@ use Rattle.std.proofs.Common.{sym, ap, ◌∙◌}
 use Rattle.policy_lang.specs.declared.Policy.{Policy}
 use Rattle.policy_lang.specs.Faults.{name_faults}
 use Rattle.policy_lang.specs.PolicyTree.{policy_tree}
-use Rattle.policy_print.specs.Laws.{IsOfGrammar, IsTree, PassesNone, SpelledAsWritten}
-use Rattle.policy_print.specs.Written.{file_of}
-use Rattle.policy_text.specs.Laws.{IsReadBack}
+use Rattle.policy_text.specs.PrintLaws.{IsOfGrammar, IsTree, PassesNone, SpelledAsWritten}
+use Rattle.policy_text.specs.Written.{file_of}
+use Rattle.policy_text.specs.TextLaws.{IsReadBack}
 
 pub read_back : IsOfGrammar → IsTree → PassesNone → SpelledAsWritten → (p : Policy) → IsReadBack p
 read_back grammar tree limits spelled p short =

@@ -1,14 +1,17 @@
 // Prints a policy as a text.
 ghost use Rattle.std.specs.Prelude.{◌≡◌, ◌++◌, OnOk, OnErr};
-ghost use Rattle.policy_print.specs.Printed.{policy_text};
-ghost use Rattle.policy_text.specs.Laws.{IsReadBack};
+ghost use Rattle.policy_text.specs.Printed.{policy_text};
+ghost use Rattle.policy_text.specs.TextLaws.{IsReadBack};
 
+use crate::policies::append_form;
+use crate::print_laws::{grammar_law, limit_law, spelling_law};
 use maple_base::NoMemory;
 use policy_lang::Policy;
-use policy_print::laws::{grammar_law, limit_law, spelling_law};
 
-/// Appends the printed form of a policy to `out`. Where it has at most 65,536 bytes it is a text of
-/// that policy: what is read of it is the same tree.
+/// Appends the printed form of a policy to `out`: its tables, a line each, and then the policy, a
+/// statement a line, with two spaces for each block round it. Parentheses stand exactly where the tree
+/// could not be read without them, and numbers are decimal. Where it has at most 65,536 bytes it is a
+/// text of that policy: what is read of it is the same tree.
 ///
 /// # Errors
 ///
@@ -21,5 +24,5 @@ pub fn print_policy(policy: &Policy, out: &mut Vec<u8>) -> Result<(), NoMemory>
     grammar_law();
     limit_law();
     spelling_law();
-    policy_print::print_policy(policy, out)
+    append_form(policy, out)
 }

@@ -14,7 +14,7 @@ use Rattle.trace_tree.specs.declared.node.Leaf.{Leaf}
 use Rattle.trace_tree.specs.Shape.{Shape, Branches, Empty, Ends, Reads, Tests, NoBranch, Branch}
 use Rattle.trace_tree.specs.Growth.{IsBelow, scratch}
 use Rattle.trace_tree.proofs.Growths.{both}
-use Rattle.question_tree.specs.Laws.{asks_normally}
+use Rattle.policy_meaning.specs.QuestionLaws.{asks_normally}
 use Rattle.priority_plan.specs.declared.rows.Row.{Row}
 use Rattle.priority_plan.specs.declared.rows.Row.TheVariants.{Fact, Barrier}
 use Rattle.priority_plan.specs.Rules.{with_barrier, levels_of, fact_actions}

@@ -7,7 +7,7 @@ use Rattle.maple_base.specs.declared.decision.Rule.{Rule}
 use Rattle.maple_base.specs.Choice.{Differ}
 use Rattle.maple_base.specs.Keys.{match_exact, match_normal, anything}
 use Rattle.flow_table.specs.Shielding.{IsBarrier}
-use Rattle.question_tree.specs.Laws.{asks_normally}
+use Rattle.policy_meaning.specs.QuestionLaws.{asks_normally}
 use Rattle.trace_tree.specs.declared.node.Trace.{Trace}
 use Rattle.trace_tree.specs.Shape.{Shape, Empty}
 use Rattle.trace_tree.specs.Growth.{scratch, AreAdmitted, AllAskOnce}

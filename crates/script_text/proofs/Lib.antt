@@ -1,6 +1,11 @@
-pub mod Ends
 pub mod Cuts
+pub mod Ends
 pub mod FieldWords
+pub mod FirstLines
+pub mod Marks
+pub mod Nexts
 pub mod Options
 pub mod Pairs
 pub mod Said
+pub mod Sizes
+pub mod Texts

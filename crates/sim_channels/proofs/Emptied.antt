@@ -7,15 +7,15 @@ use Rattle.std.proofs.lemmas.Option.{same_Some, slice_get_within}
 use Rattle.of10_codec.specs.declared.message.Message.{Message}
 use Rattle.device_port.specs.Devices.{Meaning}
 use Rattle.message_blocks.specs.Spelling.{IsSpelled}
-use Rattle.machine_sends.specs.Sends.{CanBeOffered}
+use Rattle.machine_moves.specs.Sends.{CanBeOffered}
 use Rattle.machine_steps.specs.declared.entry.Entry.TheVariants as entries
 use Rattle.machine_steps.specs.declared.reply.Reply.TheVariants.{Out}
 use Rattle.machine_steps.specs.Steps.{Steps}
 use Rattle.world_steps.specs.Worlds.{messages_for}
 use Rattle.sim_steps.specs.Benches.{MovesAt, is_plugged}
 use Rattle.sim_steps.specs.Deeds.{GetsMessages}
-use Rattle.sim_stretches.specs.Stretches.{Carried}
-use Rattle.sim_stretches.proofs.Moments.{carried_entry}
+use Rattle.sim_steps.specs.Stretches.{Carried}
+use Rattle.sim_steps.proofs.Moments.{carried_entry}
 use Rattle.sim_channels.specs.declared.channel.Channel.{Channel}
 use Rattle.sim_channels.specs.declared.channel.Stage.TheVariants.{Plugged}
 use Rattle.sim_channels.specs.declared.driver.Driver.{Driver}

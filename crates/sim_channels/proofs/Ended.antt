@@ -3,7 +3,7 @@ use Rattle.std.proofs.Common.{◌≡◌, ℕ, ◌+◌, Bool, true, false, refl, 
 use Rattle.std.specs.Prelude.{is_some}
 use Rattle.std.proofs.lemmas.Bool.{eq-eqb, ne_eqb}
 use Rattle.std.proofs.lemmas.Option.{same_Some}
-use Rattle.machine_replies.specs.Told.{is_end}
+use Rattle.machine_moves.specs.Told.{is_end}
 use Rattle.machine_steps.specs.declared.entry.Entry.TheVariants as entries
 use Rattle.machine_steps.specs.declared.reply.Reply.{Reply}
 use Rattle.machine_steps.specs.declared.reply.Reply.TheVariants.{Ended}

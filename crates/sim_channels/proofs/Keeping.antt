@@ -5,8 +5,8 @@ use Rattle.std.specs.List.{AllByRecursion}
 use Rattle.std.proofs.lemmas.Bool.{cases_Bool, eq-eqb}
 use Rattle.policy_lang.specs.declared.Policy.{Policy}
 use Rattle.machine_moves.specs.Moves.{Fares, TakesBy}
-use Rattle.machine_replies.specs.Told.{concerns, is_end, may_end, policy_behind}
-use Rattle.machine_sends.specs.Sends.{CanBeOffered, OutboxesCanBeOffered}
+use Rattle.machine_moves.specs.Told.{concerns, is_end, may_end, policy_behind}
+use Rattle.machine_moves.specs.Sends.{CanBeOffered, OutboxesCanBeOffered}
 use Rattle.machine_steps.specs.declared.entry.Entry.{Entry}
 use Rattle.machine_steps.specs.declared.entry.Entry.TheVariants as entries
 use Rattle.machine_steps.specs.declared.reply.Reply.{Reply}

@@ -5,7 +5,7 @@ use Rattle.std.specs.List.{slice_get}
 use Rattle.std.proofs.lemmas.Bool.{cases_Bool, cases_eq, ne_eqb}
 use Rattle.std.proofs.lemmas.Option.{slice_get_within}
 use Rattle.policy_lang.specs.declared.Policy.{Policy}
-use Rattle.machine_replies.specs.Told.{IsOpenedNow, is_end}
+use Rattle.machine_moves.specs.Told.{IsOpenedNow, is_end}
 use Rattle.machine_steps.specs.declared.entry.Entry.TheVariants as entries
 use Rattle.machine_steps.specs.declared.reply.Reply.{Reply}
 use Rattle.machine_steps.specs.declared.reply.Reply.TheVariants.{NoMemory}

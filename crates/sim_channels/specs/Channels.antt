@@ -9,7 +9,7 @@ use Rattle.machine_steps.specs.Histories.{Leads, Turn}
 use Rattle.machine_steps.specs.Machine.{State, opening, was_opened}
 use Rattle.machine_steps.specs.Sound.{AreInRange}
 use Rattle.sim_steps.specs.Benches.{Slot, Bench, is_plugged}
-use Rattle.sim_stretches.specs.Stretches.{Carried}
+use Rattle.sim_steps.specs.Stretches.{Carried}
 use Rattle.sim_channels.specs.declared.channel.Channel.{Channel}
 use Rattle.sim_channels.specs.declared.channel.Stage.{Stage}
 use Rattle.sim_channels.specs.declared.channel.Stage.TheVariants.{Unplugged, Plugged}

@@ -5,12 +5,12 @@ use Rattle.of10_stream.specs.Steps.{beginning}
 use Rattle.device_port.specs.declared.device.Took.{Took}
 use Rattle.device_port.specs.declared.device.Took.TheVariants.{Taken, Failed}
 use Rattle.device_port.specs.Devices.{Meaning}
-use Rattle.machine_sends.specs.Sends.{CanBeOffered}
+use Rattle.machine_moves.specs.Sends.{CanBeOffered}
 use Rattle.machine_steps.specs.declared.entry.Entry.TheVariants.{Gone}
 use Rattle.machine_steps.specs.declared.reply.Reply.{Reply}
 use Rattle.world_steps.specs.Worlds.{lacks_memory}
 use Rattle.sim_steps.specs.Deeds.{EntersAt, OffersNext}
-use Rattle.sim_stretches.specs.Stretches.{Carried}
+use Rattle.sim_steps.specs.Stretches.{Carried}
 use Rattle.sim_channels.specs.declared.channel.Channel.{Channel}
 use Rattle.sim_channels.specs.declared.channel.Stage.TheVariants.{Left, Plugged, Unplugged}
 use Rattle.sim_channels.specs.declared.driver.Driver.{Driver}

@@ -1,7 +1,7 @@
 -- The laws of the machine that who drives it rests on.
-use Rattle.machine_moves.specs.Laws.{ConnectionsOpen, OpenIsKept, SessionsMove, SessionsOpen, StatesGrow}
-use Rattle.machine_replies.specs.Told.{EndsAreTold, FreshRunsAnswer, JobsAreTold, NoneElseWaits, OpensAreTold, OthersStay, PolicyIsTold, StatesAreTold}
-use Rattle.machine_sends.specs.Sends.{SendsLaw}
+use Rattle.machine_moves.specs.MoveLaws.{ConnectionsOpen, OpenIsKept, SessionsMove, SessionsOpen, StatesGrow}
+use Rattle.machine_moves.specs.Told.{EndsAreTold, FreshRunsAnswer, JobsAreTold, NoneElseWaits, OpensAreTold, OthersStay, PolicyIsTold, StatesAreTold}
+use Rattle.machine_moves.specs.Sends.{SendsLaw}
 use Rattle.machine_steps.specs.Laws.{KeepsSound, OpensSound}
 
 pub record DrivingLaws : Type 0 where

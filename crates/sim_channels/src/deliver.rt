@@ -1,6 +1,6 @@
 // What the machine has for devices is taken out and offered to them.
 ghost use Rattle.std.specs.Prelude.{◌≡◌, ◌<◌, [], map, length, OnOk};
-ghost use Rattle.sim_stretches.specs.Stretches.{Carried};
+ghost use Rattle.sim_steps.specs.Stretches.{Carried};
 ghost use Rattle.sim_channels.specs.Channels.{Fits, bench};
 ghost use Rattle.sim_channels.specs.Delivering.{Delivers, IsPluggedIn};
 ghost use Rattle.sim_channels.specs.Waiting.{IsAtRest, IsHeard, IsHeardThrough, IsOffered, IsTaken, StaysBut};

@@ -1,9 +1,7 @@
 // What holds of the machine, for who drives it.
 ghost use Rattle.sim_channels.specs.Driving.{DrivingLaws};
 
-use machine_moves::{growth_laws, session_laws};
-use machine_replies::reply_laws;
-use machine_sends::sends_law;
+use machine_moves::{growth_laws, reply_laws, sends_law, session_laws};
 use machine_steps::machine_laws;
 
 /// What each entry does to the machine, what its reply tells, and what the machine sends.

@@ -1,7 +1,7 @@
 // A message that was taken out is offered to its device.
 ghost use Rattle.std.specs.Prelude.{◌≡◌, ◌<◌, IfOk, OnOk, length, map};
 ghost use Rattle.std.specs.List.{AllByRecursion};
-ghost use Rattle.machine_sends.specs.Sends.{CanBeOffered};
+ghost use Rattle.machine_moves.specs.Sends.{CanBeOffered};
 ghost use Rattle.sim_channels.specs.Channels.{Fits, bench};
 ghost use Rattle.sim_channels.specs.Delivering.{CanOffer, Delivers, GoesOn, IsPluggedIn, OffersFirst, offers_left};
 ghost use Rattle.sim_channels.specs.Waiting.{IsTaken};

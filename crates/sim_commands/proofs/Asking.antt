@@ -3,12 +3,12 @@ use Rattle.std.proofs.Common.{◌≡◌, List, [], ◌∷◌, refl, sym, subst}
 use Rattle.device_port.specs.Devices.{Meaning}
 use Rattle.machine_steps.specs.declared.entry.Entry.{Entry}
 use Rattle.machine_steps.specs.declared.reply.Reply.{Reply}
-use Rattle.script_orders.specs.Orders.{Order}
+use Rattle.script_text.specs.Orders.{Order}
 use Rattle.sim_steps.specs.Benches.{Bench}
 use Rattle.sim_steps.specs.Deeds.{Event, MayEnter}
 use Rattle.sim_steps.specs.Parts.{IsStill, JustEnters, Obeys}
-use Rattle.sim_stretches.specs.Stretches.{Carried, Obeyed}
-use Rattle.sim_stretches.proofs.Joining.{carried_behind, obeyed}
+use Rattle.sim_steps.specs.Stretches.{Carried, Obeyed}
+use Rattle.sim_steps.proofs.Joining.{carried_behind, obeyed}
 use Rattle.sim_channels.specs.declared.driver.Driver.{Driver}
 use Rattle.sim_channels.specs.Channels.{Fits, bench}
 use Rattle.sim_turns.specs.Turning.{AskedOver, IsAsked}

@@ -17,11 +17,11 @@ use Rattle.machine_steps.specs.declared.reply.Reply.TheVariants.{Done}
 use Rattle.machine_steps.specs.Steps.{Steps}
 use Rattle.sim_steps.specs.Benches.{MovesAt, is_plugged}
 use Rattle.sim_steps.specs.Deeds.{CallsSlot, has_failed}
-use Rattle.script_orders.specs.Orders.Order.{Arrival}
+use Rattle.script_text.specs.Orders.Order.{Arrival}
 use Rattle.sim_steps.specs.Parts.{JustLooks}
-use Rattle.sim_stretches.specs.Stretches.{Carried, Obeyed}
-use Rattle.sim_stretches.proofs.Joining.{carried_behind, obeyed}
-use Rattle.sim_stretches.proofs.Moments.{called, stretch_call, stretch_failed}
+use Rattle.sim_steps.specs.Stretches.{Carried, Obeyed}
+use Rattle.sim_steps.proofs.Joining.{carried_behind, obeyed}
+use Rattle.sim_steps.proofs.Moments.{called, stretch_call, stretch_failed}
 use Rattle.sim_channels.specs.declared.channel.Channel.{Channel}
 use Rattle.sim_channels.specs.declared.channel.Stage.TheVariants.{Unplugged, Plugged}
 use Rattle.sim_channels.specs.declared.driver.Driver.{Driver}

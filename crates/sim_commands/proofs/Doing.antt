@@ -10,12 +10,12 @@ use Rattle.machine_steps.specs.declared.note.Note.{Note}
 use Rattle.machine_steps.specs.declared.note.Note.TheVariants as notes
 use Rattle.machine_steps.specs.declared.reply.Reply.TheVariants.{Done}
 use Rattle.machine_steps.specs.Machine.{State, was_opened}
-use Rattle.script_orders.specs.Orders.{Order}
-use Rattle.script_orders.specs.Steps.{IsAmong}
+use Rattle.script_text.specs.Orders.{Order}
+use Rattle.script_text.specs.Steps.{IsAmong}
 use Rattle.sim_steps.specs.Benches.{is_plugged}
 use Rattle.sim_steps.specs.Deeds.{Event, MayNote}
 use Rattle.sim_steps.specs.Parts.{IfPlugged, JustEnters, JustNotes, Obeys, PlugsBy}
-use Rattle.sim_stretches.specs.Stretches.{Carried, Obeyed}
+use Rattle.sim_steps.specs.Stretches.{Carried, Obeyed}
 use Rattle.sim_channels.specs.declared.channel.Channel.{Channel}
 use Rattle.sim_channels.specs.declared.channel.Stage.{Stage}
 use Rattle.sim_channels.specs.declared.channel.Stage.TheVariants.{Plugged}

@@ -15,7 +15,7 @@ use Rattle.sim_channels.specs.Waiting.{IsAtRest, IsHeard, IsOffered, IsTaken, St
 use Rattle.sim_channels.proofs.Keeping.{messages_same}
 use Rattle.sim_channels.proofs.Kept.{plugged_at}
 use Rattle.sim_channels.proofs.Slots.{slots_alike}
-use Rattle.sim_hearing.specs.Hearing.{KeepsChannels}
+use Rattle.sim_turns.specs.Hearing.{KeepsChannels}
 use Rattle.sim_commands.specs.Commands.{Restages}
 
 -- an index is this one or another

@@ -10,7 +10,7 @@ use Rattle.machine_steps.specs.declared.entry.Entry.TheVariants as entries
 use Rattle.machine_steps.specs.declared.reply.Reply.{Reply}
 use Rattle.machine_steps.specs.Machine.{Session, State, was_opened}
 use Rattle.machine_steps.specs.Steps.{Steps}
-use Rattle.machine_replies.specs.Told.{concerns, is_end, is_heard}
+use Rattle.machine_moves.specs.Told.{concerns, is_end, is_heard}
 use Rattle.world_steps.specs.Worlds.{lacks_memory}
 use Rattle.sim_steps.specs.Benches.{Slot, is_plugged, slot_at}
 use Rattle.sim_steps.specs.Deeds.{MayEnter}

@@ -10,8 +10,8 @@ use Rattle.machine_steps.specs.declared.reply.Reply.{Reply}
 use Rattle.machine_steps.specs.Admitting.{IsOperators}
 use Rattle.machine_steps.specs.Machine.{State, session_at}
 use Rattle.machine_steps.specs.Steps.{Steps}
-use Rattle.machine_replies.specs.Told.{is_heard, is_new_state}
-use Rattle.script_orders.specs.Steps.{IsOfLine}
+use Rattle.machine_moves.specs.Told.{is_heard, is_new_state}
+use Rattle.script_text.specs.Steps.{IsOfLine}
 use Rattle.world_steps.specs.Worlds.{lacks_memory}
 use Rattle.sim_channels.specs.declared.channel.Channel.{Channel}
 use Rattle.sim_channels.specs.declared.driver.Driver.{Driver}

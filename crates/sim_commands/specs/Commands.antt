@@ -7,12 +7,12 @@ use Rattle.device_port.specs.Devices.{Meaning}
 use Rattle.device_port.specs.Devices.Call.{Looking}
 use Rattle.machine_steps.specs.declared.entry.Entry.{Entry}
 use Rattle.machine_steps.specs.declared.reply.Reply.{Reply}
-use Rattle.script_orders.specs.Orders.{Order}
+use Rattle.script_text.specs.Orders.{Order}
 use Rattle.world_steps.specs.Worlds.{lacks_memory}
 use Rattle.sim_steps.specs.Benches.{Bench}
 use Rattle.sim_steps.specs.Deeds.{CallsAt, Event, LooksUp, has_failed}
 use Rattle.sim_steps.specs.Deeds.Deed.{Calls}
-use Rattle.sim_stretches.specs.Stretches.{Obeyed, Stretch}
+use Rattle.sim_steps.specs.Stretches.{Obeyed, Stretch}
 use Rattle.sim_channels.specs.Channels.{Fits, IsKept, bench, slot_by}
 use Rattle.sim_channels.specs.declared.channel.Channel.{Channel}
 use Rattle.sim_channels.specs.declared.channel.Stage.{Stage}
@@ -20,7 +20,7 @@ use Rattle.sim_channels.specs.declared.channel.Stage.TheVariants.{Left, Plugged,
 use Rattle.sim_channels.specs.declared.driver.Driver.{Driver}
 use Rattle.sim_channels.specs.Waiting.{IsAtRestBut, StaysBut}
 use Rattle.sim_channels.specs.Delivering.{IsPluggedIn}
-use Rattle.sim_hearing.specs.Hearing.{KeepsChannels}
+use Rattle.sim_turns.specs.Hearing.{KeepsChannels}
 use Rattle.sim_turns.specs.Turning.{IsAsked}
 
 -- the device with this index was never plugged in

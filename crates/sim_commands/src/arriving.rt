@@ -3,8 +3,8 @@ ghost use Rattle.std.specs.Prelude.{◌≡◌, ◌+◌, ◌<◌, ◌≤◌, map,
 ghost use Rattle.machine_steps.specs.declared.entry.Entry.TheVariants as entries;
 ghost use Rattle.machine_steps.specs.declared.reply.Reply.TheVariants.{Done};
 ghost use Rattle.machine_steps.specs.Steps.{Steps};
-ghost use Rattle.script_orders.specs.Orders.{Order};
-ghost use Rattle.script_orders.specs.Steps.{IsAmong};
+ghost use Rattle.script_text.specs.Orders.{Order};
+ghost use Rattle.script_text.specs.Steps.{IsAmong};
 ghost use Rattle.script_text.specs.Grammar.{most_bytes};
 ghost use Rattle.sim_channels.specs.Channels.{Fits, IsKept, bench};
 ghost use Rattle.sim_channels.specs.Delivering.{IsPluggedIn};
@@ -16,7 +16,7 @@ use core_machine::{Entry, Note, Reply};
 use device_port::Device;
 use maple_base::{Bytes, NoMemory, Seen};
 use sim_channels::{Channel, Driver, Stage, connection_of, driving_laws};
-use sim_hearing::attend::attend;
+use sim_turns::attend::attend;
 use sim_turns::note;
 use std::alloc::Global;
 

@@ -1,10 +1,10 @@
 // The network changes, another policy is put in force, rules are listed.
 ghost use Rattle.std.specs.Prelude.{◌≡◌, false, map, Ok, OnOk};
 ghost use Rattle.machine_steps.specs.declared.entry.Entry.TheVariants as entries;
-ghost use Rattle.machine_replies.specs.Told.{is_new_state};
+ghost use Rattle.machine_moves.specs.Told.{is_new_state};
 ghost use Rattle.policy_text.specs.Texts.{IsTextOf};
-ghost use Rattle.script_orders.specs.Orders.{Order};
-ghost use Rattle.script_orders.specs.Steps.{IsOfLine};
+ghost use Rattle.script_text.specs.Orders.{Order};
+ghost use Rattle.script_text.specs.Steps.{IsOfLine};
 ghost use Rattle.sim_channels.specs.Channels.{Fits, IsKept};
 ghost use Rattle.sim_channels.specs.Waiting.{IsAtRest, IsHeardThrough};
 ghost use Rattle.sim_turns.specs.Turning.{FitsStill};

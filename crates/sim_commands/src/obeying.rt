@@ -1,6 +1,6 @@
 // An order of a script is obeyed.
 ghost use Rattle.std.specs.Prelude.{◌≡◌, map, length, OnOk};
-ghost use Rattle.script_orders.specs.Steps.{IsKept as IsKeptStep, order_with};
+ghost use Rattle.script_text.specs.Steps.{IsKept as IsKeptStep, order_with};
 ghost use Rattle.sim_channels.specs.Channels.{Fits};
 ghost use Rattle.sim_channels.specs.Waiting.{IsAtRest};
 ghost use Rattle.sim_commands.specs.Commands.{ObeyedBy};
@@ -10,7 +10,7 @@ use crate::changing::{change, list_rules, renew};
 use crate::plugging::{plug, unplug};
 use device_port::Device;
 use maple_base::NoMemory;
-use script_orders::Step;
+use script_text::Step;
 use sim_channels::Driver;
 use sim_turns::{settle, turn};
 

@@ -1,9 +1,9 @@
 // Devices are plugged in and taken out.
 ghost use Rattle.std.specs.Prelude.{◌≡◌, ◌+◌, false, map, length, OnOk};
 ghost use Rattle.machine_steps.specs.declared.entry.Entry.TheVariants as entries;
-ghost use Rattle.machine_replies.specs.Told.{is_end};
-ghost use Rattle.script_orders.specs.Orders.{Order};
-ghost use Rattle.script_orders.specs.Steps.{IsAmong};
+ghost use Rattle.machine_moves.specs.Told.{is_end};
+ghost use Rattle.script_text.specs.Orders.{Order};
+ghost use Rattle.script_text.specs.Steps.{IsAmong};
 ghost use Rattle.sim_channels.specs.Channels.{Fits, IsKept};
 ghost use Rattle.sim_channels.specs.Delivering.{IsPluggedIn};
 ghost use Rattle.sim_channels.specs.Waiting.{IsAtRest, IsHeard, IsOffered};

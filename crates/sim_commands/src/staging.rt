@@ -1,6 +1,6 @@
 // The stages of channels.
 ghost use Rattle.std.specs.Prelude.{◌≡◌, ◌+◌, ◌<◌, ◌≤◌, length, map};
-ghost use Rattle.script_orders.specs.Steps.{IsAmong};
+ghost use Rattle.script_text.specs.Steps.{IsAmong};
 ghost use Rattle.sim_commands.specs.Commands.{Restages};
 
 use sim_channels::{Driver, Stage};

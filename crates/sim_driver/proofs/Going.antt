@@ -15,15 +15,15 @@ use Rattle.device_port.specs.Devices.{Meaning}
 use Rattle.machine_steps.specs.Histories.{Turn, report_of, said}
 use Rattle.machine_steps.specs.Machine.{State, opening}
 use Rattle.machine_steps.specs.Sound.{AreInRange}
-use Rattle.script_orders.specs.Orders.{Order, orders_of, refused_from}
-use Rattle.script_orders.specs.Steps.{Halts, Leads}
+use Rattle.script_text.specs.Orders.{Order, orders_of, refused_from}
+use Rattle.script_text.specs.Steps.{Halts, Leads}
 use Rattle.sim_steps.specs.Agreeing.{taken_report}
 use Rattle.sim_steps.specs.Benches.{Bench, opening_bench}
 use Rattle.sim_steps.specs.Deeds.{Event, Runs, turn_of, turns_of}
 use Rattle.sim_steps.specs.Parts.{IsStill}
 use Rattle.sim_steps.specs.Showing.{AllIdle}
 use Rattle.sim_laws.specs.Laws.{AgreeLaw, HistoryLaw, ReportLaw, WorldLaw}
-use Rattle.sim_stretches.proofs.Joining.{report_then}
+use Rattle.sim_steps.proofs.Joining.{report_then}
 use Rattle.sim_channels.specs.declared.driver.Driver.{Driver}
 use Rattle.sim_channels.specs.Channels.{Fits, bench}
 use Rattle.sim_channels.specs.Waiting.{IsAtRest}

@@ -2,13 +2,13 @@
 use Rattle.std.proofs.Common.{◌≡◌, ℕ, List, [], ◌∷◌, ◌++◌, append-nil, append_assoc, refl, sym, ap, ◌∙◌, subst}
 use Rattle.std.specs.Prelude.{None}
 use Rattle.std.specs.List.{AllByRecursion}
-use Rattle.script_orders.specs.Orders.{Order}
-use Rattle.script_orders.specs.Orders.Order.{Nothing}
+use Rattle.script_text.specs.Orders.{Order}
+use Rattle.script_text.specs.Orders.Order.{Nothing}
 use Rattle.sim_steps.specs.Benches.{Bench}
 use Rattle.sim_steps.specs.Deeds.{Event, Runs}
 use Rattle.sim_steps.specs.Parts.{Follows, HadMemory, IsDrained, IsInOrder, IsPart, IsStill, Obeys, asked_of}
-use Rattle.sim_stretches.specs.Stretches.{Stretch}
-use Rattle.sim_stretches.proofs.Joining.{all_append, asked_then, faults_then, runs_then}
+use Rattle.sim_steps.specs.Stretches.{Stretch}
+use Rattle.sim_steps.proofs.Joining.{all_append, asked_then, faults_then, runs_then}
 
 -- the parts of these orders, and nothing behind them
 abbrev pub Parts : List Order → Bench → List Event → Bench → Type 0

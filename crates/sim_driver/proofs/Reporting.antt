@@ -3,15 +3,15 @@ use Rattle.std.proofs.Common.{◌≡◌, ℕ, List, ◌++◌, refl, sym, ap, ◌
 use Rattle.std.specs.Prelude.{OnOk, OnErr, Result, Ok, Err}
 use Rattle.maple_io.specs.Views.{SinkView, Wrote}
 use Rattle.device_port.specs.Devices.{Meaning}
-use Rattle.script_orders.specs.Orders.{Order}
-use Rattle.script_orders.specs.declared.step.Step.{Step}
-use Rattle.script_orders.specs.Steps.{order_with}
+use Rattle.script_text.specs.Orders.{Order}
+use Rattle.script_text.specs.declared.step.Step.{Step}
+use Rattle.script_text.specs.Steps.{order_with}
 use Rattle.sim_steps.specs.Agreeing.{taken_report}
 use Rattle.sim_steps.specs.Benches.{Bench}
 use Rattle.sim_steps.specs.Deeds.{Event}
 use Rattle.sim_steps.specs.Parts.{IsPart}
-use Rattle.sim_stretches.specs.Stretches.{Obeyed}
-use Rattle.sim_stretches.proofs.Joining.{report_then}
+use Rattle.sim_steps.specs.Stretches.{Obeyed}
+use Rattle.sim_steps.proofs.Joining.{report_then}
 use Rattle.sim_channels.specs.declared.driver.Driver.{Driver}
 use Rattle.sim_channels.specs.Channels.{Fits, bench}
 use Rattle.sim_channels.specs.Waiting.{IsAtRest}

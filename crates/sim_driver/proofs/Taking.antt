@@ -7,8 +7,8 @@ use Rattle.machine_steps.specs.Histories.{IsTurn, Leads, Turn}
 use Rattle.machine_steps.specs.Machine.{State}
 use Rattle.sim_steps.specs.Benches.{IsPluggedAt, Slot}
 use Rattle.sim_steps.specs.Parts.{IsStill}
-use Rattle.sim_stretches.specs.Stretches.{Stretch}
-use Rattle.sim_stretches.proofs.Moments.{report_taken}
+use Rattle.sim_steps.specs.Stretches.{Stretch}
+use Rattle.sim_steps.proofs.Moments.{report_taken}
 use Rattle.sim_channels.specs.declared.channel.Channel.{Channel}
 use Rattle.sim_channels.specs.declared.driver.Driver.{Driver}
 use Rattle.sim_channels.specs.Channels.{Fits, IsReached, bench, slots_of}

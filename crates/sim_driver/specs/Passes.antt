@@ -5,9 +5,9 @@ use Rattle.maple_io.specs.Views.{SinkView, Wrote}
 use Rattle.report_text.specs.Report.{spelled}
 use Rattle.device_port.specs.Devices.{Meaning}
 use Rattle.machine_steps.specs.Sound.{AreInRange}
-use Rattle.script_orders.specs.Orders.{Order}
-use Rattle.script_orders.specs.declared.step.Step.{Step}
-use Rattle.script_orders.specs.Steps.{order_with}
+use Rattle.script_text.specs.Orders.{Order}
+use Rattle.script_text.specs.declared.step.Step.{Step}
+use Rattle.script_text.specs.Steps.{order_with}
 use Rattle.sim_steps.specs.Agreeing.{taken_report}
 use Rattle.sim_steps.specs.Benches.{Bench, opening_bench}
 use Rattle.sim_steps.specs.Deeds.{Event}

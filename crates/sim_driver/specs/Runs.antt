@@ -10,8 +10,8 @@ use Rattle.report_text.specs.Report.{spelled}
 use Rattle.device_port.specs.Devices.{Meaning}
 use Rattle.machine_steps.specs.Histories.{Leads, report_of}
 use Rattle.machine_steps.specs.Machine.{opening}
-use Rattle.script_orders.specs.Lines.{ended_lines}
-use Rattle.script_orders.specs.Orders.{Order, orders_of, refused_from}
+use Rattle.script_text.specs.Lines.{ended_lines}
+use Rattle.script_text.specs.Orders.{Order, orders_of, refused_from}
 use Rattle.sim_steps.specs.Agreeing.{AllAgree}
 use Rattle.sim_steps.specs.Benches.{Bench, Slot, opening_bench}
 use Rattle.sim_steps.specs.Deeds.{Event, Runs, turns_of}

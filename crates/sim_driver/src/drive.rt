@@ -12,7 +12,7 @@ use maple_base::Settings;
 use maple_io::{PutStop, Sink};
 use policy_lang::Policy;
 use report_text::ScriptRefusal;
-use script_orders::{Stop, next_order};
+use script_text::{Stop, next_order};
 use sim_channels::Driver;
 use sim_laws::{agreeing_laws, world_law};
 use std::alloc::Global;

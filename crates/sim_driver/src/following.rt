@@ -1,7 +1,7 @@
 // An order of a script is followed, and what the report gains by it is written.
 ghost use Rattle.std.specs.Prelude.{◌≡◌, ◌≢◌, ℕ, List, map, length, OnOk, OnErr};
 ghost use Rattle.maple_io.specs.Views.{NoWriteFailed, WriteFailed, Wrote};
-ghost use Rattle.script_orders.specs.Steps.{IsKept as IsKeptStep};
+ghost use Rattle.script_text.specs.Steps.{IsKept as IsKeptStep};
 ghost use Rattle.sim_channels.specs.Channels.{bench};
 ghost use Rattle.sim_driver.specs.Passes.{IsReady, Passed, taken, waiting};
 ghost use Rattle.maple_io.specs.Fronts.{IsFront};
@@ -9,7 +9,7 @@ ghost use Rattle.maple_io.specs.Fronts.{IsFront};
 use core_machine::{Entry, Reply};
 use device_port::Device;
 use maple_io::{PutStop, Sink, put_all};
-use script_orders::Step;
+use script_text::Step;
 use sim_channels::Driver;
 use sim_commands::obey;
 

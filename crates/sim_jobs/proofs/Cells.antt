@@ -6,7 +6,7 @@ use Rattle.std.proofs.lemmas.Bool.{and_parts}
 use Rattle.maple_base.specs.declared.cells.Cell.{Cell}
 use Rattle.maple_base.specs.declared.cells.Value.{Value}
 use Rattle.maple_base.specs.Kinds.{of_kind}
-use Rattle.question_tree.specs.Cells.{AreGiven, is_of_kind}
+use Rattle.policy_meaning.specs.Cells.{AreGiven, is_of_kind}
 use Rattle.tree_prune.specs.Current.{same_value, are_current}
 use Rattle.tree_prune.specs.Stale.{stale_in}
 use Rattle.tree_prune.proofs.Values.{same_equal, equal_same, none_differs}

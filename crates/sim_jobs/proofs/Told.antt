@@ -12,7 +12,7 @@ use Rattle.machine_steps.specs.Histories.{Turn}
 use Rattle.machine_steps.specs.Machine.{State, policy_number}
 use Rattle.machine_steps.specs.Steps.{Steps}
 use Rattle.machine_steps.specs.Waiting.{Waiting}
-use Rattle.machine_replies.specs.Told.{IsFresh, is_answer}
+use Rattle.machine_moves.specs.Told.{IsFresh, is_answer}
 use Rattle.world_steps.specs.Worlds.{lacks_memory}
 use Rattle.sim_steps.specs.Deeds.{IsSmooth}
 use Rattle.sim_jobs.specs.Works.{Fails, WaitsAlone, Works}

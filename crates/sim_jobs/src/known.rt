@@ -1,7 +1,7 @@
 // The cells of a machine that are known so far.
 ghost use Rattle.std.specs.Prelude.{◌≡◌, None, true};
 ghost use Rattle.std.specs.List.{list_all};
-ghost use Rattle.question_tree.specs.Cells.{is_of_kind};
+ghost use Rattle.policy_meaning.specs.Cells.{is_of_kind};
 ghost use Rattle.tree_prune.specs.Current.{are_current};
 ghost use Rattle.topo_paths.specs.Scenes.{cell_in};
 

@@ -2,7 +2,7 @@
 ghost use Rattle.std.specs.Prelude.{◌≡◌, IfOk, IsTrue, None, OnOk, OnErr, true};
 ghost use Rattle.std.specs.List.{list_all};
 ghost use Rattle.maple_base.specs.Kinds.{of_kind};
-ghost use Rattle.question_tree.specs.Cells.{is_of_kind};
+ghost use Rattle.policy_meaning.specs.Cells.{is_of_kind};
 ghost use Rattle.policy_eval.specs.Answers.{IsBudget};
 ghost use Rattle.trace_record.specs.Runs.{IsOfCall, IsRun};
 ghost use Rattle.tree_prune.specs.Current.{are_current};
@@ -10,12 +10,12 @@ ghost use Rattle.tree_prune.specs.Stale.{stale_in};
 ghost use Rattle.topo_paths.specs.Scenes.{cell_in};
 ghost use Rattle.machine_steps.specs.Admitting.{IsOfHistory};
 ghost use Rattle.machine_steps.specs.Machine.{policy_number};
-ghost use Rattle.machine_replies.specs.Told.{IsFresh};
+ghost use Rattle.machine_moves.specs.Told.{IsFresh};
 ghost use Rattle.sim_jobs.specs.Works.{Fails, WaitsAlone, Works};
 
 use crate::known::KnownCells;
 use core_machine::{Core, Entry, JobItem, Reply};
-use machine_replies::reply_laws;
+use machine_moves::reply_laws;
 use machine_steps::{machine_laws, running_laws};
 use maple_base::{Cell, NoMemory, Value};
 use policy_lang::Policy;

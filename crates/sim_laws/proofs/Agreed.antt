@@ -17,12 +17,12 @@ use Rattle.machine_steps.specs.Laws.{KeepsSound, OpensSound}
 use Rattle.machine_steps.specs.Machine.{Session, State, is_of, session_at, was_opened}
 use Rattle.machine_steps.specs.Sound.{IsInOrder, IsSound}
 use Rattle.machine_steps.proofs.Sound.Zipped.{find_all, find_passes}
-use Rattle.machine_moves.specs.Laws.{ConnectionsOpen, SessionsOpen}
+use Rattle.machine_moves.specs.MoveLaws.{ConnectionsOpen, SessionsOpen}
 use Rattle.machine_moves.proofs.Found.{its_connection}
 use Rattle.sim_steps.specs.Agreeing.{AreCut, appended_by, appended_of, call_in, calls_of, heard_in, heard_of, logged, sent_in, sent_of, taken_by}
 use Rattle.sim_steps.specs.Benches.{Bench, Slot, is_plugged, opening_bench, slot_at}
 use Rattle.sim_steps.specs.Deeds.{Event, Happens, NextIs, Runs, entry_in, reply_in}
-use Rattle.sim_stretches.proofs.Turned.{is_turn}
+use Rattle.sim_steps.proofs.Turned.{is_turn}
 use Rattle.sim_laws.specs.Laws.{AgreeLaw}
 use Rattle.sim_laws.proofs.Changes.{EndsBy, Feeds, Flows, Hears, IsQuiet, deed_changes, logged_nothing}
 use Rattle.sim_laws.proofs.Places.{opening_slot}

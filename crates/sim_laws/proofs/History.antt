@@ -1,6 +1,6 @@
 -- The machine's turns are a legal history.
 use Rattle.sim_steps.specs.Benches.{opening_bench}
-use Rattle.sim_stretches.proofs.Turned.{leads_along}
+use Rattle.sim_steps.proofs.Turned.{leads_along}
 use Rattle.sim_laws.specs.Laws.{HistoryLaw}
 
 pub history_law : HistoryLaw

@@ -17,7 +17,7 @@ use Rattle.device_port.specs.Devices.{Call, Fails, Goes, Looks, LooksAt, Meaning
 use Rattle.device_port.specs.Devices.Call.{Offered, Turning, Looking}
 use Rattle.device_port.specs.Switches.{Does, Step, Switch}
 use Rattle.device_port.specs.Switches.Step.{Take, Process, Refuse, Answer, Look}
-use Rattle.machine_sends.specs.Sends.{CanBeOffered}
+use Rattle.machine_moves.specs.Sends.{CanBeOffered}
 use Rattle.machine_steps.proofs.Sound.Keys.{key_valid}
 use Rattle.world_steps.specs.Worlds.{Link, LinkDoes}
 use Rattle.sim_steps.specs.Benches.{Slot}

@@ -11,10 +11,10 @@ use Rattle.of10_codec.specs.Laws.{OneMessage}
 use Rattle.of10_stream.specs.declared.reassembly.Next.TheVariants as next
 use Rattle.of10_stream.specs.Steps.{AnswersBehind, Stream}
 use Rattle.device_port.specs.Devices.{Call, switch_of}
-use Rattle.machine_moves.specs.Laws.{ConnectionsOpen}
+use Rattle.machine_moves.specs.MoveLaws.{ConnectionsOpen}
 use Rattle.machine_moves.proofs.Found.{its_connection}
-use Rattle.machine_sends.specs.Sends.{CanBeOffered, OutboxesCanBeOffered}
-use Rattle.machine_sends.proofs.Offers.{all_append}
+use Rattle.machine_moves.specs.Sends.{CanBeOffered, OutboxesCanBeOffered}
+use Rattle.machine_moves.proofs.Offers.{all_append}
 use Rattle.machine_steps.specs.declared.entry.Entry.{Entry}
 use Rattle.machine_steps.specs.declared.entry.Entry.TheVariants as entries
 use Rattle.machine_steps.specs.declared.entry.Input.TheVariants.{Message as Whole, Bad as Faulty}
@@ -25,7 +25,7 @@ use Rattle.machine_steps.specs.Machine.{Session, State, is_of, session_at, was_o
 use Rattle.machine_steps.specs.Sound.{IsInOrder, IsSound}
 use Rattle.machine_steps.specs.Steps.{Steps, kept_at}
 use Rattle.machine_steps.proofs.Sound.Zipped.{find_all, find_passes}
-use Rattle.world_flights.specs.Laws.{filled, heard}
+use Rattle.world_stages.specs.FlightLaws.{filled, heard}
 use Rattle.world_steps.specs.Worlds.{IsFirstFrom, IsNew, Link, LinksBehind, OpensLink, heard_from, lacks_memory, link_at, messages_for, outbox_of, sent_to}
 use Rattle.world_steps.specs.Worlds.WorldStep.{Enters}
 use Rattle.world_steps.specs.Runs.{Event, Runs}

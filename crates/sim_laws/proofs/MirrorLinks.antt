@@ -5,7 +5,7 @@ use Rattle.maple_base.specs.declared.decision.Rule.{Rule}
 use Rattle.of10_codec.specs.declared.message.Message.{Message}
 use Rattle.of10_stream.specs.Steps.{Stream, appended, fed}
 use Rattle.device_port.specs.Devices.{Meaning, Spell}
-use Rattle.machine_sends.specs.Sends.{CanBeOffered}
+use Rattle.machine_moves.specs.Sends.{CanBeOffered}
 use Rattle.world_steps.specs.Worlds.{Link, link_at}
 use Rattle.sim_steps.specs.Benches.{Slot}
 use Rattle.sim_steps.specs.Deeds.{appends}

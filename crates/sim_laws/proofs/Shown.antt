@@ -7,8 +7,8 @@ use Rattle.maple_base.specs.declared.decision.Settings.{Settings}
 use Rattle.policy_lang.specs.declared.Policy.{Policy}
 use Rattle.of10_codec.specs.Laws.{OneMessage}
 use Rattle.device_port.specs.Devices.{Meaning}
-use Rattle.machine_moves.specs.Laws.{ConnectionsOpen}
-use Rattle.machine_sends.specs.Sends.{OutboxesCanBeOffered, SendsLaw}
+use Rattle.machine_moves.specs.MoveLaws.{ConnectionsOpen}
+use Rattle.machine_moves.specs.Sends.{OutboxesCanBeOffered, SendsLaw}
 use Rattle.machine_steps.specs.declared.entry.Entry.TheVariants as entries
 use Rattle.machine_steps.specs.Laws.{KeepsSound, OpensSound}
 use Rattle.machine_steps.specs.Machine.{State, was_opened}

@@ -1,8 +1,7 @@
 // What holds of all deeds.
 ghost use Rattle.sim_laws.specs.Laws.{AgreeLaw, HistoryLaw, ReportLaw, WorldLaw};
 
-use machine_moves::{growth_laws, session_laws};
-use machine_sends::sends_law;
+use machine_moves::{growth_laws, sends_law, session_laws};
 use machine_steps::machine_laws;
 use of10_codec::codec_laws;
 use world_right::run_laws;

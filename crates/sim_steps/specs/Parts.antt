@@ -17,8 +17,8 @@ use Rattle.machine_steps.specs.declared.note.Note.TheVariants as notes
 use Rattle.machine_steps.specs.declared.reply.Reply.{Reply}
 use Rattle.machine_steps.specs.Machine.{was_opened}
 use Rattle.world_steps.specs.Worlds.{lacks_memory, messages_for}
-use Rattle.script_orders.specs.Orders.{Order}
-use Rattle.script_orders.specs.Orders.Order.{Nothing, Plug, Unplug, Arrival, Turn, Settle, Change, NewPolicy, Rules}
+use Rattle.script_text.specs.Orders.{Order}
+use Rattle.script_text.specs.Orders.Order.{Nothing, Plug, Unplug, Arrival, Turn, Settle, Change, NewPolicy, Rules}
 use Rattle.sim_steps.specs.Benches.{Slot, Bench, IsPluggedAt, is_plugged}
 use Rattle.sim_steps.specs.Deeds.{Deed, Event, Runs, has_failed, reply_in}
 use Rattle.sim_steps.specs.Deeds.Deed.{Enters, Calls}

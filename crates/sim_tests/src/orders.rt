@@ -2,7 +2,7 @@
 use env_cells::Update;
 use maple_base::NoMemory;
 use report_text::ScriptRefusal;
-use script_orders::{Next, Step, Stop, next_order};
+use script_text::{Next, Step, Stop, next_order};
 use std::alloc::{AllocError, Global};
 use std::test::Fail;
 

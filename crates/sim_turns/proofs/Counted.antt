@@ -14,8 +14,8 @@ use Rattle.sim_steps.specs.Benches.{Bench, is_plugged}
 use Rattle.sim_steps.specs.Deeds.{Deed, Event, Runs, entry_in, reply_in}
 use Rattle.sim_steps.specs.Deeds.Deed.{Enters, Calls}
 use Rattle.sim_steps.specs.Parts.{asked_of, asks, is_asked}
-use Rattle.sim_stretches.specs.Stretches.{Carried}
-use Rattle.sim_stretches.proofs.Turned.{is_turn}
+use Rattle.sim_steps.specs.Stretches.{Carried}
+use Rattle.sim_steps.proofs.Turned.{is_turn}
 use Rattle.sim_channels.specs.Channels.{Fits, bench, is_plugged_in}
 use Rattle.sim_channels.specs.Driving.{DrivingLaws}
 use Rattle.sim_channels.specs.declared.channel.Channel.{Channel}

@@ -14,8 +14,8 @@ use Rattle.machine_steps.specs.declared.entry.Entry.TheVariants as entries
 use Rattle.machine_steps.specs.declared.note.Note.TheVariants as notes
 use Rattle.machine_steps.specs.Steps.{Steps}
 use Rattle.sim_steps.specs.Benches.{Bench}
-use Rattle.sim_stretches.specs.Stretches.{Stretch}
-use Rattle.sim_stretches.proofs.Moments.{called, stretch_call}
+use Rattle.sim_steps.specs.Stretches.{Stretch}
+use Rattle.sim_steps.proofs.Moments.{called, stretch_call}
 use Rattle.sim_channels.specs.Channels.{Fits, IsKept, bench, is_plugged_in, slots_of}
 use Rattle.sim_channels.specs.Driving.{DrivingLaws}
 use Rattle.sim_channels.specs.Waiting.{IsAtRest, IsAtRestBut, IsOffered, StaysBut}

@@ -14,7 +14,7 @@ use Rattle.world_steps.specs.Worlds.{lacks_memory}
 use Rattle.sim_steps.specs.Benches.{Slot}
 use Rattle.sim_steps.specs.Deeds.{EntersAt, IsSmooth, MayEnter, SlotsBehind}
 use Rattle.sim_steps.specs.Parts.{asks}
-use Rattle.sim_stretches.proofs.Moments.{entered, stretch_entry}
+use Rattle.sim_steps.proofs.Moments.{entered, stretch_entry}
 use Rattle.sim_channels.specs.Channels.{bench, slots_of}
 use Rattle.sim_channels.specs.Waiting.{IsAtRest}
 use Rattle.sim_channels.specs.declared.driver.Driver.{Driver}

@@ -13,7 +13,7 @@ use Rattle.machine_steps.specs.declared.note.Note.TheVariants as notes
 use Rattle.sim_steps.specs.Benches.{Bench}
 use Rattle.sim_steps.specs.Deeds.{CallsAt, has_failed}
 use Rattle.sim_steps.specs.Parts.{has_dealt}
-use Rattle.sim_stretches.proofs.Moments.{called, stretch_failed}
+use Rattle.sim_steps.proofs.Moments.{called, stretch_failed}
 use Rattle.sim_channels.specs.Channels.{Fits, IsKept, bench, is_plugged_in, slots_of}
 use Rattle.sim_channels.specs.Delivering.{Leaves}
 use Rattle.sim_channels.specs.Driving.{DrivingLaws}

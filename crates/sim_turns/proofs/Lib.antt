@@ -1,5 +1,10 @@
--- Entered: an entry that a script asks for, as an event. Noted: what a note leaves. Pending: where a message waits. Obeyed: turns are an order's part.
--- Counted: how many sessions are open. Rested: what a turn leaves to do. Called: a turn is an event. Dealt, Failing: what a turn brings about at once.
+-- Bytes: a message has some. Replies: what is never replied to one. Answering: turns that answer a packet. Passing: what is known behind one message. Onward: behind
+-- several. Attending: what is known behind a delivery then. Entered: an entry that a script asks for, as an event. Noted: what a note leaves. Pending: where a
+-- message waits. Obeyed: turns are an order's part. Counted: how many sessions are open. Rested: what a turn leaves to do. Called: a turn is an event. Dealt,
+-- Failing: what a turn brings about at once.
+pub mod Answering
+pub mod Attending
+pub mod Bytes
 pub mod Called
 pub mod Counted
 pub mod Dealt
@@ -7,5 +12,8 @@ pub mod Entered
 pub mod Failing
 pub mod Noted
 pub mod Obeyed
+pub mod Onward
+pub mod Passing
 pub mod Pending
+pub mod Replies
 pub mod Rested

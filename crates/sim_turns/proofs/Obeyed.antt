@@ -7,13 +7,13 @@ use Rattle.machine_steps.specs.declared.entry.Entry.TheVariants as entries
 use Rattle.machine_steps.specs.declared.note.Note.{Note}
 use Rattle.machine_steps.specs.declared.note.Note.TheVariants as notes
 use Rattle.machine_steps.specs.declared.reply.Reply.TheVariants.{Done}
-use Rattle.script_orders.specs.Orders.Order.{Settle, Turn}
+use Rattle.script_text.specs.Orders.Order.{Settle, Turn}
 use Rattle.sim_steps.specs.Benches.{Bench, is_plugged}
 use Rattle.sim_steps.specs.Deeds.{Event, MayNote}
 use Rattle.sim_steps.specs.Deeds.Deed.{Enters}
 use Rattle.sim_steps.specs.Parts.{EndsSettling, HasPending, IfPlugged, IsExhausted, IsLowestTurn, IsStill, IsTurnAt, JustNotes, Settles, TakesTurns, dealt_in, has_dealt, most_turns, turns_taken}
-use Rattle.sim_stretches.specs.Stretches.{Carried, Obeyed}
-use Rattle.sim_stretches.proofs.Joining.{all_append, carried_behind, obeyed, stretch_empty, stretch_then}
+use Rattle.sim_steps.specs.Stretches.{Carried, Obeyed}
+use Rattle.sim_steps.proofs.Joining.{all_append, carried_behind, obeyed, stretch_empty, stretch_then}
 use Rattle.sim_channels.specs.Channels.{Fits, bench}
 use Rattle.sim_channels.specs.Waiting.{IsAtRest}
 use Rattle.sim_channels.specs.declared.driver.Driver.{Driver}

@@ -13,7 +13,7 @@ use Rattle.world_steps.specs.Worlds.{lacks_memory}
 use Rattle.sim_steps.specs.Benches.{Bench}
 use Rattle.sim_steps.specs.Deeds.{Event}
 use Rattle.sim_steps.specs.Parts.{IsTurnAt, has_dealt, turns_taken}
-use Rattle.sim_stretches.specs.Stretches.{Stretch}
+use Rattle.sim_steps.specs.Stretches.{Stretch}
 use Rattle.sim_channels.specs.Channels.{Fits, bench, is_plugged_in}
 use Rattle.sim_channels.specs.declared.channel.Channel.{Channel}
 use Rattle.sim_channels.specs.declared.driver.Driver.{Driver}

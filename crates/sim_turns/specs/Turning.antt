@@ -10,7 +10,7 @@ use Rattle.sim_steps.specs.Benches.{Bench}
 use Rattle.sim_steps.specs.Deeds.{Event, MayEnter}
 use Rattle.sim_steps.specs.Deeds.Deed.{Enters, Calls}
 use Rattle.sim_steps.specs.Parts.{asks}
-use Rattle.sim_stretches.specs.Stretches.{Stretch}
+use Rattle.sim_steps.specs.Stretches.{Stretch}
 use Rattle.sim_channels.specs.Channels.{Fits, bench}
 use Rattle.sim_channels.specs.declared.channel.Channel.{Channel}
 use Rattle.sim_channels.specs.declared.channel.Stage.TheVariants.{Plugged}

@@ -1,7 +1,9 @@
-//! Turns of devices, and entries of the machine that a script asks for.
+//! Turns of devices, what they bring about at once, and entries of the machine that a script asks for.
 #![tactic(auto)]
 
 mod asking;
+pub mod attend;
+pub mod hear;
 mod settling;
 mod telling;
 mod turning;

@@ -1,7 +1,7 @@
 // Devices take turns till no message waits.
 ghost use Rattle.std.specs.Prelude.{◌≡◌, map, OnOk};
-ghost use Rattle.script_orders.specs.Orders.Order.{Settle};
-ghost use Rattle.sim_stretches.specs.Stretches.{Obeyed};
+ghost use Rattle.script_text.specs.Orders.Order.{Settle};
+ghost use Rattle.sim_steps.specs.Stretches.{Obeyed};
 ghost use Rattle.sim_channels.specs.Channels.{Fits, bench};
 ghost use Rattle.sim_channels.specs.Waiting.{IsAtRest};
 

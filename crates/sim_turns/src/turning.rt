@@ -1,22 +1,22 @@
 // A device takes turns.
 ghost use Rattle.std.specs.Prelude.{◌≡◌, ◌≤◌, ◌<◌, ◌+◌, map, length, IfOk, OnOk};
-ghost use Rattle.script_orders.specs.Orders.Order.{Turn};
-ghost use Rattle.script_orders.specs.Steps.{IsAmong};
+ghost use Rattle.script_text.specs.Orders.Order.{Turn};
+ghost use Rattle.script_text.specs.Steps.{IsAmong};
 ghost use Rattle.sim_steps.specs.Parts.{has_dealt};
-ghost use Rattle.sim_stretches.specs.Stretches.{Obeyed};
+ghost use Rattle.sim_steps.specs.Stretches.{Obeyed};
 ghost use Rattle.sim_channels.specs.Channels.{Fits, bench};
 ghost use Rattle.sim_channels.specs.Waiting.{IsAtRest, IsAtRestBut};
 ghost use Rattle.sim_turns.specs.Taking.{IsTold, TakesOneBy, TakesTurnAt, TakesTurnsBy, Tires};
 ghost use Rattle.sim_turns.specs.Turning.{Waits};
 
 use crate::asking::note;
+use crate::attend::attend;
 use crate::telling::tell_turn;
 use crate::waiting::{is_plugged_at, is_waiting_at};
 use core_machine::Note;
 use device_port::Device;
 use maple_base::{NoMemory, Turned};
 use sim_channels::{Driver, driving_laws};
-use sim_hearing::attend::attend;
 
 /// The device with this index, in which a message waits, takes a turn, and what that brings about is
 /// done. Where it fails it is left.

@@ -1,9 +1,9 @@
 -- Two runs of one policy don't clash.
 use Rattle.std.proofs.Common.{sym, ap, ◌∙◌, subst}
 use Rattle.maple_base.specs.Questions.{meets}
-use Rattle.question_tree.specs.Cells.{Gives}
-use Rattle.question_tree.specs.Through.{through, nothing}
-use Rattle.question_tree.specs.Laws.{NoClash, IsTrace}
+use Rattle.policy_meaning.specs.Cells.{Gives}
+use Rattle.policy_meaning.specs.Through.{through, nothing}
+use Rattle.policy_meaning.specs.QuestionLaws.{NoClash, IsTrace}
 use Rattle.trace_record.specs.Runs.{meaning_of}
 use Rattle.trace_record.specs.Laws.{NeverClash}
 

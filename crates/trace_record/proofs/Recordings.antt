@@ -7,16 +7,16 @@ use Rattle.maple_base.specs.declared.cells.Cell.{Cell}
 use Rattle.maple_base.specs.declared.cells.Value.{Value}
 use Rattle.maple_base.specs.declared.decision.Outcome.{Outcome}
 use Rattle.maple_base.specs.Keys.{valid_key}
-use Rattle.question_tree.specs.Cells.{AreGiven}
+use Rattle.policy_meaning.specs.Cells.{AreGiven}
 use Rattle.policy_lang.specs.declared.Policy.{Policy}
 use Rattle.policy_lang.specs.TreeOf.{tree_of}
 use Rattle.policy_meaning.specs.Meaning.{meaning}
-use Rattle.question_tree.specs.Through.{nothing}
-use Rattle.question_tree.specs.Leads.{Saying, Leads}
-use Rattle.question_tree.specs.Notes.{Notes as IsNoted, seen}
-use Rattle.question_tree.proofs.Walks.{leads_as}
-use Rattle.question_tree.proofs.Recorded.{notes_trace}
-use Rattle.expr_eval.specs.declared.asker.Unanswered.{Unanswered}
+use Rattle.policy_meaning.specs.Through.{nothing}
+use Rattle.policy_meaning.specs.Leads.{Saying, Leads}
+use Rattle.policy_meaning.specs.Notes.{Notes as IsNoted, seen}
+use Rattle.policy_meaning.proofs.Walks.{leads_as}
+use Rattle.policy_meaning.proofs.Recorded.{notes_trace}
+use Rattle.policy_eval.specs.declared.asker.Unanswered.{Unanswered}
 use Rattle.trace_record.specs.declared.recorder.Notes.{Notes}
 use Rattle.trace_record.specs.Recorded.{answers_of, Records, IsRecorded}
 

@@ -2,9 +2,9 @@
 use Rattle.std.proofs.Common.{◌≡◌, true}
 use Rattle.std.specs.List.{list_all}
 use Rattle.policy_lang.specs.TreeOf.{tree_of}
-use Rattle.question_tree.specs.Cells.{is_of_kind}
-use Rattle.question_tree.specs.Laws.{IsTrace, AsksFew, TracesEndSo}
-use Rattle.policy_meaning.specs.Laws.{begins_at, decides_ports, BeginsHere, DecidesPorts, AsksWithinBudget}
+use Rattle.policy_meaning.specs.Cells.{is_of_kind}
+use Rattle.policy_meaning.specs.QuestionLaws.{IsTrace, AsksFew, TracesEndSo}
+use Rattle.policy_meaning.specs.PolicyLaws.{begins_at, decides_ports, BeginsHere, DecidesPorts, AsksWithinBudget}
 use Rattle.policy_eval.specs.Answers.{IsBudget}
 use Rattle.trace_record.specs.Runs.{Recorded, meaning_of, IsRun}
 

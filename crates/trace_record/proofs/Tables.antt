@@ -22,8 +22,8 @@ use Rattle.maple_base.specs.declared.cells.Value.{Value}
 use Rattle.maple_base.specs.Kinds.{of_kind}
 use Rattle.maple_base.specs.Questions.{field_number, same_field, known, excluded}
 use Rattle.policy_lang.proofs.SameNames.{same_names}
-use Rattle.question_tree.specs.Cells.{same_cell, given, is_of_kind}
-use Rattle.question_tree.proofs.Settled.{same_field_is}
+use Rattle.policy_meaning.specs.Cells.{same_cell, given, is_of_kind}
+use Rattle.policy_meaning.proofs.Settled.{same_field_is}
 use Rattle.trace_record.specs.Tables.{equal_cells, equal_fields, equal_pairs, AreOf, AreKept}
 
 ahead_first : {V : Type 0} (b : Bool) (w : V) (o p last : Option V) → p ≡ option_or o last → cond b (Some w) p ≡ option_or (cond b (Some w) o) last

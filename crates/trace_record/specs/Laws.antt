@@ -3,7 +3,7 @@ use Rattle.std.specs.Prelude.{◌≡◌, false}
 use Rattle.maple_base.specs.declared.cells.Cell.{Cell}
 use Rattle.maple_base.specs.declared.cells.Value.{Value}
 use Rattle.maple_base.specs.Questions.{meets, clash}
-use Rattle.question_tree.specs.Cells.{Gives}
+use Rattle.policy_meaning.specs.Cells.{Gives}
 use Rattle.trace_record.specs.Runs.{Recorded, IsRun}
 
 -- two runs of one policy, budget and switch

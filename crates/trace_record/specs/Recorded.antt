@@ -3,14 +3,14 @@ use Rattle.std.specs.Prelude.{◌≡◌, ℕ}
 use Rattle.maple_base.specs.declared.key.Key.{Key}
 use Rattle.maple_base.specs.declared.cells.Cell.{Cell}
 use Rattle.maple_base.specs.declared.cells.Value.{Value}
-use Rattle.question_tree.specs.Cells.{AreGiven}
-use Rattle.question_tree.specs.Through.{Seen}
-use Rattle.question_tree.specs.Leads.{Answer}
-use Rattle.question_tree.specs.Notes.{Notes, seen}
+use Rattle.policy_meaning.specs.Cells.{AreGiven}
+use Rattle.policy_meaning.specs.Through.{Seen}
+use Rattle.policy_meaning.specs.Leads.{Answer}
+use Rattle.policy_meaning.specs.Notes.{Notes, seen}
 use Rattle.policy_lang.specs.declared.Policy.{Policy}
 use Rattle.policy_lang.specs.TreeOf.{tree_of}
 use Rattle.policy_meaning.specs.Meaning.{meaning}
-use Rattle.question_tree.specs.Laws.{IsTrace}
+use Rattle.policy_meaning.specs.QuestionLaws.{IsTrace}
 use Rattle.maple_base.specs.declared.decision.Outcome.{Outcome}
 use Rattle.trace_record.specs.declared.recorder.Notes.{Notes as Kept}
 

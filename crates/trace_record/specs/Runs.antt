@@ -8,11 +8,11 @@ use Rattle.maple_base.specs.declared.cells.Value.{Value}
 use Rattle.maple_base.specs.declared.decision.Outcome.{Outcome}
 use Rattle.policy_lang.specs.declared.Policy.{Policy}
 use Rattle.policy_lang.specs.TreeOf.{tree_of}
-use Rattle.question_tree.specs.Asking.{Asking}
-use Rattle.question_tree.specs.Cells.{is_of_kind}
-use Rattle.question_tree.specs.Laws.{IsTrace}
+use Rattle.policy_meaning.specs.Asking.{Asking}
+use Rattle.policy_meaning.specs.Cells.{is_of_kind}
+use Rattle.policy_meaning.specs.QuestionLaws.{IsTrace}
 use Rattle.policy_meaning.specs.Meaning.{meaning}
-use Rattle.policy_meaning.specs.Laws.{begins_at, decides_ports}
+use Rattle.policy_meaning.specs.PolicyLaws.{begins_at, decides_ports}
 use Rattle.policy_eval.specs.Answers.{IsBudget}
 
 -- a run: its policy with the policy's number and the budget, its switch and key, and what was asked and decided

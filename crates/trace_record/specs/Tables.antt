@@ -10,7 +10,7 @@ use Rattle.maple_base.specs.declared.cells.Value.{Value}
 use Rattle.maple_base.specs.Questions.{known, excluded}
 use Rattle.maple_base.specs.contracts.key.FieldPartialEq.TheImpl as field
 use Rattle.maple_base.specs.contracts.cells.CellPartialEq.TheImpl as cell
-use Rattle.question_tree.specs.Cells.{given, is_of_kind}
+use Rattle.policy_meaning.specs.Cells.{given, is_of_kind}
 
 -- as `==` compares keys of tables
 abbrev pub equal_cells : Cell → Cell → Bool

@@ -2,8 +2,8 @@
 ghost use Rattle.std.specs.Prelude.{◌≡◌, ◌==◌, ◌++◌, ◌∷◌, [], None, IfOk, OnOk};
 ghost use Rattle.maple_base.specs.Keys.{field_of, has_ports};
 ghost use Rattle.maple_base.specs.Questions.{known, excluded};
-ghost use Rattle.question_tree.specs.Through.{no_ports, ask_net, ask_ports, ask_header, ask_field, ask_test};
-ghost use Rattle.question_tree.specs.Notes.{Asked};
+ghost use Rattle.policy_meaning.specs.Through.{no_ports, ask_net, ask_ports, ask_header, ask_field, ask_test};
+ghost use Rattle.policy_meaning.specs.Notes.{Asked};
 ghost use Rattle.maple_base.specs.declared.items.Item.TheVariants.{Read, Test};
 
 use maple_base::{Field, ICMP, IP_TYPE, Item, Items, Key, NoMemory, TCP, UDP};

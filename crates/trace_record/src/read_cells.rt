@@ -2,7 +2,7 @@
 ghost use Rattle.std.specs.Prelude.{◌≡◌, ◌++◌, ◌∷◌, [], None, true, OnOk, IsTrue, IfSome};
 ghost use Rattle.std.specs.List.{list_all};
 ghost use Rattle.maple_base.specs.Kinds.{of_kind};
-ghost use Rattle.question_tree.specs.Cells.{given, is_of_kind};
+ghost use Rattle.policy_meaning.specs.Cells.{given, is_of_kind};
 
 use maple_base::{Cell, Cells, NoMemory, Value};
 use std::alloc::Global;

@@ -5,9 +5,8 @@ ghost use Rattle.trace_record.specs.Recorded.{Records, IsRecorded};
 
 use crate::asked_items::AskedItems;
 use crate::read_cells::ReadCells;
-use expr_eval::{Asker, Unanswered};
 use maple_base::{Cell, EnvView, Field, Key, Outcome, Value};
-use policy_eval::run;
+use policy_eval::{Asker, Unanswered, run};
 use policy_lang::Policy;
 use std::alloc::Global;
 

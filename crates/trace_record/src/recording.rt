@@ -5,15 +5,15 @@ ghost use Rattle.maple_base.specs.declared.cells.Value.{Value as ValueData};
 ghost use Rattle.maple_base.specs.Counts.{HasRisen};
 ghost use Rattle.maple_base.specs.Keys.{valid_key};
 ghost use Rattle.policy_eval.specs.Answers.{IsBudget};
-ghost use Rattle.question_tree.specs.Cells.{AreGiven};
+ghost use Rattle.policy_meaning.specs.Cells.{AreGiven};
 ghost use Rattle.trace_record.specs.Runs.{IsRun, IsOfCall};
 ghost use Rattle.trace_record.specs.declared.recording.RecordError.TheVariants.{Unread};
 
 use crate::recorder::walk;
 use maple_base::{Cells, EnvView, Items, Key, Outcome, Witness};
 use policy_lang::Policy;
-use policy_meaning::laws::meaning_laws;
-use question_tree::laws::reading_laws;
+use policy_meaning::policy_laws::meaning_laws;
+use policy_meaning::question_laws::reading_laws;
 use std::alloc::Global;
 use std::marker::Model;
 use thiserror::Error;

@@ -9,7 +9,7 @@ use Rattle.std.proofs.lemmas.List.Quantifiers.{position-Some}
 use Rattle.std.proofs.lemmas.Option.{same_Some, none-some, slice_get-map, slice_get_read, slice_get_within, get_or_from_slice_get, MatchOption-at_none, MatchOption-at_some}
 use Rattle.of10_codec.specs.declared.message.Message.{Message}
 use Rattle.machine_steps.specs.Machine.{State}
-use Rattle.machine_sessions.proofs.Keyed.{find_passes, first_there, position_of_map, set_by_key}
+use Rattle.machine_parts.proofs.Keyed.{find_passes, first_there, position_of_map, set_by_key}
 use Rattle.world_steps.specs.Worlds.{ActsAt, Link, World, at_link, link_at}
 use Rattle.world_right.proofs.Links.{changed_there}
 use Rattle.world_places.specs.declared.acting.Act.{Act}

@@ -10,7 +10,7 @@ use Rattle.std.proofs.lemmas.Option.{get_or_from_slice_get, none-some, same_Some
 use Rattle.of10_codec.specs.declared.message.Message.{Message}
 use Rattle.of10_codec.specs.Written.{written}
 use Rattle.device_port.specs.Switches.{IsFree}
-use Rattle.machine_sessions.proofs.Keyed.{elsewhere}
+use Rattle.machine_parts.proofs.Keyed.{elsewhere}
 use Rattle.machine_steps.specs.declared.entry.Entry.{Entry}
 use Rattle.machine_steps.specs.declared.entry.Entry.TheVariants as entries
 use Rattle.machine_steps.specs.declared.entry.Input.{Input}

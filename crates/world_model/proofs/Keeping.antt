@@ -13,7 +13,7 @@ use Rattle.of10_codec.specs.declared.message.Message.{Message}
 use Rattle.of10_codec.specs.Written.{written}
 use Rattle.device_port.specs.Switches.{Step}
 use Rattle.device_port.specs.Switches.Step.{Take as Taking, Process as Processing, Refuse as Refusing, Answer as Answering, Look as Looking}
-use Rattle.machine_moves.specs.Laws.{ConnectionsOpen}
+use Rattle.machine_moves.specs.MoveLaws.{ConnectionsOpen}
 use Rattle.machine_steps.specs.declared.entry.Entry.{Entry}
 use Rattle.machine_steps.specs.declared.entry.Entry.TheVariants as entries
 use Rattle.machine_steps.specs.declared.entry.Input.TheVariants.{Message as Whole}

@@ -4,7 +4,7 @@ use Rattle.std.specs.Prelude.{◌==◌, Option}
 use Rattle.std.specs.List.{AllByRecursion}
 use Rattle.of10_codec.specs.declared.message.Message.{Message}
 use Rattle.message_blocks.specs.Spelling.{IsSpelled}
-use Rattle.machine_sends.specs.Sends.{CanBeOffered, OutboxesCanBeOffered, SendsLaw}
+use Rattle.machine_moves.specs.Sends.{CanBeOffered, OutboxesCanBeOffered, SendsLaw}
 use Rattle.machine_steps.specs.Machine.{Session, State}
 use Rattle.machine_steps.specs.Steps.{kept_at}
 use Rattle.machine_steps.proofs.Sound.Zipped.{find_all}

@@ -12,7 +12,7 @@ ghost use Rattle.world_model.specs.declared.moves.Move.TheVariants.{Machine};
 
 use crate::moves::Moved;
 use core_machine::{Core, Entry, Reply};
-use machine_sends::sends_law;
+use machine_moves::sends_law;
 use message_blocks::{Block, Messages};
 use world_places::{Place, make_room, place_of, put};
 use world_steps::world_laws;

@@ -8,7 +8,7 @@ use Rattle.maple_base.specs.declared.decision.Settings.{Settings}
 use Rattle.policy_lang.specs.declared.Policy.{Policy}
 use Rattle.device_port.specs.Switches.{Step}
 use Rattle.device_port.specs.Switches.Step.{Take}
-use Rattle.machine_moves.specs.Laws.{SessionsOpen, ConnectionsOpen}
+use Rattle.machine_moves.specs.MoveLaws.{SessionsOpen, ConnectionsOpen}
 use Rattle.machine_steps.specs.declared.entry.Entry.{Entry}
 use Rattle.machine_steps.specs.declared.reply.Reply.{Reply}
 use Rattle.machine_steps.specs.Histories.{Turn}
@@ -19,7 +19,7 @@ use Rattle.world_steps.specs.Runs.{Event, Runs, turn_in, turns_of}
 use Rattle.world_steps.specs.Since.{Marks, marked, marked_all, marked_by, no_marks}
 use Rattle.world_steps.specs.Worlds.{EntersWorld, Goes, Link, LinkDoes, LinksBehind, World, WorldStep, at_link, link_at, opening_world}
 use Rattle.world_steps.specs.Worlds.WorldStep.{Enters, Acts}
-use Rattle.world_stages.specs.Laws.{IsPlaced, OpenedAreLinked, SwitchesKeepStages, TurnsKeepStages}
+use Rattle.world_stages.specs.StageLaws.{IsPlaced, OpenedAreLinked, SwitchesKeepStages, TurnsKeepStages}
 use Rattle.world_stages.specs.Stages.{IsLinked}
 use Rattle.world_right.proofs.Links.{changed_there, is_of_connection, others_there}
 use Rattle.world_right.proofs.Moved.{came, moved, newcomer}

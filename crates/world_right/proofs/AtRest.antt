@@ -14,7 +14,7 @@ use Rattle.machine_steps.proofs.Running.{policy_last}
 use Rattle.world_steps.specs.Right.{IsRightHit, state_at}
 use Rattle.world_steps.specs.Runs.{turns_of}
 use Rattle.world_steps.specs.Since.{marks_of}
-use Rattle.world_turns.proofs.Backing.{state_last}
+use Rattle.world_stages.proofs.Backing.{state_last}
 use Rattle.world_right.specs.Laws.{HitsAtRestAreNow, IsRightNow}
 use Rattle.world_right.proofs.Marked.{since_at_rest}
 use Rattle.world_right.proofs.Runs.{RunLaws, ready_placed}

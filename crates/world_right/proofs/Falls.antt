@@ -3,7 +3,7 @@ use Rattle.std.proofs.Common.{◌≡◌, ℕ, ◌≤◌, List, [], ◌∷◌, �
 use Rattle.std.specs.Prelude.{Some}
 use Rattle.std.proofs.lemmas.Grind.{flat_map-append}
 use Rattle.std.proofs.lemmas.Option.{same_Some}
-use Rattle.machine_moves.specs.Laws.{StatesGrow}
+use Rattle.machine_moves.specs.MoveLaws.{StatesGrow}
 use Rattle.machine_steps.specs.Histories.{Turn}
 use Rattle.machine_steps.specs.Machine.{Session, State, session_at, state_number}
 use Rattle.world_steps.specs.Runs.{Event, Runs, turn_in, turns_of}

@@ -8,7 +8,7 @@ use Rattle.machine_steps.specs.Steps.{switch_of}
 use Rattle.machine_steps.proofs.Sound.Zipped.{find_passes}
 use Rattle.world_steps.specs.Since.{Marks, base_behind, marked_by, since_by, whole_behind}
 use Rattle.world_steps.specs.Worlds.{Link}
-use Rattle.world_stages.specs.Laws.{IsPlaced}
+use Rattle.world_stages.specs.StageLaws.{IsPlaced}
 use Rattle.world_stages.specs.Stages.{AreSpanned, IsInStage, IsLiveRight}
 use Rattle.world_stages.proofs.Steady.{in_order}
 

@@ -13,8 +13,8 @@ use Rattle.machine_steps.specs.declared.reply.Reply.TheVariants.{NoMemory}
 use Rattle.machine_steps.specs.Machine.{State, was_opened}
 use Rattle.machine_steps.proofs.Sound.Zipped.{find_append}
 use Rattle.world_steps.specs.Worlds.{Link, HearsLink, IsNew, LinksBehind, OpensLink, at_link, heard_from, lacks_memory, link_at, messages_for, sent_to}
-use Rattle.world_flights.specs.Laws.{heard, filled}
-use Rattle.world_stages.specs.Laws.{HearsOwn, LinkBehind, TakesOwn}
+use Rattle.world_stages.specs.FlightLaws.{heard, filled}
+use Rattle.world_stages.specs.StageLaws.{HearsOwn, LinkBehind, TakesOwn}
 use Rattle.world_right.proofs.Links.{behind_others, behind_there, changed_there, others_there}
 
 -- the link of a connection behind an entry

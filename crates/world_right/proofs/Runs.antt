@@ -23,7 +23,7 @@ use Rattle.world_steps.specs.Since.{marks_of, no_marks, since_by}
 use Rattle.world_steps.specs.Worlds.{ActsAt, Goes, Link, World, WorldStep, opening_world}
 use Rattle.world_steps.specs.Worlds.WorldStep.{Enters, Acts}
 use Rattle.world_steps.proofs.Runs.{GoesTo, runs_to}
-use Rattle.world_stages.specs.Laws.{IsPlaced}
+use Rattle.world_stages.specs.StageLaws.{IsPlaced}
 use Rattle.world_right.specs.Hits.{HitsAreRight, TablesHaveRoom, RestIsNewest}
 use Rattle.world_right.specs.Laws.{EveryRunIsRight, SessionsArePlaced, TablesAreComplete}
 use Rattle.world_right.proofs.Along.{AreLinked, StageLaws, opening_linked, placed, run_linked}

@@ -14,7 +14,7 @@ use Rattle.maple_base.specs.Keys.{anything, valid_key}
 use Rattle.maple_base.specs.RuleLists.{Rules}
 use Rattle.flow_table.specs.Shielding.{IsBarrier, IsShieldedBy}
 use Rattle.policy_lang.specs.PolicyTree.{policy_tree}
-use Rattle.policy_meaning.specs.Laws.{begins_at}
+use Rattle.policy_meaning.specs.PolicyLaws.{begins_at}
 use Rattle.topo_paths.specs.Scenes.{cell_in}
 use Rattle.trace_tree.specs.declared.node.Trace.{Trace}
 use Rattle.trace_tree.specs.Growth.{found, scratch}

@@ -18,7 +18,7 @@ use Rattle.machine_steps.proofs.Sound.Zipped.{find_passes}
 use Rattle.world_steps.specs.Since.{Marks, since_by}
 use Rattle.world_steps.specs.Worlds.{Link}
 use Rattle.world_stages.specs.Backed.{IsBackedSince}
-use Rattle.world_stages.specs.Laws.{IsPlaced}
+use Rattle.world_stages.specs.StageLaws.{IsPlaced}
 use Rattle.world_stages.specs.Stages.{IsGuarded, IsGuardedByEither, IsClearing, IsFirstClearing, IsAtRest, IsInPart, IsWiping, AreSpanned, IsInStage, IsLiveRight, start_of}
 use Rattle.world_stages.proofs.Steady.{backed_lasting, backed_target, heads_alone, in_order, rules_guard}
 

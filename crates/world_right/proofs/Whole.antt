@@ -3,7 +3,7 @@ use Rattle.std.proofs.Common.{◌≡◌, ℕ, ◌≤◌, List, [], ◌∷◌, �
 use Rattle.std.specs.Prelude.{Option, Some, None}
 use Rattle.std.proofs.lemmas.Option.{same_Some, none-some}
 use Rattle.switch_session.specs.declared.part.UnderWay.{UnderWay}
-use Rattle.machine_moves.specs.Laws.{StatesGrow}
+use Rattle.machine_moves.specs.MoveLaws.{StatesGrow}
 use Rattle.machine_steps.specs.declared.entry.Entry.{Entry}
 use Rattle.machine_steps.specs.declared.reply.Reply.{Reply}
 use Rattle.machine_steps.specs.Histories.{Turn}

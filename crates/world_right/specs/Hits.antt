@@ -12,7 +12,7 @@ use Rattle.machine_steps.specs.Steps.{switch_of}
 use Rattle.world_steps.specs.Right.{IsRightHit}
 use Rattle.world_steps.specs.Since.{Marks, since_by}
 use Rattle.world_steps.specs.Worlds.{Link}
-use Rattle.world_stages.specs.Laws.{IsPlaced}
+use Rattle.world_stages.specs.StageLaws.{IsPlaced}
 
 -- what a ready session's switch may choose sends to the controller, or is plain evaluation's decision in a state from since to now
 abbrev pub HitsAreRight : Type 0

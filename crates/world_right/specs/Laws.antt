@@ -17,7 +17,7 @@ use Rattle.machine_history.specs.Jobs.{eval_now}
 use Rattle.machine_history.specs.Live.{live}
 use Rattle.machine_steps.specs.Histories.{Turn}
 use Rattle.machine_steps.specs.Machine.{Session, State, session_at, state_number}
-use Rattle.world_stages.specs.Laws.{IsPlaced}
+use Rattle.world_stages.specs.StageLaws.{IsPlaced}
 use Rattle.world_steps.specs.Worlds.{Link, World, link_at}
 use Rattle.world_steps.specs.Runs.{Event, IsWorldRun, turns_of}
 use Rattle.world_steps.specs.Right.{IsReadyAt, IsRight}

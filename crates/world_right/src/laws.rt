@@ -7,9 +7,8 @@ use machine_moves::{growth_laws, session_laws};
 use machine_steps::machine_laws;
 use rule_builder::choice_law;
 use update_plan::shield_laws;
+use world_stages::{opening_law, switch_law, turn_law};
 use world_steps::world_laws;
-use world_switches::{opening_law, switch_law};
-use world_turns::turn_law;
 
 /// At a ready session, what the switch may choose sends to the controller or is plain evaluation's
 /// decision in a state from since to now, and its table keeps to the capacity. Where no barrier is

@@ -37,7 +37,7 @@ use Rattle.machine_steps.proofs.Sound.Aims.{settled_rules}
 use Rattle.machine_steps.proofs.Sound.Alike.{fit_in}
 use Rattle.machine_steps.proofs.Sound.Zipped.{all_from, all_in, find_all}
 use Rattle.world_steps.specs.Since.{heads_for_target}
-use Rattle.world_flights.specs.Flights.{StaysOrLoses}
+use Rattle.world_stages.specs.Flights.{StaysOrLoses}
 use Rattle.world_stages.specs.Backed.{IsBacked}
 use Rattle.world_stages.specs.Stages.{AreLasting, IsGuarded, IsPlanned}
 

@@ -7,9 +7,9 @@ use Rattle.maple_base.specs.RuleLists.{Rules}
 use Rattle.policy_lang.specs.declared.Policy.{Policy}
 use Rattle.policy_lang.specs.PolicyTree.{PolicyTree, policy_tree}
 use Rattle.policy_meaning.specs.Meaning.{meaning}
-use Rattle.policy_meaning.specs.Laws.{begins_at, decides_ports}
-use Rattle.question_tree.specs.Cells.{Gives}
-use Rattle.question_tree.specs.Laws.{IsTrace}
+use Rattle.policy_meaning.specs.PolicyLaws.{begins_at, decides_ports}
+use Rattle.policy_meaning.specs.Cells.{Gives}
+use Rattle.policy_meaning.specs.QuestionLaws.{IsTrace}
 use Rattle.env_cells.specs.Environment.{Environment}
 use Rattle.topo_paths.specs.Scenes.{cell_in}
 use Rattle.trace_tree.specs.declared.node.Trace.{Trace}

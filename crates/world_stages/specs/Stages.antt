@@ -16,7 +16,7 @@ use Rattle.machine_steps.specs.Machine.{Session, State, is_live, state_number}
 use Rattle.machine_steps.specs.Steps.{switch_of}
 use Rattle.world_steps.specs.Worlds.{Link}
 use Rattle.world_steps.specs.Since.{Marks, heads_for_target}
-use Rattle.world_flights.specs.Flights.{line_of, back_of, AreNumbered, TellsItself, IsClear, IsInFlight}
+use Rattle.world_stages.specs.Flights.{line_of, back_of, AreNumbered, TellsItself, IsClear, IsInFlight}
 use Rattle.world_stages.specs.Backed.{IsBacked, IsBackedSince}
 
 -- ---- tables

@@ -6,8 +6,8 @@ use Rattle.std.proofs.lemmas.Bool.{cond_both}
 use Rattle.maple_base.specs.declared.decision.Outcome.TheVariants.{Decided}
 use Rattle.policy_lang.specs.PolicyTree.{policy_tree}
 use Rattle.policy_meaning.specs.Meaning.{meaning}
-use Rattle.question_tree.specs.Cells.{Gives}
-use Rattle.question_tree.specs.Laws.{IsTrace}
+use Rattle.policy_meaning.specs.Cells.{Gives}
+use Rattle.policy_meaning.specs.QuestionLaws.{IsTrace}
 use Rattle.env_cells.specs.Environment.{knows}
 use Rattle.topo_paths.specs.Scenes.{cell_in}
 use Rattle.priority_plan.specs.Rules.{levels_of}

@@ -25,12 +25,12 @@ use Rattle.topo_paths.specs.Scenes.{links_in, cell_in}
 use Rattle.topo_paths.specs.Walks.{Link}
 use Rattle.topo_paths.proofs.Hopping.{as_hop}
 use Rattle.topo_paths.proofs.LeastHops.{contains_cases}
-use Rattle.question_tree.specs.Asking.{Asking}
-use Rattle.question_tree.specs.Cells.{Gives, is_of_kind}
-use Rattle.question_tree.specs.Readings.{items_of, cells_of, outcome_in}
-use Rattle.question_tree.specs.Laws.{IsTrace}
+use Rattle.policy_meaning.specs.Asking.{Asking}
+use Rattle.policy_meaning.specs.Cells.{Gives, is_of_kind}
+use Rattle.policy_meaning.specs.Readings.{items_of, cells_of, outcome_in}
+use Rattle.policy_meaning.specs.QuestionLaws.{IsTrace}
 use Rattle.policy_meaning.specs.Meaning.{meaning}
-use Rattle.policy_meaning.specs.Laws.{begins_at, decides_ports}
+use Rattle.policy_meaning.specs.PolicyLaws.{begins_at, decides_ports}
 use Rattle.machine_steps.specs.declared.reply.Reply.{Reply}
 use Rattle.machine_steps.specs.Machine.{Job, State, in_force}
 use Rattle.machine_steps.specs.Steps.{asked_now, Decides}

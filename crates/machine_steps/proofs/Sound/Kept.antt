@@ -5,9 +5,9 @@ use Rattle.std.specs.List.{AllByRecursion, AllZip, list_any}
 use Rattle.std.proofs.lemmas.Bool.{and_parts, or_cases, or_left, or_right, cases_eq, eqb-true, eqb-false, eq-eqb, ne_eqb}
 use Rattle.maple_base.specs.declared.cells.Cell.{Cell}
 use Rattle.maple_base.specs.declared.cells.Value.{Value}
-use Rattle.question_tree.specs.Cells.{Gives}
-use Rattle.question_tree.specs.Laws.{OwnTrace, NoClash, LawOfTraces, TracesEndSo}
-use Rattle.policy_meaning.specs.Laws.{BeginsHere, DecidesPorts}
+use Rattle.policy_meaning.specs.Cells.{Gives}
+use Rattle.policy_meaning.specs.QuestionLaws.{OwnTrace, NoClash, LawOfTraces, TracesEndSo}
+use Rattle.policy_meaning.specs.PolicyLaws.{BeginsHere, DecidesPorts}
 use Rattle.topo_paths.specs.Scenes.{cell_in}
 use Rattle.priority_plan.specs.Rules.{levels_of}
 use Rattle.priority_plan.specs.Laws.{KeptHasNoMore}

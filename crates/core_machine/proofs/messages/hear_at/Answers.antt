@@ -3,9 +3,9 @@ use Rattle.std.specs.List.{slice_get}
 use Rattle.switch_session.specs.declared.told.Heard.TheVariants as heard
 use Rattle.report_text.specs.declared.line.Line.{Line}
 use Rattle.report_text.specs.declared.line.Line.TheVariants as lines
-use Rattle.machine_sessions.specs.declared.connection.Connection.{Connection}
+use Rattle.machine_parts.specs.declared.connection.Connection.{Connection}
 use Rattle.machine_steps.specs.Machine.{Session}
-use Rattle.machine_sessions.specs.Sessions.{session_of, due_all}
+use Rattle.machine_parts.specs.Sessions.{session_of, due_all}
 use Rattle.machine_steps.specs.Steps.{switch_of, error_lines}
 use Rattle.core_machine.proofs.Hearing.{has_heard, back, on_err, within_after, same_after, lacks_there, room_there, passed_there, ready_room, ready_left, ready_there, quiet_there, listed_there, refused_there, no_room_there, ended_there, can_change, port_there, sound_there, small_there, packet_heard, packet_lacks, joins_there, few_there, joined_there}
 use Rattle.core_machine.proofs.messages.hear_at.Goals as goal

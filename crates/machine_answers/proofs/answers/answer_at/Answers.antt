@@ -3,8 +3,8 @@ use Rattle.std.specs.List.{slice_get}
 use Rattle.std.proofs.lemmas.Option.{get_or_from_slice_get, same_Some, slice_get_read, slice_get_within}
 use Rattle.report_text.specs.declared.line.Line.{Line}
 use Rattle.report_text.specs.declared.line.Line.TheVariants as lines
-use Rattle.machine_sessions.specs.declared.connection.Connection.{Connection}
-use Rattle.machine_sessions.specs.Sessions.{due_all, session_of}
+use Rattle.machine_parts.specs.declared.connection.Connection.{Connection}
+use Rattle.machine_parts.specs.Sessions.{due_all, session_of}
 use Rattle.machine_steps.specs.declared.job.Job.{Job}
 use Rattle.machine_steps.specs.Machine.{State}
 use Rattle.machine_steps.specs.Sound.{IsSound}

@@ -1,8 +1,8 @@
 use Rattle.std.proofs.Common.{Bool, refl, sym, ap, ◌∙◌}
 use Rattle.std.specs.Prelude.{◌==◌, position}
 use Rattle.switch_traces.specs.Traces.{Learnings}
-use Rattle.machine_sessions.specs.declared.connection.Connection.{Connection}
-use Rattle.machine_sessions.specs.Sessions.{session_of}
+use Rattle.machine_parts.specs.declared.connection.Connection.{Connection}
+use Rattle.machine_parts.specs.Sessions.{session_of}
 use Rattle.machine_steps.specs.Machine.{is_of}
 use Rattle.machine_answers.proofs.answers.answer_in.Goals as goal
 

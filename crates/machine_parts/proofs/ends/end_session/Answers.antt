@@ -1,10 +1,10 @@
 use Rattle.std.proofs.Common.{◌≡◌, ◌∙◌, ap, inr, refl, None, arith}
-use Rattle.machine_sessions.specs.declared.connection.Connection.{Connection}
+use Rattle.machine_parts.specs.declared.connection.Connection.{Connection}
 use Rattle.machine_steps.specs.Machine.{State}
-use Rattle.machine_sessions.specs.Sessions.{due}
+use Rattle.machine_parts.specs.Sessions.{due}
 use Rattle.machine_parts.proofs.Closing.{closed_is}
-use Rattle.machine_sessions.proofs.Keyed.{each-set, each_at}
-use Rattle.machine_sessions.proofs.Sessions.{due_changed, due_open, due_removed, here, is_open_at, stands, within}
+use Rattle.machine_parts.proofs.Keyed.{each-set, each_at}
+use Rattle.machine_parts.proofs.Sessions.{due_changed, due_open, due_removed, here, is_open_at, stands, within}
 use Rattle.switch_session.specs.Sessions.{ended}
 use Rattle.machine_parts.proofs.ends.end_session.Goals as goal
 

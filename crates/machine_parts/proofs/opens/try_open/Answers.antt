@@ -3,10 +3,10 @@ use Rattle.std.specs.List.{AllByRecursion}
 use Rattle.report_text.specs.declared.line.Line.{Line}
 use Rattle.report_text.specs.declared.line.Line.TheVariants.{Closed, Open}
 use Rattle.report_text.specs.declared.line.Why.TheVariants.{Full}
-use Rattle.machine_sessions.specs.declared.connection.Connection.{Connection}
-use Rattle.machine_sessions.specs.Sessions.{session_of, due_all}
+use Rattle.machine_parts.specs.declared.connection.Connection.{Connection}
+use Rattle.machine_parts.specs.Sessions.{session_of, due_all}
 use Rattle.machine_steps.specs.Machine.{State, was_opened}
-use Rattle.machine_sessions.proofs.Keyed.{each_push}
+use Rattle.machine_parts.proofs.Keyed.{each_push}
 use Rattle.machine_parts.proofs.Opening.{counted, due_more, opened_is, refused_is}
 use Rattle.machine_parts.proofs.opens.try_open.Goals as goal
 

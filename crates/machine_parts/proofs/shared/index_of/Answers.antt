@@ -1,10 +1,10 @@
 use Rattle.std.proofs.Common.{◌≡◌, sym, ap, ◌∙◌, subst, None}
 use Rattle.std.specs.Prelude.{MatchOption, position}
-use Rattle.machine_sessions.specs.declared.connection.Connection.{Connection}
+use Rattle.machine_parts.specs.declared.connection.Connection.{Connection}
 use Rattle.machine_steps.specs.Machine.{State, is_of, session_at}
 use Rattle.machine_steps.specs.Places.{IsAt}
-use Rattle.machine_sessions.specs.Sessions.{session_of}
-use Rattle.machine_sessions.proofs.Sessions.{place_is}
+use Rattle.machine_parts.specs.Sessions.{session_of}
+use Rattle.machine_parts.proofs.Sessions.{place_is}
 use Rattle.machine_parts.proofs.shared.index_of.Goals as goal
 
 pub returns : goal.returns

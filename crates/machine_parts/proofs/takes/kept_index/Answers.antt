@@ -1,11 +1,11 @@
 use Rattle.std.proofs.Common.{◌≡◌, sym, ap, ◌∙◌, subst, None}
 use Rattle.std.specs.Prelude.{MatchOption, position}
-use Rattle.machine_sessions.specs.declared.connection.Connection.{Connection}
-use Rattle.machine_sessions.specs.Finding.{IsKeptAt, is_kept}
+use Rattle.machine_parts.specs.declared.connection.Connection.{Connection}
+use Rattle.machine_parts.specs.Finding.{IsKeptAt, is_kept}
 use Rattle.machine_steps.specs.Machine.{State}
-use Rattle.machine_sessions.specs.Sessions.{session_of}
+use Rattle.machine_parts.specs.Sessions.{session_of}
 use Rattle.machine_steps.specs.Steps.{kept_at}
-use Rattle.machine_sessions.proofs.Sessions.{kept_place_is}
+use Rattle.machine_parts.proofs.Sessions.{kept_place_is}
 use Rattle.machine_parts.proofs.takes.kept_index.Goals as goal
 
 pub returns : goal.returns

@@ -1,11 +1,11 @@
 use Rattle.std.proofs.Common.{◌≡◌, ◌∙◌, None, ap, sym, subst, inl, inr, refl, map, arith}
 use Rattle.std.specs.List.{AllByRecursion}
 use Rattle.switch_session.specs.Calls.{TakesOut}
-use Rattle.machine_sessions.specs.declared.connection.Connection.{Connection}
+use Rattle.machine_parts.specs.declared.connection.Connection.{Connection}
 use Rattle.machine_steps.specs.Machine.{Session, State, is_open}
-use Rattle.machine_sessions.specs.Sessions.{session_of, due_all}
-use Rattle.machine_sessions.proofs.Keyed.{each-remove, each-set, each_at}
-use Rattle.machine_sessions.proofs.Sessions.{due_changed, due_removed, here, stands_kept, within}
+use Rattle.machine_parts.specs.Sessions.{session_of, due_all}
+use Rattle.machine_parts.proofs.Keyed.{each-remove, each-set, each_at}
+use Rattle.machine_parts.proofs.Sessions.{due_changed, due_removed, here, stands_kept, within}
 use Rattle.machine_parts.proofs.Taking.{due_taken, goes, remove_set, same_connection, stays}
 use Rattle.machine_parts.proofs.takes.try_take_out.Goals as goal
 

@@ -1,8 +1,8 @@
 use Rattle.std.proofs.Common.{ℕ, ap, ◌∙◌}
 use Rattle.std.specs.Prelude.{Some, None}
 use Rattle.std.proofs.lemmas.List.{length-map}
-use Rattle.script_orders.specs.Lines.{ended_lines}
-use Rattle.script_orders.specs.Orders.{refused_from}
+use Rattle.script_text.specs.Lines.{ended_lines}
+use Rattle.script_text.specs.Orders.{refused_from}
 use Rattle.maple.proofs.Runs.{ended, failed, lacked}
 use Rattle.maple.proofs.sim.run_script.Goals as goal
 

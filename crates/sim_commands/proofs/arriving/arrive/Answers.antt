@@ -1,6 +1,6 @@
 use Rattle.std.proofs.Common.{ap, ◌∙◌}
 use Rattle.machine_steps.specs.declared.note.Note.TheVariants as notes
-use Rattle.script_orders.specs.Orders.Order.{Arrival}
+use Rattle.script_text.specs.Orders.Order.{Arrival}
 use Rattle.sim_steps.specs.Parts.{JustLooks}
 use Rattle.sim_channels.specs.Channels.{is_plugged_in}
 use Rattle.sim_commands.proofs.Calling.{obeyed_looked}

@@ -1,6 +1,6 @@
 use Rattle.std.proofs.Common.{Ok, ap}
 use Rattle.machine_steps.specs.declared.entry.Entry.TheVariants as entries
-use Rattle.script_orders.specs.Orders.Order.{Change}
+use Rattle.script_text.specs.Orders.Order.{Change}
 use Rattle.sim_commands.proofs.Doing.{obeyed_asked, obeyed_done, of_ok, on_ok}
 use Rattle.sim_commands.proofs.changing.change.Goals as goal
 

@@ -1,6 +1,6 @@
 use Rattle.std.proofs.Common.{refl, ap}
 use Rattle.machine_steps.specs.declared.entry.Entry.TheVariants as entries
-use Rattle.script_orders.specs.Orders.Order.{Rules}
+use Rattle.script_text.specs.Orders.Order.{Rules}
 use Rattle.sim_channels.specs.declared.driver.Driver.{Driver}
 use Rattle.sim_commands.proofs.Asking.{asks_for}
 use Rattle.sim_commands.proofs.Doing.{obeyed_asked}

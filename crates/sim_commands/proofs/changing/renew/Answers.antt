@@ -2,7 +2,7 @@ use Rattle.std.proofs.Common.{subst, inl, inr}
 use Rattle.machine_steps.specs.declared.entry.Entry.TheVariants as entries
 use Rattle.machine_steps.specs.declared.note.Note.TheVariants as notes
 use Rattle.policy_text.specs.Texts.{IsRefused}
-use Rattle.script_orders.specs.Orders.Order.{NewPolicy}
+use Rattle.script_text.specs.Orders.Order.{NewPolicy}
 use Rattle.sim_commands.proofs.Doing.{obeyed_done, obeyed_noted, of_ok, on_ok}
 use Rattle.sim_commands.proofs.changing.renew.Goals as goal
 

@@ -1,8 +1,8 @@
 use Rattle.std.proofs.Common.{[], map, refl, sym, subst}
-use Rattle.script_orders.specs.Orders.Order.{Nothing}
-use Rattle.script_orders.specs.Steps.{order_with}
-use Rattle.sim_stretches.specs.Stretches.{Obeyed}
-use Rattle.sim_stretches.proofs.Joining.{obeyed, stretch_empty}
+use Rattle.script_text.specs.Orders.Order.{Nothing}
+use Rattle.script_text.specs.Steps.{order_with}
+use Rattle.sim_steps.specs.Stretches.{Obeyed}
+use Rattle.sim_steps.proofs.Joining.{obeyed, stretch_empty}
 use Rattle.sim_channels.specs.Channels.{bench}
 use Rattle.sim_channels.proofs.Resting.{rest_is_still}
 use Rattle.sim_commands.proofs.obeying.obey.Goals as goal

@@ -1,5 +1,5 @@
 use Rattle.std.proofs.Common.{ap, ◌∙◌}
-use Rattle.script_orders.specs.Orders.Order.{Plug}
+use Rattle.script_text.specs.Orders.Order.{Plug}
 use Rattle.machine_steps.specs.declared.entry.Entry.TheVariants as entries
 use Rattle.machine_steps.specs.declared.note.Note.TheVariants as notes
 use Rattle.sim_channels.specs.Channels.{is_plugged_in, was_plugged_in}

@@ -1,5 +1,5 @@
 use Rattle.std.proofs.Common.{false, ap, ◌∙◌}
-use Rattle.script_orders.specs.Orders.Order.{Unplug}
+use Rattle.script_text.specs.Orders.Order.{Unplug}
 use Rattle.machine_steps.specs.declared.entry.Entry.TheVariants as entries
 use Rattle.machine_steps.specs.declared.note.Note.TheVariants as notes
 use Rattle.sim_steps.specs.Parts.{JustEnters}

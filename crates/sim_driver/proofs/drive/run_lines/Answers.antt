@@ -2,9 +2,9 @@ use Rattle.std.proofs.Common.{◌≡◌, ℕ, List, [], length, map, arith, refl
 use Rattle.std.specs.Prelude.{Err}
 use Rattle.std.proofs.lemmas.List.{length-map, nil_from_length}
 use Rattle.maple_base.specs.Counts.{HasRisen}
-use Rattle.script_orders.specs.Lines.{ended_lines}
-use Rattle.script_orders.specs.Orders.{orders_of, refused_from}
-use Rattle.script_orders.specs.Steps.{order_with}
+use Rattle.script_text.specs.Lines.{ended_lines}
+use Rattle.script_text.specs.Orders.{orders_of, refused_from}
+use Rattle.script_text.specs.Steps.{order_with}
 use Rattle.sim_driver.specs.Passes.{given_to}
 use Rattle.sim_driver.proofs.Going.{Known, broken_off, cut_off, first_refused, followed, none_refused, unwritten, went_further, went_none}
 use Rattle.sim_driver.proofs.drive.run_lines.Goals as goal

@@ -1,5 +1,5 @@
 use Rattle.std.proofs.Common.{◌≡◌, ◌+◌, ◌≤◌, length, map}
-use Rattle.script_orders.specs.Lines.{ended_lines}
+use Rattle.script_text.specs.Lines.{ended_lines}
 use Rattle.sim_driver.specs.Passes.{IsReady}
 use Rattle.sim_driver.specs.Runs.{given}
 use Rattle.sim_driver.proofs.Going.{Went}

@@ -1,6 +1,6 @@
 use Rattle.std.proofs.Common.{◌≡◌, ◌-◌, ◌^◌, true, vec_len}
 use Rattle.std.specs.List.{list_all}
-use Rattle.question_tree.specs.Cells.{is_of_kind}
+use Rattle.policy_meaning.specs.Cells.{is_of_kind}
 use Rattle.tree_prune.specs.Current.{are_current}
 use Rattle.topo_paths.specs.Scenes.{cell_in}
 use Rattle.sim_jobs.proofs.work.recorded.Given as goal

@@ -1,8 +1,8 @@
 use Rattle.std.proofs.Common.{◌≡◌, ◌+◌, ℕ, map, refl, sym, subst, inl, inr, arith}
 use Rattle.machine_steps.specs.declared.note.Note.TheVariants as notes
-use Rattle.script_orders.specs.Orders.Order.{Settle}
+use Rattle.script_text.specs.Orders.Order.{Settle}
 use Rattle.sim_steps.specs.Parts.{EndsSettling, IsLowestTurn, most_turns}
-use Rattle.sim_stretches.specs.Stretches.{Obeyed}
+use Rattle.sim_steps.specs.Stretches.{Obeyed}
 use Rattle.sim_channels.specs.Channels.{bench}
 use Rattle.sim_turns.specs.Taking.{TakesSome}
 use Rattle.sim_turns.proofs.Obeyed.{lowest_turn, settle_obeyed, takes_more, told_last}

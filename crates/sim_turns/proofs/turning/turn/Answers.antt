@@ -1,9 +1,9 @@
 use Rattle.std.proofs.Common.{◌≡◌, ◌+◌, ◌-◌, ◌<◌, ℕ, true, false, map, sym, ◌∙◌, subst, arith}
 use Rattle.machine_steps.specs.declared.note.Note.TheVariants as notes
-use Rattle.script_orders.specs.Orders.Order.{Turn}
+use Rattle.script_text.specs.Orders.Order.{Turn}
 use Rattle.sim_steps.specs.Benches.{is_plugged}
 use Rattle.sim_steps.specs.Parts.{IsExhausted, IsTurnAt}
-use Rattle.sim_stretches.specs.Stretches.{Obeyed}
+use Rattle.sim_steps.specs.Stretches.{Obeyed}
 use Rattle.sim_channels.specs.Channels.{bench}
 use Rattle.sim_turns.specs.Taking.{TakesSome}
 use Rattle.sim_turns.proofs.Obeyed.{absent_obeyed, told_last, turn_obeyed}

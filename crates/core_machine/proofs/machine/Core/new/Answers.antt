@@ -11,7 +11,7 @@ use Rattle.switch_traces.specs.Traces.{Learnings}
 use Rattle.machine_steps.specs.declared.job.Job.{Job}
 use Rattle.machine_steps.specs.Machine.{PolicyState, Session, opening}
 use Rattle.machine_steps.specs.Sound.{IsSound}
-use Rattle.machine_sessions.specs.Sessions.{session_of}
+use Rattle.machine_parts.specs.Sessions.{session_of}
 use Rattle.machine_parts.specs.Seen.{seen_past}
 use Rattle.core_machine.proofs.machine.Core.new.Goals as goal
 

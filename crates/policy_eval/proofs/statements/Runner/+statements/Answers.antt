@@ -1,8 +1,8 @@
 use Rattle.std.proofs.Common.{sym, ◌∙◌, arith}
 use Rattle.maple_base.specs.declared.decision.Outcome.{Outcome}
 use Rattle.policy_lang.specs.TreeOf.{term_of}
-use Rattle.policy_data.specs.Data.{datum_of}
-use Rattle.policy_eval.specs.Parts.{block_runs, repeat_runs}
+use Rattle.policy_eval.specs.Data.{datum_of}
+use Rattle.policy_eval.specs.StatementParts.{block_runs, repeat_runs}
 use Rattle.policy_eval.proofs.Rounds.{test_ends, body_ends, test_fails}
 use Rattle.policy_eval.proofs.statements.Runner.+statements.Goals as goal
 

@@ -1,6 +1,6 @@
 use Rattle.std.proofs.Common.{◌≡◌, ◌+◌, ◌*◌, ◌≤◌, drop}
 use Rattle.policy_lang.specs.TreeOf.{term_of}
-use Rattle.policy_eval.specs.Parts.{block_runs, repeat_runs, runs_of}
+use Rattle.policy_eval.specs.StatementParts.{block_runs, repeat_runs, runs_of}
 use Rattle.policy_eval.proofs.Blocks.{LeadsOn}
 use Rattle.policy_eval.proofs.Rounds.{RoundsLeft}
 use Rattle.policy_eval.proofs.statements.Runner.+statements.Given as goal

@@ -1,5 +1,5 @@
 use Rattle.std.proofs.Common.{ap, ◌∙◌}
-use Rattle.question_tree.specs.Cells.{given}
+use Rattle.policy_meaning.specs.Cells.{given}
 use Rattle.trace_record.proofs.Tables.{kept_now}
 use Rattle.trace_record.proofs.read_cells.ReadCells.push.Goals as goal
 

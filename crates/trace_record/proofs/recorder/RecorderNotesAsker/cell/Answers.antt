@@ -1,5 +1,5 @@
 use Rattle.std.proofs.Common.{refl, sym, ◌∙◌}
-use Rattle.question_tree.proofs.Looked.{looked_new, given_all, given_still}
+use Rattle.policy_meaning.proofs.Looked.{looked_new, given_all, given_still}
 use Rattle.trace_record.specs.Recorded.{answers_of}
 use Rattle.trace_record.proofs.recorder.RecorderNotesAsker.cell.Goals as goal
 

@@ -1,5 +1,0 @@
-use Rattle.std.proofs.Common.{length}
-use Rattle.expr_eval.proofs.walk.Walk.+numbers.Given as goal
-
-abbrev pub decreases-numbers : goal.decreases-numbers
-decreases-numbers g l = length l.exprs.now

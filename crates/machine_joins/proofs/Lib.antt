@@ -1,3 +1,0 @@
-pub mod Features
-pub mod Joining
-pub mod OneSession

@@ -1,9 +1,0 @@
-pub mod Current
-pub mod Entries
-pub mod Few
-pub mod Hearing
-pub mod Offers
-pub mod Parts
-pub mod Sessions
-pub mod Turns
-pub mod Widths

@@ -1,7 +1,0 @@
-use Rattle.machine_sessions.specs.Aiming.{gives_up}
-use Rattle.machine_sessions.proofs.Aiming.{walked}
-use Rattle.machine_sessions.proofs.aims.give_up_all.Goals as goal
-
-pub loop-connection-preserved : goal.loop-connection-preserved
-loop-connection-preserved c =
-    walked gives_up c.args.sessions.now c.loop-connection.sessions c.loop-connection.connection-index c.connection-item.result c.give_up.new.connection c.loop-connection-test.true c.loop-connection.invariant c.connection-item.is c.give_up.ensures

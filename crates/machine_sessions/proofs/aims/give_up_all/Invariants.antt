@@ -1,6 +1,0 @@
-use Rattle.std.proofs.Common.{◌≡◌, ◌++◌, drop, map, take}
-use Rattle.machine_sessions.specs.Aiming.{gives_up}
-use Rattle.machine_sessions.proofs.aims.give_up_all.Given as goal
-
-abbrev pub invariant-loop-connection : goal.invariant-loop-connection
-invariant-loop-connection l = l.sessions ≡ map gives_up (take l.connection-index l.fn.sessions) ++ drop l.connection-index l.fn.sessions

@@ -1,6 +1,0 @@
-use Rattle.machine_steps.specs.Machine.{kept_of}
-use Rattle.machine_sessions.specs.Aiming.{keeps, AreReadied}
-use Rattle.machine_sessions.proofs.aims.make_ready.Given as goal
-
-abbrev pub invariant-loop-at : goal.invariant-loop-at
-invariant-loop-at l = AreReadied (kept_of (keeps l.left) l.learned) l.at l.fn.sessions l.sessions

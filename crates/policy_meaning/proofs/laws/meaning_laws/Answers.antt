@@ -1,5 +1,0 @@
-use Rattle.policy_meaning.proofs.Lawful.{begins_here, decides_its_ports, asks_within_budget, keeps_decisions}
-use Rattle.policy_meaning.proofs.laws.meaning_laws.Goals as goal
-
-pub returns : goal.returns
-returns c = record { begins = begins_here; ports = decides_its_ports; few = asks_within_budget; budget = keeps_decisions }

@@ -1,7 +1,0 @@
-use Rattle.policy_print.proofs.Dropped.{none_can_be_dropped}
-use Rattle.policy_print.proofs.Lawful.{of_grammar, is_tree}
-use Rattle.policy_print.proofs.Levels.{must_stand}
-use Rattle.policy_print.proofs.laws.grammar_law.Goals as goal
-
-pub returns : goal.returns
-returns c = record { parentheses = must_stand; dropped = none_can_be_dropped; grammar = of_grammar; tree = is_tree }

@@ -1,5 +1,0 @@
-use Rattle.policy_print.proofs.Lawful.{has_nodes, passes_none}
-use Rattle.policy_print.proofs.laws.limit_law.Goals as goal
-
-pub returns : goal.returns
-returns c = record { nodes = has_nodes; limits = passes_none }

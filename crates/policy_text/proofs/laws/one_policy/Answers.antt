@@ -1,5 +1,0 @@
-use Rattle.policy_text.proofs.OneText.{one_policy}
-use Rattle.policy_text.proofs.laws.one_policy.Goals as goal
-
-pub returns : goal.returns
-returns c = one_policy c.one_file.ensures

@@ -1,5 +1,0 @@
-use Rattle.std.proofs.Common.{refl}
-use Rattle.question_tree.proofs.laws.example_laws.Goals as goal
-
-pub returns : goal.returns
-returns c = record { web = refl; tcp = refl; other = refl; arp = refl; cells = refl }

@@ -1,5 +1,0 @@
-pub mod FirstLines
-pub mod Marks
-pub mod Nexts
-pub mod Sizes
-pub mod Texts

@@ -1,9 +1,0 @@
-use Rattle.sim_hearing.specs.Passes.{rest_at}
-use Rattle.sim_hearing.proofs.Onward.{HearsOn}
-use Rattle.sim_hearing.proofs.hear.hear_all.Given as goal
-
-abbrev pub invariant-loop-reaches_others : goal.invariant-loop-reaches_others
-invariant-loop-reaches_others l = HearsOn l.at l.reaches_others l.fn.driver l.driver
-
-abbrev pub decreases-loop-reaches_others : goal.decreases-loop-reaches_others
-decreases-loop-reaches_others l = rest_at l.at l.driver

@@ -1,0 +1,316 @@
+-- What is known behind one message.
+use Rattle.std.proofs.Common.{◌≡◌, ℕ, ◌+◌, ◌<◌, Bool, true, false, List, [], length, get_or, set, refl, sym, ap, ◌∙◌, subst, inl, inr, arith}
+use Rattle.std.specs.Prelude.{Option, Some, Result, Ok, Err, OnOk, IfOk, is_some}
+use Rattle.std.specs.List.{AllByRecursion, slice_get}
+use Rattle.std.proofs.lemmas.Bool.{and_right, eq-eqb, ne_eqb}
+use Rattle.std.proofs.lemmas.List.{set-set}
+use Rattle.std.proofs.lemmas.Option.{same_Some, slice_get_read}
+use Rattle.maple_base.specs.declared.decision.Settings.{Settings}
+use Rattle.maple_base.specs.declared.no_memory.NoMemory.{NoMemory as OutOfMemory}
+use Rattle.of10_stream.specs.Steps.{Stream}
+use Rattle.device_port.specs.Devices.{Meaning}
+use Rattle.machine_moves.specs.Told.{WaitsAs, is_end, is_new_state, may_end}
+use Rattle.machine_steps.specs.declared.entry.Entry.{Entry}
+use Rattle.machine_steps.specs.declared.entry.Entry.TheVariants as entries
+use Rattle.machine_steps.specs.declared.entry.Input.{Input}
+use Rattle.machine_steps.specs.declared.entry.Input.TheVariants.{Message as Whole, Bad}
+use Rattle.machine_steps.specs.declared.job.Job.{Job}
+use Rattle.machine_steps.specs.declared.reply.Reply.{Reply}
+use Rattle.machine_steps.specs.declared.reply.Reply.TheVariants.{NoMemory, Count, Ended, NewState, Job as JobOpened, Overload}
+use Rattle.machine_steps.specs.Histories.{Turn}
+use Rattle.machine_steps.specs.Machine.{State, session_at}
+use Rattle.machine_steps.specs.Steps.{HearsInput, Steps}
+use Rattle.world_steps.specs.Worlds.{lacks_memory}
+use Rattle.sim_steps.specs.Benches.{MovesAt, is_plugged, slot_at}
+use Rattle.sim_steps.specs.Deeds.{EntersAt, HearsNext, NextIs, UnlessLacking}
+use Rattle.sim_steps.specs.Parts.{IsHeardOut}
+use Rattle.sim_steps.specs.Stretches.{Carried}
+use Rattle.sim_steps.proofs.Joining.{carried_none, carried_then}
+use Rattle.sim_steps.proofs.Moments.{carried_heard}
+use Rattle.sim_steps.proofs.Silent.{IsSilentWhole, carried_along, is_silent}
+use Rattle.sim_jobs.specs.Works.{AnswersWhole, IsOfAnswer, Works}
+use Rattle.sim_channels.specs.declared.channel.Channel.{Channel}
+use Rattle.sim_channels.specs.declared.channel.Stage.TheVariants.{Left}
+use Rattle.sim_channels.specs.declared.driver.Driver.{Driver}
+use Rattle.sim_channels.specs.Channels.{CarriedOver, IsKept, bench, slot_by, slots_of}
+use Rattle.sim_channels.specs.Driving.{DrivingLaws}
+use Rattle.sim_channels.specs.Waiting.{IsHeard, IsOffered}
+use Rattle.sim_channels.proofs.Emptied.{device_at}
+use Rattle.sim_channels.proofs.Keeping.{reached_sound, settings_same}
+use Rattle.sim_channels.proofs.Kept.{ChannelAt, all_left, is_as_long, is_beside, is_there, kept_channel, kept_left, not_fresh, plugged_at, plugged_has}
+use Rattle.sim_channels.proofs.Resting.{hears_in_order}
+use Rattle.sim_channels.proofs.Slots.{slot_next, slots_alike, slots_channel, slots_get}
+use Rattle.sim_turns.specs.Passes.{ComesNext, Follows, GoesOn, HasHeard, IsDone, IsLeft, Passed, Takes, came_of, rest_at, rest_in}
+use Rattle.sim_turns.specs.declared.hear.Came.{Came}
+use Rattle.sim_turns.proofs.Answering.{AllBy, behind_along}
+use Rattle.sim_turns.proofs.Bytes.{gets_shorter}
+use Rattle.sim_turns.proofs.Replies.{heard_smooth}
+
+-- ---- what is carried
+
+pub over_none : (old new : Driver) → ((ds : List Meaning) → bench new ds ≡ bench old ds) → CarriedOver old new
+over_none old new same = λ ds long. subst (Carried (bench old ds)) (sym (same ds)) (carried_none (bench old ds))
+
+pub over_then : (a b c : Driver) → length b.channels.items ≡ length a.channels.items → CarriedOver a b → CarriedOver b c → CarriedOver a c
+over_then a b c long h k = λ ds e. carried_then (bench a ds) (bench b ds) (bench c ds) (h ds e) (k ds (e ∙ sym long))
+
+silent : (entry : Entry) → IsOfAnswer entry → is_silent entry ≡ true
+silent entries.ReadPolicy is = refl
+silent (entries.ReadCell cell) is = refl
+silent (entries.Commit job run) is = refl
+silent other is = absurd is
+
+silent_whole : (t : Turn) → AnswersWhole t → IsSilentWhole t
+silent_whole t h = record { silent = record { entry = silent t.entry h.answers.kind; smooth = h.answers.smooth }; memory = h.memory }
+
+-- a packet is answered
+over_works : (old new : Driver) → Works old.core new.core → new ≡ record old { core = new.core } → CarriedOver old new
+over_works old new works e = λ ds long.
+    subst (Carried (bench old ds)) (sym (ap (λ (x : Driver). bench x ds) e)) (carried_along AnswersWhole silent_whole (bench old ds) works.turns new.core works.leads works.whole)
+
+-- ---- what is known of one channel
+
+pub written : (here : ℕ) (k l : Channel) (old new : Driver) → here < length old.channels.items → k ≡ get_or old.channels.items here k → new.channels.items ≡ set old.channels.items here l
+    → new.learning ≡ old.learning → new.budget ≡ old.budget → ChannelAt here k l old new
+written here k l old new within is channels learning budget =
+    record { there = slice_get_read old.channels.items (length old.channels.items) here k refl within is; channels = channels; learning = learning; budget = budget }
+
+module _ (here : ℕ) (k l : Channel) (old new : Driver) (at : ChannelAt here k l old new) where
+  -- the driver behind some messages, by what is known of it
+  passed : (made : Bool) → l.waiting ≡ k.waiting → IsKept new → CarriedOver old new → new.core.jobs ≡ [] → IsOffered here new
+      → (made ≡ false → old.learning ≡ false → (c : ℕ) → (c ≡ here + 1 → ⊥) → session_at c new.core ≡ session_at c old.core) → HasHeard here made old new
+  passed made waiting kept carried jobs offered sessions = record {
+    kept = kept;
+    carried = carried;
+    jobs = jobs;
+    offered = offered;
+    channels = record {
+      count = is_as_long here k l old new at;
+      others = is_beside here k l old new at;
+      waiting = λ x y was there.
+          ap (λ (z : Channel). z.waiting) (same_Some y l (sym there ∙ is_there here k l old new at)) ∙ waiting ∙ ap (λ (z : Channel). z.waiting) (same_Some k x (sym at.there ∙ was));
+    };
+    others = λ untold no_hosts. record { sessions = sessions untold no_hosts; channels = is_beside here k l old new at };
+    learning = at.learning;
+  }
+
+  offers : GoesOn k l → k.to ≡ [] → IsOffered here new
+  offers goes empty = plugged_has (λ (x : Channel). x.to ≡ []) here new l (is_there here k l old new at) (goes.to ∙ empty)
+
+  fewer : length l.from.stream.rest < length k.from.stream.rest → rest_at here new < rest_at here old
+  fewer h =
+      let before : rest_at here old ≡ length k.from.stream.rest = ap rest_in at.there in
+      let behind : rest_at here new ≡ length l.from.stream.rest = ap rest_in (is_there here k l old new at) in
+      omega (arith, h, before, behind)
+
+-- ---- nothing came
+
+module _ (laws : DrivingLaws) (here : ℕ) (k l : Channel) (old new : Driver) (at : ChannelAt here k l old new) (done : IsDone k l) (core : new.core ≡ old.core) where
+  bench_same : (ds : List Meaning) → bench new ds ≡ bench old ds
+  bench_same ds =
+      let slots = ap (λ ks. slots_of ks ds) at.channels ∙ slots_alike old.channels.items ds here k l at.there done.goes.to done.same in
+      λ i. record { machine = core i; slots = slots i }
+
+  -- as behind a question that changes nothing
+  kept_same : IsKept old → IsKept new
+  kept_same kept = kept_channel laws old new entries.OpenJobs (Count (length old.core.jobs)) kept tt (refl, core) refl refl (λ c. refl) here k l at done.goes.stage
+      (λ unplugged. (let f = kept.fresh here k at.there (sym done.goes.stage ∙ unplugged) in record { to = done.goes.to ∙ f.to; from = done.same ∙ f.from }))
+
+  pub heard_nothing : IsKept old → old.core.jobs ≡ [] → IsOffered here old → HasHeard here false old new
+  heard_nothing kept none offered =
+      passed here k l old new at false done.goes.waiting (kept_same kept) (over_none old new bench_same) (ap (λ (m : State). m.jobs) core ∙ none)
+      (λ x there plugged. (let is = same_Some l x (sym (is_there here k l old new at) ∙ there) in
+      sym (ap (λ (y : Channel). y.to) is) ∙ done.goes.to ∙ offered k at.there (sym done.goes.stage ∙ ap (λ (y : Channel). y.stage) is ∙ plugged)))
+      (λ untold no_hosts c other. ap (session_at c) core)
+
+  pub all_heard : IsHeard here new
+  all_heard = λ x there plugged.
+      (let is = same_Some l x (sym (is_there here k l old new at) ∙ there) in
+      subst (λ (y : Channel). IsHeardOut y.from.stream) is (subst IsHeardOut (sym done.same) (done.heard (sym done.goes.stage ∙ ap (λ (y : Channel). y.stage) is ∙ plugged))))
+
+-- ---- a message, or the fault that ends the session
+
+-- fewer bytes are left where the session goes on
+shorter : (c : ℕ) (input : Input) (s t : Stream) (m : State) (reply : Reply) (n : State) → NextIs input s t → HearsInput c input m reply n → is_plugged c m ≡ true → is_end reply ≡ false
+    → length t.rest < length s.rest
+shorter c (Whole x) s t m reply n next h plugged goes_on = gets_shorter x s t next
+shorter c (Bad place bad) s t m reply n next (inl (none, passes)) plugged goes_on = (let f : true ≡ false = sym plugged ∙ ap is_some none in absurd (cc))
+shorter c (Bad place bad) s t m reply n next (inr (session, found, r, e)) plugged goes_on = (let f : false ≡ true = sym goes_on ∙ ap is_end r in absurd (cc))
+
+pub budget_kept : DrivingLaws → (c : ℕ) (input : Input) (old mid : Driver) (reply : Reply) → IsKept old → Steps old.core (entries.Heard c input) reply mid.core → mid.budget ≡ old.budget
+    → mid.core.settings.budget ≡ mid.budget
+budget_kept laws c input old mid reply kept steps budget =
+    ap (λ (s : Settings). s.budget) (settings_same laws old.core (entries.Heard c input) reply mid.core kept.reached steps) ∙ sym kept.budget ∙ sym budget
+
+-- what is known behind its reply
+pub record Hears (here : ℕ) (old mid : Driver) (reply : Reply) : Type 0 where
+  pub laws : DrivingLaws
+  pub kept : IsKept old
+  pub none : old.core.jobs ≡ []
+  pub offered : IsOffered here old
+  pub input : Input
+  pub k : Channel
+  pub l : Channel
+  pub next : ComesNext input k l
+  pub at : ChannelAt here k l old mid
+  pub steps : Steps old.core (entries.Heard (here + 1) input) reply mid.core
+
+module _ (here : ℕ) (old mid : Driver) (reply : Reply) (h : Hears here old mid reply) where
+  open h use {laws, kept, none, offered, input, k, l, next, at, steps}
+
+  abbrev Hearing : Entry
+  Hearing = entries.Heard (here + 1) input
+
+  waits : WaitsAs (here + 1) reply mid.core.jobs
+  waits = laws.jobs old.core (here + 1) input reply mid.core none steps
+
+  is_open : is_plugged (here + 1) old.core ≡ true
+  is_open = plugged_at old here k kept at.there next.plugged
+
+  empty : k.to ≡ []
+  empty = offered k at.there next.plugged
+
+  module _ (ds : List Meaning) (d : Meaning) (its : slice_get ds here ≡ Some d) where
+    found : slot_at (here + 1) (slots_of old.channels.items ds) ≡ Some (slot_by k d)
+    found = slot_next here (slots_of old.channels.items ds) ∙ slots_get old.channels.items ds here k d at.there its
+
+    hears : HearsNext input (slot_by k d) (slot_by l d)
+    hears = (l.from.stream, next.next, λ i. record { device = d; to = next.goes.to i; from = l.from.stream })
+
+    moves : MovesAt (here + 1) (HearsNext input) (slots_of old.channels.items ds) (slots_of mid.channels.items ds)
+    moves =
+        subst (λ ks. MovesAt (here + 1) (HearsNext input) (slots_of old.channels.items ds) (slots_of ks ds)) (sym at.channels)
+        (slots_channel old.channels.items ds here k l d (HearsNext input) at.there its hears)
+
+    enters : lacks_memory reply ≡ false → EntersAt (entries.Heard (here + 1) input) reply (bench old ds) (bench mid ds)
+    enters memory = record {
+      may = (is_open, (slot_by k d, l.from.stream, found, next.next));
+      admitted = next.can;
+      steps = steps;
+      smooth = heard_smooth (here + 1) input old.core reply mid.core steps waits;
+      slots =
+          subst (λ b. UnlessLacking b (slots_of old.channels.items ds) (slots_of mid.channels.items ds) (MovesAt (here + 1) (HearsNext input) (slots_of old.channels.items ds) (slots_of mid.channels.items ds)))
+          (sym memory) moves;
+    }
+
+  over : lacks_memory reply ≡ false → CarriedOver old mid
+  over memory = λ ds long.
+      (let d = device_at old.channels.items ds here k long at.there in carried_heard (here + 1) input reply (bench old ds) (bench mid ds) (hears_in_order old ds here input reply kept none offered) memory (enters ds d.0 d.1 memory))
+
+  beside : (c : ℕ) → (c ≡ here + 1 → ⊥) → may_end c Hearing ≡ false
+  beside c other = ne_eqb (here + 1) c (λ e. other (sym e))
+
+  sessions : is_new_state reply ≡ false → old.learning ≡ false → (c : ℕ) → (c ≡ here + 1 → ⊥) → session_at c mid.core ≡ session_at c old.core
+  sessions untold no_hosts c other =
+      laws.others old.core Hearing reply mid.core (reached_sound laws old.core kept.reached) steps
+      (laws.states old.core Hearing reply mid.core steps (sym kept.learning ∙ no_hosts) untold) c (beside c other)
+
+  -- ---- what the reply brings about
+
+  kept_open : is_end reply ≡ false → IsKept mid
+  kept_open goes_on = kept_channel laws old mid Hearing reply kept next.can steps refl refl (λ c. and_right (may_end c Hearing) (is_end reply) goes_on) here k l at next.goes.stage (not_fresh l (next.goes.stage ∙ next.plugged))
+
+  shorter_now : is_end reply ≡ false → length l.from.stream.rest < length k.from.stream.rest
+  shorter_now goes_on = shorter (here + 1) input k.from.stream l.from.stream old.core reply mid.core next.next steps is_open goes_on
+
+  fewer_now : is_end reply ≡ false → rest_at here mid < rest_at here old
+  fewer_now goes_on = fewer here k l old mid at (shorter_now goes_on)
+
+  -- nothing
+  plain : lacks_memory reply ≡ false → is_end reply ≡ false → mid.core.jobs ≡ [] → HasHeard here (is_new_state reply) old mid
+  plain memory goes_on jobs = passed here k l old mid at (is_new_state reply) next.goes.waiting (kept_open goes_on) (over memory) jobs (offers here k l old mid at next.goes empty) sessions
+
+  -- the packet is answered
+  module _ (new : Driver) (works : Works mid.core new.core) (e : new ≡ record mid { core = new.core }) where
+    at_new : ChannelAt here k l old new
+    at_new = record {
+      there = at.there;
+      channels = ap (λ (x : Driver). x.channels.items) e ∙ at.channels;
+      learning = ap (λ (x : Driver). x.learning) e ∙ at.learning;
+      budget = ap (λ (x : Driver). x.budget) e ∙ at.budget;
+    }
+
+    fewer_answered : is_end reply ≡ false → rest_at here new < rest_at here old
+    fewer_answered goes_on = fewer here k l old new at_new (shorter_now goes_on)
+
+    answered : lacks_memory reply ≡ false → is_end reply ≡ false → is_new_state reply ≡ false → AllBy (here + 1) mid.core → HasHeard here false old new
+    answered memory goes_on untold by =
+        let b = behind_along laws (here + 1) mid works.turns new.core (kept_open goes_on) by works.leads works.whole in
+        passed here k l old new at_new false next.goes.waiting (subst IsKept (sym e) b.kept)
+        (over_then old mid new (is_as_long here k l old mid at) (over memory) (over_works mid new works e)) works.none (offers here k l old new at_new next.goes empty)
+        (λ none_made no_hosts c other. b.others c other ∙ sessions untold no_hosts c other)
+
+  -- the channel is left
+  module _ (new : Driver) (left : IsLeft here mid new) where
+    abbrev Gone : Channel
+    Gone = record l { stage = Left }
+
+    its_channel : left.channel ≡ l
+    its_channel = same_Some left.channel l (sym left.there ∙ is_there here k l old mid at)
+
+    at_left : ChannelAt here k (record l { stage = Left }) old new
+    at_left = record {
+      there = at.there;
+      channels =
+          left.channels ∙ ap (λ (x : Channel). set mid.channels.items here (record x { stage = Left })) its_channel ∙ ap (λ ks. set ks here Gone) at.channels
+          ∙ set-set old.channels.items here l Gone;
+      learning = left.learning ∙ at.learning;
+      budget = left.budget ∙ at.budget;
+    }
+
+    is_left : (x : Channel) → slice_get new.channels.items here ≡ Some x → x.stage ≡ Left
+    is_left x there = sym (ap (λ (y : Channel). y.stage) (same_Some Gone x (sym (is_there here k Gone old new at_left) ∙ there)))
+
+    over_left : CarriedOver mid new
+    over_left = over_none mid new (λ ds. (let slots =
+        ap (λ ks. slots_of ks ds) left.channels ∙ slots_alike mid.channels.items ds here left.channel (record left.channel { stage = Left }) left.there refl refl in
+        λ i. record { machine = left.core i; slots = slots i }))
+
+    kept_gone : is_end reply ≡ true → IsKept new
+    kept_gone end =
+        kept_left laws old new Hearing reply kept next.can (subst (λ (m : State). Steps old.core Hearing reply m) (sym left.core) steps) refl refl here k Gone at_left next.plugged refl
+        (eq-eqb (here + 1) (here + 1) refl) end beside
+
+    closed : lacks_memory reply ≡ false → is_end reply ≡ true → is_new_state reply ≡ false → mid.core.jobs ≡ [] → HasHeard here false old new
+    closed memory end untold jobs =
+        passed here k Gone old new at_left false next.goes.waiting (kept_gone end) (over_then old mid new (is_as_long here k l old mid at) (over memory) over_left)
+        (ap (λ (m : State). m.jobs) left.core ∙ jobs) (all_left (λ (x : Channel). x.to ≡ []) here new is_left)
+        (λ none_made no_hosts c other. ap (session_at c) left.core ∙ sessions untold no_hosts c other)
+
+pub follows : (here : ℕ) (old mid : Driver) (reply : Reply) → Hears here old mid reply → (new : Driver) → Follows here reply mid new → Passed here old new (came_of reply)
+follows here old mid NoMemory h new f = absurd f
+follows here old mid (JobOpened item) h new (works, e) =
+    let (one, alone, is, its) = waits here old mid (JobOpened item) h in
+    let by : AllBy (here + 1) mid.core = subst (AllByRecursion (λ (j : Job). j.connection ≡ here + 1)) (sym alone) (its, tt) in
+    (answered here old mid (JobOpened item) h new works e refl refl refl by, fewer_answered here old mid (JobOpened item) h new works e refl)
+follows here old mid (Ended end) h new left = (
+  closed here old mid (Ended end) h new left refl refl refl (waits here old mid (Ended end) h),
+  all_left (λ (x : Channel). IsHeardOut x.from.stream) here new (is_left here old mid (Ended end) h new left),
+)
+follows here old mid (NewState state pruned) h new e =
+    let reply = NewState state pruned in
+    subst (λ x. Passed here old x (came_of reply)) (sym e) (plain here old mid reply h refl refl (waits here old mid reply h), fewer_now here old mid reply h refl)
+follows here old mid Overload h new e = absurd (waits here old mid Overload h)
+follows here old mid other h new e =
+    subst (λ x. Passed here old x (came_of other)) (sym e) (plain here old mid other h refl refl (waits here old mid other h), fewer_now here old mid other h refl)
+
+pub hears_so : (here : ℕ) (old mid : Driver) (reply : Reply) → DrivingLaws → IsKept old → old.core.jobs ≡ [] → IsOffered here old → (k l : Channel) → ChannelAt here k l old mid → (taken : Option Input)
+    → Takes taken k l → (input : Input) → taken ≡ Some input → (c : ℕ) → c ≡ here + 1 → Steps old.core (entries.Heard c input) reply mid.core → Hears here old mid reply
+hears_so here old mid reply laws kept none offered k l at taken takes input is c place steps = record {
+  laws = laws;
+  kept = kept;
+  none = none;
+  offered = offered;
+  input = input;
+  k = k;
+  l = l;
+  next = subst (λ o. Takes o k l) is takes;
+  at = at;
+  steps = subst (λ n. Steps old.core (entries.Heard n input) reply mid.core) place steps;
+}
+
+-- by what the call that does so tells
+pub told : (here : ℕ) (old mid new : Driver) (reply : Reply) (result : Result Came OutOfMemory) → Hears here old mid reply → IfOk result (λ came. came ≡ came_of reply)
+    → OnOk result (Follows here reply mid new) → IfOk result (Passed here old new)
+told here old mid new reply (Err lacks) h is f = tt
+told here old mid new reply (Ok came) h is f = subst (Passed here old new) (sym is) (follows here old mid reply h new f)

@@ -1,0 +1,100 @@
+-- One message that is heard: what comes next on a channel, what its reply brings about, and what is known behind both.
+use Rattle.std.specs.Prelude.{◌≡◌, ℕ, ◌<◌, Bool, true, false, [], length, Option, Some, None}
+use Rattle.std.specs.List.{slice_get, slice_set}
+use Rattle.machine_steps.specs.declared.entry.Input.{Input}
+use Rattle.machine_steps.specs.declared.reply.Reply.{Reply}
+use Rattle.machine_steps.specs.declared.reply.Reply.TheVariants.{NoMemory, Ended, NewState, Job as JobOpened}
+use Rattle.machine_steps.specs.Admitting.{IsHeard as CanBeHeard}
+use Rattle.sim_jobs.specs.Works.{Works}
+use Rattle.sim_steps.specs.Deeds.{NextIs}
+use Rattle.sim_steps.specs.Parts.{IsHeardOut}
+use Rattle.sim_channels.specs.Channels.{CarriedOver, IsKept}
+use Rattle.sim_channels.specs.Waiting.{IsHeard, IsOffered, StaysBut}
+use Rattle.sim_channels.specs.declared.channel.Channel.{Channel}
+use Rattle.sim_channels.specs.declared.channel.Stage.TheVariants.{Plugged, Left}
+use Rattle.sim_channels.specs.declared.driver.Driver.{Driver}
+use Rattle.sim_turns.specs.Hearing.{KeepsChannels}
+use Rattle.sim_turns.specs.declared.hear.Came.{Came}
+use Rattle.sim_turns.specs.declared.hear.Came.TheVariants.{NoMore, Message, State}
+
+-- ---- a channel
+
+-- its stream alone goes on
+pub record GoesOn (k l : Channel) : Type 0 where
+  pub stage : l.stage ≡ k.stage
+  pub to : l.to ≡ k.to
+  pub waiting : l.waiting ≡ k.waiting
+
+-- nothing that could be heard came, or the session isn't open
+pub record IsDone (k l : Channel) : Type 0 where
+  pub goes : GoesOn k l
+  pub same : l.from.stream ≡ k.from.stream
+  pub heard : k.stage ≡ Plugged → IsHeardOut k.from.stream
+
+-- this came next, and is taken from the stream
+pub record ComesNext (input : Input) (k l : Channel) : Type 0 where
+  pub goes : GoesOn k l
+  pub plugged : k.stage ≡ Plugged
+  pub next : NextIs input k.from.stream l.from.stream
+  pub can : CanBeHeard input
+
+abbrev pub Takes : Option Input → Channel → Channel → Type 0
+Takes None k l = IsDone k l
+Takes (Some input) k l = ComesNext input k l
+
+-- ---- the driver
+
+-- the channel at a place is left
+pub record IsLeft (here : ℕ) (old new : Driver) : Type 0 where
+  pub channel : Channel
+  pub there : slice_get old.channels.items here ≡ Some channel
+  pub channels : new.channels.items ≡ slice_set old.channels.items here (record channel { stage = Left })
+  pub core : new.core ≡ old.core
+  pub learning : new.learning ≡ old.learning
+  pub budget : new.budget ≡ old.budget
+
+-- what a reply brings about: the packet that it tells of is answered, and a channel whose session ended is left
+abbrev pub Follows : ℕ → Reply → Driver → Driver → Type 0
+Follows here NoMemory old new = ⊥
+Follows here (JobOpened item) old new = Works old.core new.core × (new ≡ record old { core = new.core })
+Follows here (Ended end) old new = IsLeft here old new
+Follows here reply old new = new ≡ old
+
+-- what is told of a message by its reply; behind the end of the session no more is heard
+abbrev pub came_of : Reply → Came
+came_of (NewState state pruned) = State
+came_of (Ended end) = NoMore
+came_of reply = Message
+
+-- ---- messages, one after the other
+
+abbrev pub is_state : Came → Bool
+is_state State = true
+is_state came = false
+
+-- some messages from a place were heard; unless a state may have been made all other places are as they were
+pub record HasHeard (here : ℕ) (made : Bool) (old new : Driver) : Type 0 where
+  pub kept : IsKept new
+  pub carried : CarriedOver old new
+  pub jobs : new.core.jobs ≡ []
+  pub offered : IsOffered here new
+  pub channels : KeepsChannels here old new
+  pub others : made ≡ false → old.learning ≡ false → StaysBut here old new
+  pub learning : new.learning ≡ old.learning
+
+-- how many bytes are to be heard from a place yet
+abbrev pub rest_in : Option Channel → ℕ
+rest_in None = 0
+rest_in (Some k) = length k.from.stream.rest
+
+abbrev pub rest_at : ℕ → Driver → ℕ
+rest_at here driver = rest_in (slice_get driver.channels.items here)
+
+-- by what came: no more is to be heard, or fewer bytes than before
+abbrev pub HearsBy : Came → ℕ → Driver → Driver → Type 0
+HearsBy NoMore here old new = IsHeard here new
+HearsBy came here old new = rest_at here new < rest_at here old
+
+-- what is known behind one message
+abbrev pub Passed : ℕ → Driver → Driver → Came → Type 0
+Passed here old new came = HasHeard here (is_state came) old new × HearsBy came here old new

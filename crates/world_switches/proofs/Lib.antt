@@ -1,3 +1,0 @@
-mod Clearings
-mod Stages
-mod Steps

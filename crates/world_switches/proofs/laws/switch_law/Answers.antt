@@ -1,5 +1,0 @@
-use Rattle.world_switches.proofs.Stages.{keeps_stages}
-use Rattle.world_switches.proofs.laws.switch_law.Goals as goal
-
-pub returns : goal.returns
-returns c = keeps_stages (record { keeps = c.step_laws.ensures.keeps; clear = c.step_laws.ensures.clear; flies = c.step_laws.ensures.flies })

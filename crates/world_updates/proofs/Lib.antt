@@ -1,6 +1,0 @@
-mod Aims
-mod Batches
-mod Leaving
-mod Moved
-mod Onward
-mod Signals
