@@ -1,4 +1,4 @@
--- What a turn stands on: what other crates prove.
+-- What a turn stands on: the laws of the machine's turns, of what is in flight, and of what follows.
 use Rattle.machine_moves.specs.MoveLaws.{SessionsMove, OpenIsKept, StatesGrow}
 use Rattle.world_stages.specs.FlightLaws.{HearingKeeps, OthersAreHeard, ClearIsSilent, OthersAreSent, AllAreTakenOut, FlightsAgree}
 use Rattle.world_stages.specs.Updates.{RepliesLeadOn, SignalsAreKnown, AimsAreKept, AcceptedAreCleared}
