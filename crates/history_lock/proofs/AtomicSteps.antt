@@ -10,8 +10,8 @@ use Rattle.atomic_table.specs.Table.{State, Me, Act, Valid, homes_after, carried
 use Rattle.atomic_table.proofs.Lists.{set_else, set_again}
 use Rattle.history_lock.specs.declared.view.Event.{Event}
 use Rattle.history_lock.specs.declared.view.Slot.{Slot}
-use Rattle.history_lock.specs.declared.view.Stage.{Stage}
-use Rattle.history_lock.specs.declared.view.Stage.TheVariants.{Idle, Looked, Waits, Turn, Recorded}
+use Rattle.history_lock.specs.declared.view.Standing.{Standing}
+use Rattle.history_lock.specs.declared.view.Standing.TheVariants.{Idle, Looked, Waits, Turn, Recorded}
 use Rattle.history_lock.specs.declared.view.View.{View}
 use Rattle.history_lock.specs.Histories.{times, once_below, event, Replays}
 use Rattle.history_lock.specs.Rule.{total, waiting, pending, HasTicket, HasTurn, InStep, look_stage, staged, reads, records, IsHome, Kept, Looks, Draws, Turns, Writes, Hands, Compares, Answered, calls_of, machines_of}
@@ -44,7 +44,7 @@ module _ {M E R : Type 0} (steps : M → E → R → M → Type 0) where
 
   -- the length is read
   look_moves : (opening : M) (s : State S V) (k : Kept steps opening s) (id : ℕ) (v : V) → get_elem? s.views id ≡ some v → v.stage ≡ Idle → 0 < v.known.parts
-      → (r : ℕ) → r ≡ length k.log → (words : List ℕ) → words ≡ s.words → (stage : Stage M) → waiting stage ≡ 0 → (HasTurn stage → ⊥) → ((t : ℕ) → HasTicket stage t → ⊥) → InStep k.machine k.turn k.next stage
+      → (r : ℕ) → r ≡ length k.log → (words : List ℕ) → words ≡ s.words → (stage : Standing M) → waiting stage ≡ 0 → (HasTurn stage → ⊥) → ((t : ℕ) → HasTicket stage t → ⊥) → InStep k.machine k.turn k.next stage
       → ((m n : ℕ) → n ≡ m + pending stage → r + m ≤ 2 ^ 62 + 1024 → n ≤ 1024 → r + n ≤ 2 ^ 62 + 1024)
       → Moves steps opening s k id v (record v { known = record (v.known) { number = r }; stage = stage }) k.log k.machine k.next k.turn k.home words s.homes
   look_moves opening s k id v at idle some_part r is words are stage waits turn ticket in_step small =
@@ -106,7 +106,7 @@ module _ {M E R : Type 0} (steps : M → E → R → M → Type 0) where
         are = are;
         slots = k.slots;
         replays = k.replays;
-        is_home = home_stays k.machine s.views k.home id v _ at (λ h. let P : Stage M → Type 0 = HasTurn in absurd (subst P looked h)) k.is_home;
+        is_home = home_stays k.machine s.views k.home id v _ at (λ h. let P : Standing M → Type 0 = HasTurn in absurd (subst P looked h)) k.is_home;
         knows = k.knows id v at;
         stands = record { in_step = (omega arith, omega arith); out = λ h. absurd h; spent = λ z. absurd (pends_idle v.stage one_pends ((k.stands id v at).spent z)) };
         others_know = λ known told f. f;
@@ -148,7 +148,7 @@ module _ {M E R : Type 0} (steps : M → E → R → M → Type 0) where
       → Moves steps opening s k id v (staged v (Turn t k.machine)) k.log k.machine k.next k.turn none words homes
   take_moves opening s k id v at t waits now words are homes out =
       let there = k.stands id v at in
-      let has : HasTicket v.stage k.turn = (let P : Stage M → Type 0 = λ x. HasTicket x k.turn in subst P (sym waits) now) in
+      let has : HasTicket v.stage k.turn = (let P : Standing M → Type 0 = λ x. HasTicket x k.turn in subst P (sym waits) now) in
       let one_waits : waiting v.stage ≡ 1 = ap waiting waits in
       let one_pends : pending v.stage ≡ 1 = ap pending waits in
       let low = ticket_below k.machine k.turn k.next k.turn v.stage there.in_step has in
@@ -192,13 +192,13 @@ module _ {M E R : Type 0} (steps : M → E → R → M → Type 0) where
             has = has;
             mine = (let P : ℕ → Type 0 = λ x. Path (V × Held) (w, (0, slot) ∷ []) (staged v (Turn x k.machine), (0, slot) ∷ []) in subst P now refl);
           }),
-          (λ ne. absurd (ne (let P : Stage M → Type 0 = λ x. HasTicket x r in subst P (sym waits) now))),
+          (λ ne. absurd (ne (let P : Standing M → Type 0 = λ x. HasTicket x r in subst P (sym waits) now))),
         ),
       )
   takes_home opening s k count id v at some_part t waits r is words are now (inr (gone, port, u, there, turn)) =
-      let has : HasTicket v.stage k.turn = (let P : Stage M → Type 0 = λ x. HasTicket x k.turn in subst P (sym waits) (now ∙ is)) in
+      let has : HasTicket v.stage k.turn = (let P : Standing M → Type 0 = λ x. HasTicket x k.turn in subst P (sym waits) (now ∙ is)) in
       absurd (dite (ℕ_discrete port id)
-      (λ e. (let P : Stage M → Type 0 = HasTurn in subst P waits (let Q : V → Type 0 = λ x. HasTurn x.stage in subst Q (same_at s.views id port u v e there at) turn)))
+      (λ e. (let P : Standing M → Type 0 = HasTurn in subst P waits (let Q : V → Type 0 = λ x. HasTurn x.stage in subst Q (same_at s.views id port u v e there at) turn)))
       (λ ne. others_free opening s k id v at has port u ne there turn))
 
   takes_turn : (opening : M) (count id : ℕ) (v : V) (t : ℕ) → v.stage ≡ Waits t → 0 < v.known.parts → Allows (Kept steps opening) count id (v, []) 2 (λ n. n) (Turns steps (step count 2 0 0 none) (v, []))
@@ -206,7 +206,7 @@ module _ {M E R : Type 0} (steps : M → E → R → M → Type 0) where
       let r : ℕ = slice_index s.words 2 in
       dite (ℕ_discrete t r)
       (λ e. takes_home opening s k count id v at some_part t waits r (ap (λ ws. slice_index ws 2) k.words) _ (set-get_or s.words 2 0) e k.is_home)
-      (λ ne. (v, keeps, tt, kept_again opening s k id v at _ (set-get_or s.words 2 0), ((λ h. absurd (ne (let P : Stage M → Type 0 = λ x. HasTicket x r in subst P waits h))), λ h. refl)))
+      (λ ne. (v, keeps, tt, kept_again opening s k id v at _ (set-get_or s.words 2 0), ((λ h. absurd (ne (let P : Standing M → Type 0 = λ x. HasTicket x r in subst P waits h))), λ h. refl)))
 
   pub takes_me : (opening : M) (count id : ℕ) (me : Me S V) (t : ℕ) → me.1 ≡ [] → me.0.stage ≡ Waits t → 0 < me.0.known.parts → Allows (Kept steps opening) count id me 2 (λ n. n) (Turns steps (step count 2 0 0 none) me)
   takes_me opening count id (v, c) t none_held waits some_part =
@@ -224,10 +224,10 @@ module _ {M E R : Type 0} (steps : M → E → R → M → Type 0) where
   write_moves opening s k id v at t m m' call turn legal words are =
       let mine = k.knows id v at in
       let there = k.stands id v at in
-      let stands : (t ≡ k.turn) × (t < k.next) × (m ≡ k.machine) = (let P : Stage M → Type 0 = InStep k.machine k.turn k.next in subst P turn there.in_step) in
+      let stands : (t ≡ k.turn) × (t < k.next) × (m ≡ k.machine) = (let P : Standing M → Type 0 = InStep k.machine k.turn k.next in subst P turn there.in_step) in
       let now : t ≡ k.turn = stands.0 in
-      let has : HasTicket v.stage k.turn = (let P : Stage M → Type 0 = λ x. HasTicket x k.turn in subst P (sym turn) now) in
-      let have : HasTurn v.stage = (let P : Stage M → Type 0 = HasTurn in subst P (sym turn) tt) in
+      let has : HasTicket v.stage k.turn = (let P : Standing M → Type 0 = λ x. HasTicket x k.turn in subst P (sym turn) now) in
+      let have : HasTurn v.stage = (let P : Standing M → Type 0 = HasTurn in subst P (sym turn) tt) in
       let one_waits : waiting v.stage ≡ 1 = ap waiting turn in
       let one_pends : pending v.stage ≡ 1 = ap pending turn in
       let busy : v.known.parts ≡ 0 → ⊥ = (λ z. pends_idle v.stage one_pends (there.spent z)) in
@@ -276,7 +276,7 @@ module _ {M E R : Type 0} (steps : M → E → R → M → Type 0) where
       let wraps : (r + 1) % 2 ^ 64 ≡ length k.log + 1 = ap (λ n. (n + 1) % 2 ^ 64) is ∙ mod-eq_of_lt small in
       let mine = k.knows id v at in
       let w : V = records v k.log call (Recorded t m') in
-      let stands : (t ≡ k.turn) × (t < k.next) × (m ≡ k.machine) = (let P : Stage M → Type 0 = InStep k.machine k.turn k.next in subst P turn (k.stands id v at).in_step) in
+      let stands : (t ≡ k.turn) × (t < k.next) × (m ≡ k.machine) = (let P : Standing M → Type 0 = InStep k.machine k.turn k.next in subst P turn (k.stands id v at).in_step) in
       let legal = replays_more opening k.log k.machine call m' k.replays (let P : M → Type 0 = λ x. steps x call.entry call.reply m' in subst P stands.2 steps') in (
         w,
         keeps,
@@ -290,7 +290,7 @@ module _ {M E R : Type 0} (steps : M → E → R → M → Type 0) where
           call = call;
           ticket = t;
           machine = m';
-          has_ticket = (let P : Stage M → Type 0 = λ x. HasTicket x t in subst P (sym turn) refl);
+          has_ticket = (let P : Standing M → Type 0 = λ x. HasTicket x t in subst P (sym turn) refl);
           is_call = is_call;
           is_machine = is_machine;
           later = mine.prefix;
@@ -309,10 +309,10 @@ module _ {M E R : Type 0} (steps : M → E → R → M → Type 0) where
       → slot.machine ≡ Some m → (words : List ℕ) → words ≡ length k.log ∷ k.next ∷ (t + 1) ∷ [] → (homes : List (Maybe S)) → homes ≡ some slot ∷ []
       → Moves steps opening s k id v (staged v Idle) k.log k.machine k.next (k.turn + 1) (some slot) words homes
   hand_moves opening s k id v at t m slot done holds words are homes back =
-      let stands : (t ≡ k.turn) × (t < k.next) × (m ≡ k.machine) = (let P : Stage M → Type 0 = InStep k.machine k.turn k.next in subst P done (k.stands id v at).in_step) in
+      let stands : (t ≡ k.turn) × (t < k.next) × (m ≡ k.machine) = (let P : Standing M → Type 0 = InStep k.machine k.turn k.next in subst P done (k.stands id v at).in_step) in
       let now : t ≡ k.turn = stands.0 in
       let below : t < k.next = stands.1 in
-      let has : HasTicket v.stage k.turn = (let P : Stage M → Type 0 = λ x. HasTicket x k.turn in subst P (sym done) now) in
+      let has : HasTicket v.stage k.turn = (let P : Standing M → Type 0 = λ x. HasTicket x k.turn in subst P (sym done) now) in
       let no_waits : waiting v.stage ≡ 0 = ap waiting done in
       let no_pends : pending v.stage ≡ 0 = ap pending done in
       let alone = others_free opening s k id v at has in

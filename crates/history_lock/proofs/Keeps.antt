@@ -8,8 +8,8 @@ use Rattle.atomic_table.proofs.Lists.{at_set}
 use Rattle.history_lock.specs.declared.view.Event.{Event}
 use Rattle.history_lock.specs.declared.view.Known.{Known}
 use Rattle.history_lock.specs.declared.view.Slot.{Slot}
-use Rattle.history_lock.specs.declared.view.Stage.{Stage}
-use Rattle.history_lock.specs.declared.view.Stage.TheVariants.{Idle, Looked, Waits, Turn, Recorded}
+use Rattle.history_lock.specs.declared.view.Standing.{Standing}
+use Rattle.history_lock.specs.declared.view.Standing.TheVariants.{Idle, Looked, Waits, Turn, Recorded}
 use Rattle.history_lock.specs.declared.view.View.{View}
 use Rattle.history_lock.specs.Histories.{times, once_below, Replays}
 use Rattle.history_lock.specs.Rule.{total, waiting, pending, HasTicket, opened, Knows, Stands, IsHome, Kept}
@@ -20,7 +20,7 @@ only_view v u zero e = (refl, some-injective v u e)
 only_view v u (suc j) e = absurd (some-ne-none u (sym e))
 
 module _ {M : Type 0} where
-  pending_one : (stage : Stage M) → pending stage ≤ 1
+  pending_one : (stage : Standing M) → pending stage ≤ 1
   pending_one Idle = omega arith
   pending_one Looked = omega arith
   pending_one (Waits t) = omega arith
@@ -28,7 +28,7 @@ module _ {M : Type 0} where
   pending_one (Recorded t m) = omega arith
 
   -- a pass without a part does nothing
-  pub pending_parts : (parts : ℕ) (stage : Stage M) → (parts ≡ 0 → stage ≡ Idle) → pending stage ≤ parts
+  pub pending_parts : (parts : ℕ) (stage : Standing M) → (parts ≡ 0 → stage ≡ Idle) → pending stage ≤ parts
   pending_parts zero stage idle = let e : pending stage ≡ 0 = ap pending (idle refl) in omega arith
   pending_parts (suc n) stage idle = let e = pending_one stage in omega arith
 

@@ -9,7 +9,7 @@ use Rattle.atomic_table.specs.Table.{State, Splits, Joins, Final, Seen}
 use Rattle.atomic_table.proofs.Lists.{set_else, at_snoc}
 use Rattle.history_lock.specs.declared.view.Event.{Event}
 use Rattle.history_lock.specs.declared.view.Slot.{Slot}
-use Rattle.history_lock.specs.declared.view.Stage.TheVariants.{Idle}
+use Rattle.history_lock.specs.declared.view.Standing.TheVariants.{Idle}
 use Rattle.history_lock.specs.declared.view.View.{View}
 use Rattle.history_lock.specs.Histories.{times, once_below, AreAllPositions, LeadsTo, Replays}
 use Rattle.history_lock.specs.Rule.{total, waiting, pending, HasTicket, HasTurn, less, share, joined, no_view, Knows, Stands, IsHome, Kept}

@@ -8,8 +8,8 @@ use Rattle.std.specs.declared.snapshot.Snapshot.{Snapshot}
 use Rattle.history_lock.specs.declared.view.Event.{Event}
 use Rattle.history_lock.specs.declared.view.Known.{Known}
 use Rattle.history_lock.specs.declared.view.Slot.{Slot}
-use Rattle.history_lock.specs.declared.view.Stage.{Stage}
-use Rattle.history_lock.specs.declared.view.Stage.TheVariants.{Idle, Looked, Waits, Turn, Recorded}
+use Rattle.history_lock.specs.declared.view.Standing.{Standing}
+use Rattle.history_lock.specs.declared.view.Standing.TheVariants.{Idle, Looked, Waits, Turn, Recorded}
 use Rattle.history_lock.specs.declared.view.View.{View}
 use Rattle.history_lock.specs.Histories.{StartsWith, longer, times, once_below, ArePositions, event, Replays, IsLegal}
 
@@ -23,7 +23,7 @@ shorter a b = if nat_lt (length a) (length b) then a else b
 
 module _ {M : Type 0} where
   -- whether a pass has a ticket that isn't used up
-  abbrev pub waiting : Stage M → ℕ
+  abbrev pub waiting : Standing M → ℕ
   waiting Idle = 0
   waiting Looked = 0
   waiting (Waits t) = 1
@@ -31,21 +31,21 @@ module _ {M : Type 0} where
   waiting (Recorded t m) = 0
 
   -- whether a pass will yet record an entry
-  abbrev pub pending : Stage M → ℕ
+  abbrev pub pending : Standing M → ℕ
   pending Idle = 0
   pending Looked = 1
   pending (Waits t) = 1
   pending (Turn t m) = 1
   pending (Recorded t m) = 0
 
-  abbrev pub HasTicket : Stage M → ℕ → Type 0
+  abbrev pub HasTicket : Standing M → ℕ → Type 0
   HasTicket Idle t = ⊥
   HasTicket Looked t = ⊥
   HasTicket (Waits u) t = u ≡ t
   HasTicket (Turn u m) t = u ≡ t
   HasTicket (Recorded u m) t = u ≡ t
 
-  abbrev pub HasTurn : Stage M → Type 0
+  abbrev pub HasTurn : Standing M → Type 0
   HasTurn Idle = ⊥
   HasTurn Looked = ⊥
   HasTurn (Waits u) = ⊥
@@ -53,14 +53,14 @@ module _ {M : Type 0} where
   HasTurn (Recorded u m) = Unit {0}
 
   -- how the stage stands to the machine and the words
-  abbrev pub InStep : M → ℕ → ℕ → Stage M → Type 0
+  abbrev pub InStep : M → ℕ → ℕ → Standing M → Type 0
   InStep m turn next Idle = Unit {0}
   InStep m turn next Looked = Unit {0}
   InStep m turn next (Waits t) = (turn ≤ t) × (t < next)
   InStep m turn next (Turn t n) = (t ≡ turn) × (t < next) × (n ≡ m)
   InStep m turn next (Recorded t n) = (t ≡ turn) × (t < next) × (n ≡ m)
 
-  abbrev pub look_stage : Bool → Stage M
+  abbrev pub look_stage : Bool → Standing M
   look_stage b = if b then Looked else Idle
 
 module _ {E R : Type 0} where
@@ -74,13 +74,13 @@ module _ {M E R : Type 0} where
   abbrev pub opened : M → View M E R
   opened m = record { known = record { opening = Some m; seen = []; own = []; number = 0; parts = 1024 }; told = []; stage = Idle }
 
-  abbrev pub staged : View M E R → Stage M → View M E R
+  abbrev pub staged : View M E R → Standing M → View M E R
   staged v stage = record v { stage = stage }
 
   abbrev pub reads : View M E R → ℕ → View M E R
   reads v n = record v { known = record (v.known) { number = n }; stage = look_stage (nat_lt n (2 ^ 62)) }
 
-  abbrev pub records : View M E R → List (Event E R) → Event E R → Stage M → View M E R
+  abbrev pub records : View M E R → List (Event E R) → Event E R → Standing M → View M E R
   records v log e stage = record v { known = record (v.known) { seen = log ++ e ∷ []; own = v.known.own ++ length log ∷ [] }; stage = stage }
 
   -- a view cut in two
@@ -129,7 +129,7 @@ module _ {M E R : Type 0} where
     pub spent : known.parts ≡ 0 → known.own ≡ []
 
   -- where a pass is in its call goes with the machine, the words and the slot
-  pub record Stands (machine : M) (turn next : ℕ) (home : Maybe (Slot M E R)) (parts : ℕ) (stage : Stage M) : Type 0 where
+  pub record Stands (machine : M) (turn next : ℕ) (home : Maybe (Slot M E R)) (parts : ℕ) (stage : Standing M) : Type 0 where
     pub in_step : InStep machine turn next stage
     pub out : HasTurn stage → home ≡ none
     pub spent : parts ≡ 0 → stage ≡ Idle

@@ -1,7 +1,7 @@
 //! The steps of a call, over a bare seat.
 ghost use Rattle.std.specs.Prelude.{◌≡◌, ◌<◌, ◌≤◌, ◌+◌, ◌^◌, None, ℕ, IfOk, IfErr, IsSome, Some, [], ◌∷◌};
 ghost use Rattle.history_lock.specs.declared.view.Slot.{Slot};
-ghost use Rattle.history_lock.specs.declared.view.Stage.TheVariants.{Idle, Looked, Waits, Turn, Recorded};
+ghost use Rattle.history_lock.specs.declared.view.Standing.TheVariants.{Idle, Looked, Waits, Turn, Recorded};
 ghost use Rattle.history_lock.specs.Histories.{Calls, IsAdmitted, StartsWith};
 ghost use Rattle.history_lock.specs.Rule.{Acts, Adds, Answered, HasRecorded, Holds, IsFree, IsKept, Takes, joined, less, reads, share, staged};
 

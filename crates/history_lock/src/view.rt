@@ -18,7 +18,7 @@ pub struct Known<M, E, R> {
 }
 
 /// Where a pass is in a call, with its ticket, and with the machine that it has to put back.
-pub enum Stage<M> {
+pub enum Standing<M> {
     Idle,
     Looked,
     Waits(u64),
@@ -31,7 +31,7 @@ pub enum Stage<M> {
 pub struct View<M, E, R> {
     pub known: Known<M, E, R>,
     pub told: LinkedList<Event<E, R>>,
-    pub stage: Stage<M>,
+    pub stage: Standing<M>,
 }
 
 /// The place of the machine, with the call that it just answered.

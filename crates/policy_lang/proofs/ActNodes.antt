@@ -4,8 +4,8 @@ use Rattle.std.specs.Prelude.{Option, Some, None, Result, Ok, Err}
 use Rattle.std.proofs.lemmas.List.{append-nil}
 use Rattle.policy_lang.specs.declared.Statement.{Statement}
 use Rattle.policy_lang.specs.declared.nodes.Node.{Node}
-use Rattle.policy_lang.specs.declared.nodes.Stop.{Stop}
-use Rattle.policy_lang.specs.declared.nodes.Stop.TheVariants as stop
+use Rattle.policy_lang.specs.declared.nodes.WalkStop.{WalkStop}
+use Rattle.policy_lang.specs.declared.nodes.WalkStop.TheVariants as stop
 use Rattle.policy_lang.specs.Tree.{Term, Ask, Binds, Holds, Act, Acts, Drop, Flood, Out, Route, Let, Assign, If, IfElse, While, Done, Then}
 use Rattle.policy_lang.specs.TreeOf.{act_of, acts_of, if_or_else}
 use Rattle.policy_lang.specs.Nodes.{length_of, node, nodes_from, lengths_of, terms_nodes, ask_length, ask_nodes, act_length, act_nodes, acts_length, acts_nodes, limit_of, AreFree, IsStopOf}
@@ -67,13 +67,13 @@ inside_leads (IfElse q b c) i d =
     (acts_nodes b (i + 1 + ask_length q + 1) (d + 1) ++ acts_nodes c (i + 1 + ask_length q + 1 + acts_length b + 3) (d + 1)) (ask_begins q (i + 1) (d + 1))
 inside_leads (While e b) i d = leads_first (i + 1) (i + act_length (While e b)) (nodes_from (i + 1) e (d + 1)) (acts_nodes b (i + 1 + length_of e + 1) (d + 1)) (term_begins e (i + 1) (i + 1) (d + 1))
 
-pub begun_stops : (old : List Node) (t : Act) (i d : ℕ) (new : List Node) (s : Stop) → Begun old (node i i (i + 1) d) (node i i (i + 1) d ∷ []) (i + 1) new (Err s)
+pub begun_stops : (old : List Node) (t : Act) (i d : ℕ) (new : List Node) (s : WalkStop) → Begun old (node i i (i + 1) d) (node i i (i + 1) d ∷ []) (i + 1) new (Err s)
     → Walked old (act_nodes t i d) (i + act_length t) new (Err s)
 begun_stops old t i d new s b =
     subst (λ xs. Walked old xs (i + act_length t) new (Err s)) (sym (act_first t i d)) (own_stops old (node i i (i + 1) d) (drop 1 (act_nodes t i d)) (i + 1) (i + act_length t) new s (inside_leads t i d) b)
 
 -- what stands inside is walked over, and so the statement
-whole : (old mid new : List Node) (t s : Act) (i d k : ℕ) (r : Result ℕ Stop) → s ≡ t → mid ≡ old ++ node i i (i + 1) d ∷ [] → k ≡ i + act_length s → Walked mid (drop 1 (act_nodes s i d)) k new r
+whole : (old mid new : List Node) (t s : Act) (i d k : ℕ) (r : Result ℕ WalkStop) → s ≡ t → mid ≡ old ++ node i i (i + 1) d ∷ [] → k ≡ i + act_length s → Walked mid (drop 1 (act_nodes s i d)) k new r
     → Walked old (act_nodes t i d) (i + act_length t) new r
 whole old mid new t s i d k r h m e w =
     subst (λ t. Walked old (act_nodes t i d) (i + act_length t) new r) h (first_walked old mid new (node i i (i + 1) d) (act_nodes s i d) (drop 1 (act_nodes s i d)) k (i + act_length s) r (act_first s i d) m e w)
@@ -84,19 +84,19 @@ drop_walked old mid t i d h m f = whole old mid mid t Drop i d (i + 2) (Ok (i + 
 pub flood_walked : (old mid : List Node) (t : Act) (i d : ℕ) → Flood ≡ t → mid ≡ old ++ node i i (i + 1) d ∷ [] → AreFree mid → Walked old (act_nodes t i d) (i + act_length t) mid (Ok (i + 2))
 flood_walked old mid t i d h m f = whole old mid mid t Flood i d (i + 2) (Ok (i + 2)) h m refl (sym (append-nil mid), refl, f)
 
-pub out_walked : (old mid new : List Node) (t : Act) (es : List Term) (i d : ℕ) (r : Result ℕ Stop) → Out es ≡ t → mid ≡ old ++ node i i (i + 1) d ∷ []
+pub out_walked : (old mid new : List Node) (t : Act) (es : List Term) (i d : ℕ) (r : Result ℕ WalkStop) → Out es ≡ t → mid ≡ old ++ node i i (i + 1) d ∷ []
     → Walked mid (terms_nodes es (i + 1) (d + 1)) (i + 1 + lengths_of es) new r → Walked old (act_nodes t i d) (i + act_length t) new r
 out_walked old mid new t es i d r h m w = whole old mid new t (Out es) i d (i + 1 + lengths_of es) r h m (omega arith) w
 
-pub route_walked : (old mid new : List Node) (t : Act) (e : Term) (i d : ℕ) (r : Result ℕ Stop) → Route e ≡ t → mid ≡ old ++ node i i (i + 1) d ∷ []
+pub route_walked : (old mid new : List Node) (t : Act) (e : Term) (i d : ℕ) (r : Result ℕ WalkStop) → Route e ≡ t → mid ≡ old ++ node i i (i + 1) d ∷ []
     → Walked mid (nodes_from (i + 1) e (d + 1)) (i + 1 + length_of e + 1) new r → Walked old (act_nodes t i d) (i + act_length t) new r
 route_walked old mid new t e i d r h m w = whole old mid new t (Route e) i d (i + 1 + length_of e + 1) r h m (omega arith) w
 
-pub let_walked : (old mid new : List Node) (t : Act) (x : List ℕ) (e : Term) (i d : ℕ) (r : Result ℕ Stop) → Let x e ≡ t → mid ≡ old ++ node i i (i + 1) d ∷ []
+pub let_walked : (old mid new : List Node) (t : Act) (x : List ℕ) (e : Term) (i d : ℕ) (r : Result ℕ WalkStop) → Let x e ≡ t → mid ≡ old ++ node i i (i + 1) d ∷ []
     → Walked mid (nodes_from (i + 3) e (d + 1)) (i + 3 + length_of e + 1) new r → Walked old (act_nodes t i d) (i + act_length t) new r
 let_walked old mid new t x e i d r h m w = whole old mid new t (Let x e) i d (i + 3 + length_of e + 1) r h m (omega arith) w
 
-pub assign_walked : (old mid new : List Node) (t : Act) (x : List ℕ) (e : Term) (i d : ℕ) (r : Result ℕ Stop) → Assign x e ≡ t → mid ≡ old ++ node i i (i + 1) d ∷ []
+pub assign_walked : (old mid new : List Node) (t : Act) (x : List ℕ) (e : Term) (i d : ℕ) (r : Result ℕ WalkStop) → Assign x e ≡ t → mid ≡ old ++ node i i (i + 1) d ∷ []
     → Walked mid (nodes_from (i + 2) e (d + 1)) (i + 2 + length_of e + 1) new r → Walked old (act_nodes t i d) (i + act_length t) new r
 assign_walked old mid new t x e i d r h m w = whole old mid new t (Assign x e) i d (i + 2 + length_of e + 1) r h m (omega arith) w
 
@@ -108,18 +108,18 @@ if_whole : (q : Ask) (b : Acts) (o : Option Acts) (i : ℕ) → i + 1 + if_lengt
 if_whole q b None i = omega arith
 if_whole q b (Some c) i = omega arith
 
-pub if_walked : (old mid new : List Node) (t : Act) (q : Ask) (b : Acts) (o : Option Acts) (i d : ℕ) (r : Result ℕ Stop) → if_or_else q b o ≡ t → mid ≡ old ++ node i i (i + 1) d ∷ []
+pub if_walked : (old mid new : List Node) (t : Act) (q : Ask) (b : Acts) (o : Option Acts) (i d : ℕ) (r : Result ℕ WalkStop) → if_or_else q b o ≡ t → mid ≡ old ++ node i i (i + 1) d ∷ []
     → Walked mid (if_nodes q b o (i + 1) (d + 1)) (i + 1 + if_length q b o) new r → Walked old (act_nodes t i d) (i + act_length t) new r
 if_walked old mid new t q b o i d r h m w =
     whole old mid new t (if_or_else q b o) i d (i + 1 + if_length q b o) r h m (if_whole q b o i) (subst (λ xs. Walked mid xs (i + 1 + if_length q b o) new r) (if_inside q b o i d) w)
 
-pub while_walked : (old mid new : List Node) (t : Act) (e : Term) (b : Acts) (i d : ℕ) (r : Result ℕ Stop) → While e b ≡ t → mid ≡ old ++ node i i (i + 1) d ∷ []
+pub while_walked : (old mid new : List Node) (t : Act) (e : Term) (b : Acts) (i d : ℕ) (r : Result ℕ WalkStop) → While e b ≡ t → mid ≡ old ++ node i i (i + 1) d ∷ []
     → Walked mid (while_nodes e b (i + 1) (d + 1)) (i + 1 + while_length e b) new r → Walked old (act_nodes t i d) (i + act_length t) new r
 while_walked old mid new t e b i d r h m w = whole old mid new t (While e b) i d (i + 1 + while_length e b) r h m (omega arith) w
 
 -- ---- blocks of statements
 
-pub if_head_stops : (old new : List Node) (q : Ask) (b : Acts) (o : Option Acts) (i d : ℕ) (s : Stop) → Walked old (ask_nodes q i d) (i + ask_length q) new (Err s)
+pub if_head_stops : (old new : List Node) (q : Ask) (b : Acts) (o : Option Acts) (i d : ℕ) (s : WalkStop) → Walked old (ask_nodes q i d) (i + ask_length q) new (Err s)
     → Walked old (if_nodes q b o i d) (i + if_length q b o) new (Err s)
 if_head_stops old new q b o i d s w =
     let j : ℕ = i + ask_length q + 1 in
@@ -128,7 +128,7 @@ if_head_stops old new q b o i d s w =
     (leads_two j j (i + if_length q b o) (j + acts_length b) (acts_nodes b j d) (other_nodes o (j + acts_length b) d)
     (acts_lead b j (j + acts_length b) d (omega arith)) (other_leads o (j + acts_length b) (i + if_length q b o) d (omega arith)) rest h)) w
 
-pub if_block_stops : (old mid new : List Node) (q : Ask) (b c : Acts) (o : Option Acts) (i d brace : ℕ) (s : Stop) → Walked old (ask_nodes q i d) (i + ask_length q) mid (Ok brace) → c ≡ b
+pub if_block_stops : (old mid new : List Node) (q : Ask) (b c : Acts) (o : Option Acts) (i d brace : ℕ) (s : WalkStop) → Walked old (ask_nodes q i d) (i + ask_length q) mid (Ok brace) → c ≡ b
     → Walked mid (acts_nodes c (brace + 1) d) (brace + 1 + acts_length c) new (Err s) → Walked old (if_nodes q b o i d) (i + if_length q b o) new (Err s)
 if_block_stops old mid new q b c o i d brace s v e w =
     let f : ℕ → List Node = λ n. acts_nodes c (n + 1) d ++ other_nodes o (n + 1 + acts_length c) d in
@@ -138,7 +138,7 @@ if_block_stops old mid new q b c o i d brace s v e w =
     (walked_past old (ask_nodes q i d) mid new f (λ n. n + 1 + acts_length c + other_length o) (i + ask_length q) brace (Err s) v
     (walked_off mid (acts_nodes c (brace + 1) d) (other_nodes o k d) new k (k + other_length o) s (other_leads o k (k + other_length o) d (omega arith)) w)))
 
-pub if_parts : (old mid far new : List Node) (q : Ask) (b c : Acts) (o : Option Acts) (i d brace close : ℕ) (r : Result ℕ Stop) → Walked old (ask_nodes q i d) (i + ask_length q) mid (Ok brace) → c ≡ b
+pub if_parts : (old mid far new : List Node) (q : Ask) (b c : Acts) (o : Option Acts) (i d brace close : ℕ) (r : Result ℕ WalkStop) → Walked old (ask_nodes q i d) (i + ask_length q) mid (Ok brace) → c ≡ b
     → Walked mid (acts_nodes c (brace + 1) d) (brace + 1 + acts_length c) far (Ok close) → Walked far (other_nodes o close d) (close + other_length o) new r
     → Walked old (if_nodes q b o i d) (i + if_length q b o) new r
 if_parts old mid far new q b c o i d brace close r v e w x =
@@ -148,12 +148,12 @@ if_parts old mid far new q b c o i d brace close r v e w x =
     (walked_past old (ask_nodes q i d) mid new f (λ n. n + 1 + acts_length c + other_length o) (i + ask_length q) brace r v
     (walked_past mid (acts_nodes c (brace + 1) d) far new (λ n. other_nodes o n d) (λ n. n + other_length o) (brace + 1 + acts_length c) close r w x)))
 
-pub while_head_stops : (old new : List Node) (e : Term) (b : Acts) (i d : ℕ) (s : Stop) → Walked old (nodes_from i e d) (i + length_of e + 1) new (Err s) → Walked old (while_nodes e b i d) (i + while_length e b) new (Err s)
+pub while_head_stops : (old new : List Node) (e : Term) (b : Acts) (i d : ℕ) (s : WalkStop) → Walked old (nodes_from i e d) (i + length_of e + 1) new (Err s) → Walked old (while_nodes e b i d) (i + while_length e b) new (Err s)
 while_head_stops old new e b i d s w =
     let j : ℕ = i + length_of e + 1 in
     walked_off old (nodes_from i e d) (acts_nodes b j d) new j (i + while_length e b) s (acts_lead b j (i + while_length e b) d (omega arith)) w
 
-pub while_block_stops : (old mid new : List Node) (e : Term) (b c : Acts) (i d body : ℕ) (s : Stop) → Walked old (nodes_from i e d) (i + length_of e + 1) mid (Ok body) → c ≡ b
+pub while_block_stops : (old mid new : List Node) (e : Term) (b c : Acts) (i d body : ℕ) (s : WalkStop) → Walked old (nodes_from i e d) (i + length_of e + 1) mid (Ok body) → c ≡ b
     → Walked mid (acts_nodes c body d) (body + acts_length c) new (Err s) → Walked old (while_nodes e b i d) (i + while_length e b) new (Err s)
 while_block_stops old mid new e b c i d body s v q w =
     subst (λ b. Walked old (while_nodes e b i d) (i + while_length e b) new (Err s)) q
@@ -170,7 +170,7 @@ while_parts old mid new e b c i d body close v q w =
 pub other_none : (old : List Node) (i d : ℕ) → AreFree old → Walked old (other_nodes None i d) (i + other_length None) old (Ok (i + 1))
 other_none old i d f = (sym (append-nil old), refl, f)
 
-pub other_stops : (old new : List Node) (b c : Acts) (i d : ℕ) (s : Stop) → c ≡ b → Walked old (acts_nodes c (i + 3) d) (i + 3 + acts_length c) new (Err s) → Walked old (other_nodes (Some b) i d) (i + other_length (Some b)) new (Err s)
+pub other_stops : (old new : List Node) (b c : Acts) (i d : ℕ) (s : WalkStop) → c ≡ b → Walked old (acts_nodes c (i + 3) d) (i + 3 + acts_length c) new (Err s) → Walked old (other_nodes (Some b) i d) (i + other_length (Some b)) new (Err s)
 other_stops old new b c i d s q w =
     walked_less old (acts_nodes b (i + 3) d) new (i + 3 + acts_length b) (i + other_length (Some b)) s (omega arith) (subst (λ c. Walked old (acts_nodes c (i + 3) d) (i + 3 + acts_length c) new (Err s)) q w)
 
@@ -197,7 +197,7 @@ acts d = record {
 pub no_nodes : AreFree []
 no_nodes = record { shallow = refl; few = omega arith }
 
-pub body_stops : (b c : Acts) (old new : List Node) (s : Stop) → c ≡ b → old ≡ [] → Walked old (acts_nodes c 1 1) (1 + acts_length c) new (Err s) → IsStopOf s (acts_nodes b 1 1)
+pub body_stops : (b c : Acts) (old new : List Node) (s : WalkStop) → c ≡ b → old ≡ [] → Walked old (acts_nodes c 1 1) (1 + acts_length c) new (Err s) → IsStopOf s (acts_nodes b 1 1)
 body_stops b c old new (stop.Limit l) q e w =
     let v = subst (λ old. Passes old (acts_nodes c 1 1) (1 + acts_length c) l) e w in
     subst (λ c. limit_of (acts_nodes c 1 1) ≡ Some l) q (ap limit_of (sym (append-nil (acts_nodes c 1 1))) ∙ v [] tt)

@@ -9,8 +9,8 @@ use Rattle.policy_lang.specs.declared.nodes.Node.{Node}
 use Rattle.policy_lang.specs.declared.nodes.Limit.{Limit}
 use Rattle.policy_lang.specs.Tree.{Term, Single, Call, Is, Not, Pair}
 use Rattle.policy_lang.specs.Nodes.{opens, length_of, part_length, node, term_nodes, nesting, too_many, last_at, last_of, limit_from, limit_of, are_shallow, AreFree}
-use Rattle.policy_lang.specs.declared.nodes.Stop.{Stop}
-use Rattle.policy_lang.specs.declared.nodes.Stop.TheVariants as stop
+use Rattle.policy_lang.specs.declared.nodes.WalkStop.{WalkStop}
+use Rattle.policy_lang.specs.declared.nodes.WalkStop.TheVariants as stop
 use Rattle.maple_base.specs.declared.policy_fault.PolicyFault.TheVariants.{Nesting, Nodes}
 use Rattle.policy_lang.specs.NodeWalks.{Begins, Begun, unless_deep, deep_in}
 use Rattle.policy_lang.proofs.Both.{both}
@@ -147,13 +147,13 @@ last_first old x xs f h = let at : 1 + length old ≡ 4097 = (let z = f.few in o
 
 -- ---- where a walk begins a node
 
-abbrev nesting_at : ℕ → Stop
+abbrev nesting_at : ℕ → WalkStop
 nesting_at n = stop.Limit (record { kind = Nesting; node = n })
 
-abbrev full : Stop
+abbrev full : WalkStop
 full = stop.Limit (record { kind = Nodes; node = 4097 })
 
-pub deep_begun : (old : List Node) (e : Term) (w i d after : ℕ) (new : List Node) (s : Stop) → AreFree old → 32 < d → s ≡ nesting_at (length old + 1)
+pub deep_begun : (old : List Node) (e : Term) (w i d after : ℕ) (new : List Node) (s : WalkStop) → AreFree old → 32 < d → s ≡ nesting_at (length old + 1)
     → Begun old (node w i i d) (term_nodes e w i d) after new (Err s)
 deep_begun old e w i d after new s f h q =
     subst (λ s. Begun old (node w i i d) (term_nodes e w i d) after new (Err s)) (sym q)
@@ -168,11 +168,11 @@ own_last old e w i d o f h k rest b =
     ∙ ap (λ xs. last_at i 4097 (xs ++ rest)) (sym (term_first e w i d)) ∙ chain_told e w i d 4097 rest b
     ∙ ap (λ n. told (deep_in e n d)) at ∙ ap told k
 
-pub some_begun : (old : List Node) (e : Term) (w i d : ℕ) (new : List Node) (s : Stop) (m : ℕ) → AreFree old → 4096 < length old + 1 → deep_in e (length old + 1) d ≡ Some m → s ≡ nesting_at m
+pub some_begun : (old : List Node) (e : Term) (w i d : ℕ) (new : List Node) (s : WalkStop) (m : ℕ) → AreFree old → 4096 < length old + 1 → deep_in e (length old + 1) d ≡ Some m → s ≡ nesting_at m
     → Begun old (node w i i d) (term_nodes e w i d) (i + length_of e) new (Err s)
 some_begun old e w i d new s m f h k q = subst (λ s. Begun old (node w i i d) (term_nodes e w i d) (i + length_of e) new (Err s)) (sym q) (own_last old e w i d (Some m) f h k)
 
-pub none_begun : (old : List Node) (e : Term) (w i d : ℕ) (new : List Node) (s : Stop) → AreFree old → 4096 < length old + 1 → deep_in e (length old + 1) d ≡ None → s ≡ full
+pub none_begun : (old : List Node) (e : Term) (w i d : ℕ) (new : List Node) (s : WalkStop) → AreFree old → 4096 < length old + 1 → deep_in e (length old + 1) d ≡ None → s ≡ full
     → Begun old (node w i i d) (term_nodes e w i d) (i + length_of e) new (Err s)
 none_begun old e w i d new s f h k q = subst (λ s. Begun old (node w i i d) (term_nodes e w i d) (i + length_of e) new (Err s)) (sym q) (own_last old e w i d None f h k)
 
@@ -181,10 +181,10 @@ added_begun old x new f h few q = (q, subst AreFree (sym q) (free_more old x f h
 
 -- ---- a node whose first token is its own
 
-pub deep_alone : (old : List Node) (x : Node) (after : ℕ) (new : List Node) (s : Stop) → AreFree old → 32 < x.depth → s ≡ nesting_at (length old + 1) → Begun old x (x ∷ []) after new (Err s)
+pub deep_alone : (old : List Node) (x : Node) (after : ℕ) (new : List Node) (s : WalkStop) → AreFree old → 32 < x.depth → s ≡ nesting_at (length old + 1) → Begun old x (x ∷ []) after new (Err s)
 deep_alone old x after new s f h q = subst (λ s. Begun old x (x ∷ []) after new (Err s)) (sym q) (λ rest b. deep_first old x rest f h)
 
-pub last_begun : (old : List Node) (w i n d : ℕ) (new : List Node) (s : Stop) → AreFree old → 4096 < length old + 1 → d ≤ 32 → s ≡ full → Begun old (node w i n d) (node w i n d ∷ []) (i + 1) new (Err s)
+pub last_begun : (old : List Node) (w i n d : ℕ) (new : List Node) (s : WalkStop) → AreFree old → 4096 < length old + 1 → d ≤ 32 → s ≡ full → Begun old (node w i n d) (node w i n d ∷ []) (i + 1) new (Err s)
 last_begun old w i n d new s f h k q =
     subst (λ s. Begun old (node w i n d) (node w i n d ∷ []) (i + 1) new (Err s)) (sym q)
     (λ rest b. last_first old (node w i n d) rest f h ∙ no_more i 4097 d w n rest b ∙ ap (λ b. told (cond b (Some 4097) None)) (le-ltb 32 d k))

@@ -6,8 +6,8 @@ use Rattle.std.proofs.Math.ListN.{set}
 use Rattle.std.proofs.Math.Seq.{set-append_seam}
 use Rattle.policy_lang.specs.declared.nodes.Node.{Node}
 use Rattle.policy_lang.specs.declared.nodes.Limit.{Limit}
-use Rattle.policy_lang.specs.declared.nodes.Stop.{Stop}
-use Rattle.policy_lang.specs.declared.nodes.Stop.TheVariants as stop
+use Rattle.policy_lang.specs.declared.nodes.WalkStop.{WalkStop}
+use Rattle.policy_lang.specs.declared.nodes.WalkStop.TheVariants as stop
 use Rattle.policy_lang.specs.Tree.{Term}
 use Rattle.policy_lang.specs.Nodes.{length_of, node, nodes_from, limit_of, are_shallow, AreFree}
 use Rattle.policy_lang.specs.NodeWalks.{Passes, Begun, Walked, binding_nodes}
@@ -21,17 +21,17 @@ renamed old i m n d xs f = free_behind old (node i i m d ∷ xs) f ∙ sym (free
 passes_renamed : (old xs : List Node) (i m n d k : ℕ) (l : Limit) → AreFree old → Passes old (node i i m d ∷ xs) k l → Passes old (node i i n d ∷ xs) k l
 passes_renamed old xs i m n d k l f p rest b = renamed old i n m d (xs ++ rest) f ∙ p rest b
 
-off_renamed : (old xs new : List Node) (i m n d k : ℕ) (s : Stop) → AreFree old → Walked old (node i i m d ∷ xs) k new (Err s) → Walked old (node i i n d ∷ xs) k new (Err s)
+off_renamed : (old xs new : List Node) (i m n d k : ℕ) (s : WalkStop) → AreFree old → Walked old (node i i m d ∷ xs) k new (Err s) → Walked old (node i i n d ∷ xs) k new (Err s)
 off_renamed old xs new i m n d k (stop.Limit l) f w = passes_renamed old xs i m n d k l f w
 off_renamed old xs new i m n d k stop.NoMemory f w = tt
 
-pub binding_full : (old : List Node) (e : Term) (i d : ℕ) (new : List Node) (s : Stop) → AreFree old → Begun old (node i i i d) (node i i i d ∷ []) (i + 1) new (Err s)
+pub binding_full : (old : List Node) (e : Term) (i d : ℕ) (new : List Node) (s : WalkStop) → AreFree old → Begun old (node i i i d) (node i i i d ∷ []) (i + 1) new (Err s)
     → Walked old (binding_nodes e i d) (i + (5 + length_of e)) new (Err s)
 binding_full old e i d new s f b =
     off_renamed old (nodes_from (i + 2) e (d + 1)) new i i (i + 4 + length_of e) d (i + (5 + length_of e)) s f
     (own_stops old (node i i i d) (nodes_from (i + 2) e (d + 1)) (i + 1) (i + (5 + length_of e)) new s (λ rest h. term_later e (i + 1) (i + 2) (i + 2) (d + 1) rest (omega arith)) b)
 
-pub binding_stops : (old mid : List Node) (e : Term) (i d : ℕ) (new : List Node) (s : Stop) → AreFree old → mid ≡ old ++ node i i i d ∷ []
+pub binding_stops : (old mid : List Node) (e : Term) (i d : ℕ) (new : List Node) (s : WalkStop) → AreFree old → mid ≡ old ++ node i i i d ∷ []
     → Walked mid (nodes_from (i + 2) e (d + 1)) (i + 2 + length_of e + 1) new (Err s) → Walked old (binding_nodes e i d) (i + (5 + length_of e)) new (Err s)
 binding_stops old mid e i d new s f m w =
     off_renamed old (nodes_from (i + 2) e (d + 1)) new i i (i + 4 + length_of e) d (i + (5 + length_of e)) s f

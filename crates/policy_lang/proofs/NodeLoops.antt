@@ -4,7 +4,7 @@ use Rattle.std.specs.Prelude.{Result, Ok, Err}
 use Rattle.std.proofs.lemmas.List.{drop_all, append-nil}
 use Rattle.policy_lang.specs.declared.Expr.{Expr}
 use Rattle.policy_lang.specs.declared.nodes.Node.{Node}
-use Rattle.policy_lang.specs.declared.nodes.Stop.{Stop}
+use Rattle.policy_lang.specs.declared.nodes.WalkStop.{WalkStop}
 use Rattle.policy_lang.specs.Tree.{Term}
 use Rattle.policy_lang.specs.TreeOf.{term_of, terms_of}
 use Rattle.policy_lang.specs.Nodes.{length_of, nodes_from, lengths_of, terms_nodes, AreFree}
@@ -26,7 +26,7 @@ pub record Row (A : Type 0) : Type 0 where
 
 -- what a loop keeps: where what is left is walked over, the whole is; at most eight tokens were taken for each node
 pub record Left {A : Type 0} (row : Row A) (as_ : List A) (i : ℕ) (old : List Node) (left : List A) (here : List Node) (next : ℕ) : Type 0 where
-  pub leads : (new : List Node) (r : Result ℕ Stop) → Walked here (row.nodes left next) (i + row.size as_) new r → Walked old (row.nodes as_ i) (i + row.size as_) new r
+  pub leads : (new : List Node) (r : Result ℕ WalkStop) → Walked here (row.nodes left next) (i + row.size as_) new r → Walked old (row.nodes as_ i) (i + row.size as_) new r
   pub ends : next + row.size left ≡ i + row.size as_
   pub free : AreFree here
   pub few : next + 8 * length old ≤ i + 8 * length here
@@ -47,7 +47,7 @@ left_on row as_ i old k a here mid next n spare h q left w s =
       few = let z = left.few in omega (arith, s, z);
     }
 
-pub left_stop : {A : Type 0} (row : Row A) (as_ : List A) (i : ℕ) (old : List Node) (k : ℕ) (a : A) (here new : List Node) (next : ℕ) (e : Stop) → k < length as_ → a ≡ get_or as_ k a
+pub left_stop : {A : Type 0} (row : Row A) (as_ : List A) (i : ℕ) (old : List Node) (k : ℕ) (a : A) (here new : List Node) (next : ℕ) (e : WalkStop) → k < length as_ → a ≡ get_or as_ k a
     → Left row as_ i old (drop k as_) here next → Walked here (row.part a next) (row.after a next) new (Err e) → Walked old (row.nodes as_ i) (i + row.size as_) new (Err e)
 left_stop row as_ i old k a here new next e h q left w =
     let at = subst (λ l. Left row as_ i old l here next) (rest_of as_ k a h q) left in

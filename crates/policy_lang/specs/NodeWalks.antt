@@ -5,8 +5,8 @@ use Rattle.maple_base.specs.declared.operator.Operator.{Operator}
 use Rattle.maple_base.specs.Operators.{left_level, right_level}
 use Rattle.policy_lang.specs.declared.nodes.Node.{Node}
 use Rattle.policy_lang.specs.declared.nodes.Limit.{Limit}
-use Rattle.policy_lang.specs.declared.nodes.Stop.{Stop}
-use Rattle.policy_lang.specs.declared.nodes.Stop.TheVariants as stop
+use Rattle.policy_lang.specs.declared.nodes.WalkStop.{WalkStop}
+use Rattle.policy_lang.specs.declared.nodes.WalkStop.TheVariants as stop
 use Rattle.policy_lang.specs.Tree.{Term, Single, Call, Is, Not, Pair, Ask, Acts}
 use Rattle.policy_lang.specs.Nodes.{opens, length_of, part_length, term_nodes, nodes_from, ask_length, ask_nodes, acts_length, acts_nodes, limit_of, node, AreFree}
 
@@ -20,13 +20,13 @@ abbrev pub Passes : List Node → List Node → ℕ → Limit → Type 0
 Passes old nodes after l = (rest : List Node) → Begins after rest → limit_of (old ++ (nodes ++ rest)) ≡ Some l
 
 -- behind nodes that pass no limit these were walked over, up to a token, or the first limit is told
-abbrev pub Walked : List Node → List Node → ℕ → List Node → Result ℕ Stop → Type 0
+abbrev pub Walked : List Node → List Node → ℕ → List Node → Result ℕ WalkStop → Type 0
 Walked old nodes after new (Ok next) = (new ≡ old ++ nodes) × (next ≡ after) × AreFree new
 Walked old nodes after new (Err (stop.Limit l)) = Passes old nodes after l
 Walked old nodes after new (Err stop.NoMemory) = Unit {0}
 
 -- the first of nodes was added, which passes no limit
-abbrev pub Begun : List Node → Node → List Node → ℕ → List Node → Result Unit Stop → Type 0
+abbrev pub Begun : List Node → Node → List Node → ℕ → List Node → Result Unit WalkStop → Type 0
 Begun old x nodes after new (Ok u) = (new ≡ old ++ x ∷ []) × AreFree new
 Begun old x nodes after new (Err (stop.Limit l)) = Passes old nodes after l
 Begun old x nodes after new (Err stop.NoMemory) = Unit {0}
@@ -61,7 +61,7 @@ abbrev pub pair_length : Operator → Term → Term → ℕ
 pair_length o l r = part_length (left_level o) l + 1 + part_length (right_level o) r
 
 -- a walk takes at most eight tokens for each node, less so many
-abbrev pub Spares : ℕ → ℕ → List Node → List Node → Result ℕ Stop → Type 0
+abbrev pub Spares : ℕ → ℕ → List Node → List Node → Result ℕ WalkStop → Type 0
 Spares spare first old new (Ok next) = next + spare + 8 * length old ≤ first + 8 * length new
 Spares spare first old new (Err e) = Unit {0}
 
@@ -97,26 +97,26 @@ while_length e b = length_of e + 1 + acts_length b + 1
 -- ---- the walks over parts
 
 -- the first node of an expression was added
-abbrev pub TermBegun : List Node → Term → ℕ → ℕ → ℕ → List Node → Result Unit Stop → Type 0
+abbrev pub TermBegun : List Node → Term → ℕ → ℕ → ℕ → List Node → Result Unit WalkStop → Type 0
 TermBegun old e w i d new r = Begun old (node w i i d) (term_nodes e w i d) (i + length_of e) new r
 
-abbrev pub PartWalked : List Node → ℕ → Term → ℕ → ℕ → List Node → Result ℕ Stop → Type 0
+abbrev pub PartWalked : List Node → ℕ → Term → ℕ → ℕ → List Node → Result ℕ WalkStop → Type 0
 PartWalked old least e i d new r = Walked old (part_nodes least e i d) (i + part_length least e) new r
 
-abbrev pub CallWalked : List Node → Term → Term → ℕ → ℕ → List Node → Result ℕ Stop → Type 0
+abbrev pub CallWalked : List Node → Term → Term → ℕ → ℕ → List Node → Result ℕ WalkStop → Type 0
 CallWalked old l r i d new result = Walked old (call_nodes l r i d) (i + call_length l r) new result
 
-abbrev pub PairWalked : List Node → Operator → Term → Term → ℕ → ℕ → List Node → Result ℕ Stop → Type 0
+abbrev pub PairWalked : List Node → Operator → Term → Term → ℕ → ℕ → List Node → Result ℕ WalkStop → Type 0
 PairWalked old o l r i d new result = Walked old (pair_nodes o l r i d) (i + pair_length o l r) new result
 
-abbrev pub IfWalked : List Node → Ask → Acts → Option Acts → ℕ → ℕ → List Node → Result ℕ Stop → Type 0
+abbrev pub IfWalked : List Node → Ask → Acts → Option Acts → ℕ → ℕ → List Node → Result ℕ WalkStop → Type 0
 IfWalked old q b o i d new r = Walked old (if_nodes q b o i d) (i + if_length q b o) new r
 
-abbrev pub WhileWalked : List Node → Term → Acts → ℕ → ℕ → List Node → Result ℕ Stop → Type 0
+abbrev pub WhileWalked : List Node → Term → Acts → ℕ → ℕ → List Node → Result ℕ WalkStop → Type 0
 WhileWalked old e b i d new r = Walked old (while_nodes e b i d) (i + while_length e b) new r
 
-abbrev pub OtherWalked : List Node → Option Acts → ℕ → ℕ → List Node → Result ℕ Stop → Type 0
+abbrev pub OtherWalked : List Node → Option Acts → ℕ → ℕ → List Node → Result ℕ WalkStop → Type 0
 OtherWalked old o i d new r = Walked old (other_nodes o i d) (i + other_length o) new r
 
-abbrev pub ActsWalked : List Node → Acts → ℕ → ℕ → List Node → Result ℕ Stop → Type 0
+abbrev pub ActsWalked : List Node → Acts → ℕ → ℕ → List Node → Result ℕ WalkStop → Type 0
 ActsWalked old b i d new r = Walked old (acts_nodes b i d) (i + acts_length b) new r

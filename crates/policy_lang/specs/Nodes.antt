@@ -8,8 +8,8 @@ use Rattle.maple_base.specs.Operators.{level_of as operator_level, left_level, r
 use Rattle.maple_base.specs.declared.policy_fault.PolicyFault.TheVariants.{Nesting, Nodes}
 use Rattle.policy_lang.specs.declared.nodes.Node.{Node}
 use Rattle.policy_lang.specs.declared.nodes.Limit.{Limit}
-use Rattle.policy_lang.specs.declared.nodes.Stop.{Stop}
-use Rattle.policy_lang.specs.declared.nodes.Stop.TheVariants as stop
+use Rattle.policy_lang.specs.declared.nodes.WalkStop.{WalkStop}
+use Rattle.policy_lang.specs.declared.nodes.WalkStop.TheVariants as stop
 use Rattle.policy_lang.specs.Tree.{Term, Single, Call, Is, Not, Pair, Ask, Binds, Holds, Act, Acts, Drop, Flood, Out, Route, Let, Assign, If, IfElse, While, Done, Then}
 
 -- ---- expressions
@@ -154,6 +154,6 @@ pub record AreFree (nodes : List Node) : Type 0 where
   pub few : length nodes ≤ most_nodes
 
 -- a walk stops at the first limit of nodes, or for want of memory
-abbrev pub IsStopOf : Stop → List Node → Type 0
+abbrev pub IsStopOf : WalkStop → List Node → Type 0
 IsStopOf (stop.Limit l) nodes = limit_of nodes ≡ Some l
 IsStopOf stop.NoMemory nodes = Unit {0}

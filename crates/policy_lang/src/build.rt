@@ -9,7 +9,7 @@ ghost use Rattle.policy_lang.specs.Sound.{IsSound};
 ghost use Rattle.policy_lang.specs.TreeOf.{tree_of};
 
 use crate::name_fault::first_name_fault;
-use crate::nodes::{Node, Stop, nodes};
+use crate::nodes::{Node, WalkStop, nodes};
 use crate::{Block, Policy};
 use maple_base::{Name, Names, NoMemory};
 use std::alloc::Global;
@@ -70,11 +70,11 @@ fn check_parts(alloc: Global, tables: &[Name], body: &Block) -> Result<(), Build
 {
     match nodes(alloc, body) {
         Ok(nodes) => check_names(alloc, tables, body, &nodes),
-        Err(Stop::Limit(limit)) => Err(BuildError::Fault {
+        Err(WalkStop::Limit(limit)) => Err(BuildError::Fault {
             node: limit.node,
             kind: limit.kind.number(),
         }),
-        Err(Stop::NoMemory) => Err(BuildError::NoMemory),
+        Err(WalkStop::NoMemory) => Err(BuildError::NoMemory),
     }
 }
 

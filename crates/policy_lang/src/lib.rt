@@ -23,7 +23,7 @@ pub use form::{Atom, Callee, Form};
 pub use maple_base::PolicyFault;
 use maple_base::{Field, Name, Names};
 pub use name_fault::first_name_fault;
-pub use nodes::{Limit, Node, Stop};
+pub use nodes::{Limit, Node, WalkStop};
 use std::marker::Model;
 
 /// An expression. It gives a number, a truth or a place.

@@ -8,7 +8,7 @@ ghost use Rattle.policy_lang.specs.Nodes.{level_of, opens, length_of, node, term
 ghost use Rattle.policy_lang.specs.NodeWalks.{Begun, TermBegun, Walked, PartWalked, CallWalked, PairWalked, IfWalked, WhileWalked, OtherWalked, ActsWalked, Spares, binding_nodes, deep_in};
 ghost use Rattle.std.specs.Option.{option_map};
 ghost use Rattle.maple_base.specs.declared.policy_fault.PolicyFault.TheVariants.{Nesting, Nodes};
-ghost use Rattle.policy_lang.specs.declared.nodes.Stop.TheVariants as stop;
+ghost use Rattle.policy_lang.specs.declared.nodes.WalkStop.TheVariants as stop;
 
 use crate::form::Form;
 use crate::{Block, Expr, Head, Statement};
@@ -35,34 +35,34 @@ pub struct Limit {
 
 /// Why a walk over nodes stops.
 #[derive(Clone, Copy)]
-pub enum Stop {
+pub enum WalkStop {
     Limit(Limit),
     NoMemory,
 }
 
-impl<T: Drop> From<AllocFailed<T>> for Stop {
+impl<T: Drop> From<AllocFailed<T>> for WalkStop {
     ghost from_gives = { λ _ error. error ≡ no_memory };
 
-    ghost use Rattle.policy_lang.specs.declared.nodes.Stop.TheVariants.{NoMemory as no_memory};
+    ghost use Rattle.policy_lang.specs.declared.nodes.WalkStop.TheVariants.{NoMemory as no_memory};
 
-    fn from(_error: AllocFailed<T>) -> Stop {
-        Stop::NoMemory
+    fn from(_error: AllocFailed<T>) -> WalkStop {
+        WalkStop::NoMemory
     }
 }
 
-fn nesting(node: u32) -> Stop
+fn nesting(node: u32) -> WalkStop
     ensures { result ≡ stop.Limit (record { kind = Nesting; node = node }) }
 {
-    Stop::Limit(Limit {
+    WalkStop::Limit(Limit {
         kind: PolicyFault::Nesting,
         node,
     })
 }
 
-fn too_many() -> Stop
+fn too_many() -> WalkStop
     ensures { result ≡ stop.Limit (record { kind = Nodes; node = most_nodes + 1 }) }
 {
-    Stop::Limit(Limit {
+    WalkStop::Limit(Limit {
         kind: PolicyFault::Nodes,
         node: MOST_NODES + 1,
     })
@@ -113,7 +113,7 @@ fn begin_expr(
     first: u32,
     depth: u32,
     out: &mut Vec<Node>,
-) -> Result<(), Stop>
+) -> Result<(), WalkStop>
     requires free { AreFree out.old.items }
     requires nested { depth ≤ deepest + 1 }
     ensures begun { TermBegun out.old.items (term_of expr.now) whole first depth out.new.items result }
@@ -148,7 +148,7 @@ fn walk_expr(
     first: u32,
     depth: u32,
     out: &mut Vec<Node>,
-) -> Result<u32, Stop>
+) -> Result<u32, WalkStop>
     requires free { AreFree out.old.items }
     requires nested { depth ≤ deepest + 1 }
     requires small { first ≤ 8 * length out.old.items + 8 * depth + 1 }
@@ -176,7 +176,7 @@ fn walk_part(
     first: u32,
     depth: u32,
     out: &mut Vec<Node>,
-) -> Result<u32, Stop>
+) -> Result<u32, WalkStop>
     requires free { AreFree out.old.items }
     requires nested { depth ≤ deepest + 1 }
     requires small { first ≤ 8 * length out.old.items + 8 * depth }
@@ -197,7 +197,7 @@ fn walk_call(
     first: u32,
     depth: u32,
     out: &mut Vec<Node>,
-) -> Result<u32, Stop>
+) -> Result<u32, WalkStop>
     requires free { AreFree out.old.items }
     requires nested { depth ≤ deepest + 1 }
     requires small { first ≤ 8 * length out.old.items + 8 * depth }
@@ -219,7 +219,7 @@ fn walk_pair(
     first: u32,
     depth: u32,
     out: &mut Vec<Node>,
-) -> Result<u32, Stop>
+) -> Result<u32, WalkStop>
     requires free { AreFree out.old.items }
     requires nested { depth ≤ deepest + 1 }
     requires small { first ≤ 8 * length out.old.items + 8 * depth }
@@ -232,7 +232,7 @@ fn walk_pair(
 
 // A node whose first token is its own.
 #[tactic(auto, using(crate::proofs::NodeChains::deep_alone, crate::proofs::NodeChains::last_begun, crate::proofs::NodeChains::added_begun))]
-fn begin(first: u32, named: u32, depth: u32, out: &mut Vec<Node>) -> Result<(), Stop>
+fn begin(first: u32, named: u32, depth: u32, out: &mut Vec<Node>) -> Result<(), WalkStop>
     requires free { AreFree out.old.items }
     requires nested { depth ≤ deepest + 1 }
     ensures begun { Begun out.old.items (node first first named depth) (node first first named depth ∷ []) (first + 1) out.new.items result }
@@ -257,7 +257,7 @@ fn begin(first: u32, named: u32, depth: u32, out: &mut Vec<Node>) -> Result<(), 
 
 // An expression and the token behind it.
 #[tactic(auto, using(crate::proofs::NodeJoins::ended_walked, crate::proofs::NodeJoins::ended_stops))]
-fn walk_ended(expr: &Expr, first: u32, depth: u32, out: &mut Vec<Node>) -> Result<u32, Stop>
+fn walk_ended(expr: &Expr, first: u32, depth: u32, out: &mut Vec<Node>) -> Result<u32, WalkStop>
     requires free { AreFree out.old.items }
     requires nested { depth ≤ deepest + 1 }
     requires small { first ≤ 8 * length out.old.items + 8 * depth }
@@ -270,7 +270,7 @@ fn walk_ended(expr: &Expr, first: u32, depth: u32, out: &mut Vec<Node>) -> Resul
 
 // Expressions, each with the token behind it.
 #[tactic(auto, using(crate::proofs::NodeLoops::left_begin))]
-fn walk_exprs(exprs: &[Expr], first: u32, depth: u32, out: &mut Vec<Node>) -> Result<u32, Stop>
+fn walk_exprs(exprs: &[Expr], first: u32, depth: u32, out: &mut Vec<Node>) -> Result<u32, WalkStop>
     requires free { AreFree out.old.items }
     requires nested { depth ≤ deepest + 1 }
     requires small { first ≤ 8 * length out.old.items + 8 * depth }
@@ -287,7 +287,7 @@ fn walk_exprs(exprs: &[Expr], first: u32, depth: u32, out: &mut Vec<Node>) -> Re
 // A head that binds a name has as many tokens in each form. Where its name lies is known behind its
 // expression.
 #[tactic(auto, using(crate::proofs::NodeHeads::binding_full, crate::proofs::NodeHeads::binding_stops, crate::proofs::NodeHeads::binding_walked))]
-fn walk_binding(expr: &Expr, first: u32, depth: u32, out: &mut Vec<Node>) -> Result<u32, Stop>
+fn walk_binding(expr: &Expr, first: u32, depth: u32, out: &mut Vec<Node>) -> Result<u32, WalkStop>
     requires free { AreFree out.old.items }
     requires nested { depth ≤ deepest + 1 }
     requires small { first ≤ 8 * length out.old.items + 8 * depth }
@@ -306,7 +306,7 @@ fn walk_binding(expr: &Expr, first: u32, depth: u32, out: &mut Vec<Node>) -> Res
     Ok(next + 2)
 }
 
-fn walk_head(head: &Head, first: u32, depth: u32, out: &mut Vec<Node>) -> Result<u32, Stop>
+fn walk_head(head: &Head, first: u32, depth: u32, out: &mut Vec<Node>) -> Result<u32, WalkStop>
     requires free { AreFree out.old.items }
     requires nested { depth ≤ deepest + 1 }
     requires small { first ≤ 8 * length out.old.items + 8 * depth }
@@ -328,7 +328,7 @@ fn walk_statement(
     first: u32,
     depth: u32,
     out: &mut Vec<Node>,
-) -> Result<u32, Stop>
+) -> Result<u32, WalkStop>
     requires free { AreFree out.old.items }
     requires nested { depth ≤ deepest + 1 }
     requires small { first ≤ 8 * length out.old.items + 8 * depth }
@@ -357,7 +357,7 @@ fn walk_if(
     first: u32,
     depth: u32,
     out: &mut Vec<Node>,
-) -> Result<u32, Stop>
+) -> Result<u32, WalkStop>
     requires free { AreFree out.old.items }
     requires nested { depth ≤ deepest + 1 }
     requires small { first ≤ 8 * length out.old.items + 8 * depth }
@@ -378,7 +378,7 @@ fn walk_while(
     first: u32,
     depth: u32,
     out: &mut Vec<Node>,
-) -> Result<u32, Stop>
+) -> Result<u32, WalkStop>
     requires free { AreFree out.old.items }
     requires nested { depth ≤ deepest + 1 }
     requires small { first ≤ 8 * length out.old.items + 8 * depth }
@@ -398,7 +398,7 @@ fn walk_other(
     first: u32,
     depth: u32,
     out: &mut Vec<Node>,
-) -> Result<u32, Stop>
+) -> Result<u32, WalkStop>
     requires free { AreFree out.old.items }
     requires nested { depth ≤ deepest + 1 }
     requires small { first + 3 ≤ 8 * length out.old.items + 8 * depth }
@@ -421,7 +421,7 @@ fn walk_block(
     first: u32,
     depth: u32,
     out: &mut Vec<Node>,
-) -> Result<u32, Stop>
+) -> Result<u32, WalkStop>
     requires free { AreFree out.old.items }
     requires nested { depth ≤ deepest + 1 }
     requires small { first ≤ 8 * length out.old.items + 8 * depth }
@@ -437,7 +437,7 @@ fn walk_block(
 
 /// The nodes of a policy's statements, in the order of its printed form, or the first limit that they pass.
 #[tactic(auto, using(crate::proofs::ActNodes::no_nodes, crate::proofs::ActNodes::body_stops))]
-pub fn nodes(alloc: Global, body: &Block) -> Result<Vec<Node>, Stop>
+pub fn nodes(alloc: Global, body: &Block) -> Result<Vec<Node>, WalkStop>
     ensures nodes { IfOk result (λ nodes. nodes.items ≡ nodes_of (tree_of body.now)) }
     ensures free { IfOk result (λ nodes. AreFree nodes.items) }
     ensures limit { IfErr result (λ stop. IsStopOf stop (nodes_of (tree_of body.now))) }

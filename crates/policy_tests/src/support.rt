@@ -4,7 +4,7 @@ use maple_text::{cut, number_of};
 use policy_lang::Node;
 use policy_outline::read_outline;
 use policy_tokens::read_tokens;
-use policy_tree::{Parts, build};
+use policy_tree::{PolicyParts, build};
 use std::alloc::Global;
 use std::test::Fail;
 
@@ -41,7 +41,7 @@ pub(crate) fn push_bytes(shown: &mut String, text: &[u8]) -> Result<(), NoMemory
 }
 
 // The parts of a text that passes no limit, and its nodes.
-pub(crate) fn parts_of(alloc: Global, text: &[u8]) -> Result<(Parts, Vec<Node>), Fail> {
+pub(crate) fn parts_of(alloc: Global, text: &[u8]) -> Result<(PolicyParts, Vec<Node>), Fail> {
     let tokens = read_tokens(alloc, text)?;
     let outline = read_outline(alloc, tokens.items())?;
     let parts = build(alloc, &outline.events)?;

@@ -3,12 +3,12 @@ use crate::support::{parts_of, push_bytes, text_of};
 use maple_base::{Name, NoMemory};
 use policy_lang::{Block, BuildError, Expr, Exprs, Head, Policy, Statement};
 use policy_text::print_policy;
-use policy_tree::Parts;
+use policy_tree::PolicyParts;
 use std::alloc::Global;
 use std::test::Fail;
 
 // The printed form of the policy of a tree; or the node and the kind of the tree's first fault.
-fn policy_of(alloc: Global, parts: Parts) -> Result<String, Fail> {
+fn policy_of(alloc: Global, parts: PolicyParts) -> Result<String, Fail> {
     if parts.tables.len() > 16 {
         return Err("at most 16 tables".into());
     }
@@ -170,7 +170,7 @@ fn body_of(alloc: Global, made: Made) -> Result<Block, Fail> {
 fn tree_made(alloc: Global, made: Made) -> Result<String, Fail> {
     policy_of(
         alloc,
-        Parts {
+        PolicyParts {
             tables: Vec::new(alloc),
             learning: false,
             body: body_of(alloc, made)?,

@@ -18,7 +18,7 @@ use Rattle.policy_tokens.specs.Tokens.{TokenList}
 use Rattle.policy_grammar.specs.declared.event.Event.{Event}
 use Rattle.policy_outline.specs.FileNodes.{file_nodes, site_token}
 use Rattle.policy_outline.specs.Limits.{IsOutline}
-use Rattle.policy_tree.specs.declared.building.Parts.{Parts}
+use Rattle.policy_tree.specs.declared.building.PolicyParts.{PolicyParts}
 use Rattle.policy_tree.specs.Building.{ArePartsOf, IsMade}
 use Rattle.policy_text.specs.declared.reading.ReadError.TheVariants.{Refused}
 use Rattle.policy_text.specs.Texts.{plain, token_position, file_faults, IsFileOf, IsWrong}
@@ -32,7 +32,7 @@ module _ (tokens : List Token) (events : List Event) (nodes : List Node) (o : Is
   is_file : IsFileOf o.file tokens
   is_file = record { body = o.body; same = o.same; free = o.free }
 
-  module _ (es : List Event) (e : es ≡ events) (parts : Parts) (made : IsMade es parts) where
+  module _ (es : List Event) (e : es ≡ events) (parts : PolicyParts) (made : IsMade es parts) where
     pub parts_are : ArePartsOf o.file parts
     parts_are = made o.file o.body (e ∙ o.read)
 
@@ -52,7 +52,7 @@ module _ (tokens : List Token) (events : List Event) (nodes : List Node) (o : Is
         record { free = free_tree; named = ap (λ ts. name_faults ts (tree_of parts.body)) (sym n) ∙ none_wrong (place_in ns) (name_faults names (tree_of parts.body)) (sym f ∙ ap told is) }
 
 -- the first fault of names and types is told at its position
-pub named_wrong : (list : TokenList) (events : List Event) (nodes : List Node) (o : IsOutline (plain list) events nodes) (es : List Event) (e : es ≡ events) (parts : Parts) (made : IsMade es parts)
+pub named_wrong : (list : TokenList) (events : List Event) (nodes : List Node) (o : IsOutline (plain list) events nodes) (es : List Event) (e : es ≡ events) (parts : PolicyParts) (made : IsMade es parts)
     (ns : List Node) (names : List (List ℕ)) (f : CodeFault) (position : Position) (kind : ℕ) → ns ≡ nodes → names ≡ parts.tables.items → told (Some f) ≡ first_by (place_in ns) (name_faults names (tree_of parts.body))
     → position ≡ token_position list (site_token o.file (site_of f.site)) → kind ≡ number_of f.kind → IsWrong list (Refused position.line position.column kind)
 named_wrong list events nodes o es e parts made ns names f position kind q n is l k =

@@ -11,7 +11,7 @@ use maple_base::NoMemory;
 use policy_lang::{BuildError, Policy, first_name_fault};
 use policy_outline::{Outline, OutlineError, outline_laws, read_outline, site_token};
 use policy_tokens::{Position, Tokens, TokensError, read_tokens};
-use policy_tree::{Parts, build, one_file};
+use policy_tree::{PolicyParts, build, one_file};
 use std::alloc::Global;
 
 /// Why no policy was read.
@@ -110,7 +110,7 @@ fn outlined_policy(alloc: Global, tokens: &Tokens, outline: &Outline) -> Result<
 }
 
 // The policy of parts that are well formed: nothing is wrong with them.
-fn built_policy(alloc: Global, parts: Parts) -> Result<Policy, ReadError>
+fn built_policy(alloc: Global, parts: PolicyParts) -> Result<Policy, ReadError>
     requires few { length parts.tables.items ≤ most_tables }
     requires formed { IsWellFormed parts.tables.items (tree_of parts.body) }
     ensures tables { IfOk result (λ policy. policy.tables ≡ parts.tables.items) }
@@ -118,7 +118,7 @@ fn built_policy(alloc: Global, parts: Parts) -> Result<Policy, ReadError>
     ensures body { IfOk result (λ policy. policy.body ≡ parts.body) }
     ensures error { IfErr result (λ error. error ≡ no_memory) }
 {
-    let Parts {
+    let PolicyParts {
         tables,
         learning,
         body,

@@ -14,7 +14,7 @@ use std::alloc::Global;
 /// The parts of a policy: its tables, whether the controller learns hosts, and what is done with
 /// each packet.
 #[derive(Drop)]
-pub struct Parts {
+pub struct PolicyParts {
     pub tables: Vec<Name>,
     pub learning: bool,
     pub body: Block,
@@ -25,7 +25,7 @@ pub struct Parts {
 /// # Errors
 ///
 /// The one error is want of memory.
-pub fn build(alloc: Global, events: &[Event]) -> Result<Parts, NoMemory>
+pub fn build(alloc: Global, events: &[Event]) -> Result<PolicyParts, NoMemory>
     requires { AreOfFile events.now }
     ensures parts { IfOk result (IsMade events.now) }
 {
@@ -103,12 +103,12 @@ impl Builder {
 }
 
 // The parts of what is whole.
-fn parts_of(builder: Builder) -> Parts
+fn parts_of(builder: Builder) -> PolicyParts
     ensures tables { result.tables ≡ builder.tables }
     ensures learning { result.learning ≡ builder.learning }
     ensures body { tree_of result.body ≡ acts_of builder.list.items }
 {
-    Parts {
+    PolicyParts {
         tables: builder.tables,
         learning: builder.learning,
         body: Block::new(builder.list),

@@ -9,5 +9,5 @@ mod pile;
 mod state;
 mod statements;
 
-pub use building::{Parts, build};
+pub use building::{PolicyParts, build};
 pub use laws::one_file;

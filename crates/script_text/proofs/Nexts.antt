@@ -3,8 +3,8 @@ use Rattle.std.proofs.Common.{ℕ, ◌+◌, List, [], ◌∷◌, ap, ◌∙◌}
 use Rattle.std.specs.Prelude.{Option, Result}
 use Rattle.report_text.specs.declared.line.ScriptRefusal.{ScriptRefusal}
 use Rattle.script_text.specs.declared.step.Step.{Step}
-use Rattle.script_text.specs.declared.step.Stop.{Stop}
-use Rattle.script_text.specs.declared.step.Stop.TheVariants.{End, Refused, NoMemory}
+use Rattle.script_text.specs.declared.step.StepStop.{StepStop}
+use Rattle.script_text.specs.declared.step.StepStop.TheVariants.{End, Refused, NoMemory}
 use Rattle.script_text.specs.Behind.{LeavesBehind}
 use Rattle.script_text.specs.Lines.{without_end}
 use Rattle.script_text.specs.Orders.{Order, Halt, Text, order_of, ahead_of, orders_in, orders_of, refused_or, refused_in, refused_from}
@@ -24,7 +24,7 @@ module _ (places : ℕ) (line : List ℕ) (behind : List (List ℕ)) where
     refused = λ n. ap (refused_by n) good ∙ b.refused places n;
   }
 
-  pub halted : (stop : Stop) → IsStop (order_of places (without_end line)) stop → IsHalted places (line ∷ behind) stop
+  pub halted : (stop : StepStop) → IsStop (order_of places (without_end line)) stop → IsHalted places (line ∷ behind) stop
   halted End bad = record { orders = ap orders_by bad; refused_is = λ n. ap (refused_by n) bad }
   halted (Refused kind) bad = record { orders = ap orders_by bad; refused_is = λ n. ap (refused_by n) bad }
   halted NoMemory bad = tt

@@ -10,8 +10,8 @@ use Rattle.report_text.specs.declared.line.ScriptRefusal.{ScriptRefusal}
 use Rattle.report_text.specs.declared.line.ScriptRefusal.TheVariants.{Switch}
 use Rattle.script_text.specs.declared.step.Step.{Step}
 use Rattle.script_text.specs.declared.step.Step.TheVariants as steps
-use Rattle.script_text.specs.declared.step.Stop.{Stop}
-use Rattle.script_text.specs.declared.step.Stop.TheVariants.{End, Refused, NoMemory}
+use Rattle.script_text.specs.declared.step.StepStop.{StepStop}
+use Rattle.script_text.specs.declared.step.StepStop.TheVariants.{End, Refused, NoMemory}
 use Rattle.script_text.specs.Orders.{Order, Halt, Ends, Refuses, orders_of, refused_from}
 use Rattle.script_text.specs.Orders.Order.{Nothing, Plug, Unplug, Arrival, Turn, Settle, Change, NewPolicy, Rules}
 
@@ -32,7 +32,7 @@ abbrev pub Asks : Result Order Halt → Step → Type 0
 Asks order step = order ≡ Ok (order_with step [])
 
 -- a line stops the script where it ends it or is refused; memory may run out
-abbrev pub IsStop : Result Order Halt → Stop → Type 0
+abbrev pub IsStop : Result Order Halt → StepStop → Type 0
 IsStop order End = order ≡ Err Ends
 IsStop order (Refused kind) = order ≡ Err (Refuses kind)
 IsStop order NoMemory = Unit {0}
@@ -79,7 +79,7 @@ IsShort (Frame c port bytes) = length bytes ≤ most_bytes
 IsShort command = Unit {0}
 
 -- a place where there are so many
-abbrev pub place_among : ℕ → ℕ → Result ℕ Stop
+abbrev pub place_among : ℕ → ℕ → Result ℕ StepStop
 place_among places c = if nat_le 1 c && nat_le c places then Ok c else Err (Refused Switch)
 
 -- a script's first lines, so many, ask for this order, and behind them come these
@@ -93,7 +93,7 @@ pub record Halts (places : ℕ) (lines : List (List ℕ)) (refused : ℕ → Opt
   pub refused_is : (n : ℕ) → refused_from places n lines ≡ refused n
 
 -- where the first line ends the script no line is refused; where it is refused it is the first such line
-abbrev pub IsHalted : ℕ → List (List ℕ) → Stop → Type 0
+abbrev pub IsHalted : ℕ → List (List ℕ) → StepStop → Type 0
 IsHalted places lines End = Halts places lines (λ n. None)
 IsHalted places lines (Refused kind) = Halts places lines (λ n. Some (n, kind))
 IsHalted places lines NoMemory = Unit {0}

@@ -22,4 +22,4 @@ pub use next::{Next, next_order};
 pub use packet_spec::PacketSpec;
 pub use reading::read_line;
 pub use report_text::{Learnt, Line, SHORT_LINE, ScriptRefusal, Why, line_len, write_line};
-pub use step::{Step, Stop, step_of};
+pub use step::{Step, StepStop, step_of};

@@ -5,7 +5,7 @@ ghost use Rattle.script_text.specs.Steps.{IsHalted, IsKept, Leads, order_with, t
 ghost use Rattle.script_text.specs.Behind.{LeavesBehind};
 
 use crate::lines::{cut_line, split_at_mark, without_end};
-use crate::{Step, Stop, step_of};
+use crate::{Step, StepStop, step_of};
 use std::alloc::Global;
 
 /// What the first lines of a script ask for, and the script behind them.
@@ -27,13 +27,13 @@ pub struct Next<'a> {
 /// # Errors
 ///
 /// Those of `step_of` at the first line.
-pub fn next_order<'a>(alloc: Global, script: &'a [u8], places: u32) -> Result<Next<'a>, Stop>
+pub fn next_order<'a>(alloc: Global, script: &'a [u8], places: u32) -> Result<Next<'a>, StepStop>
     requires { 0 < length script.now }
     ensures order { IfOk result (λ next. Leads places (ended_lines script.now) (order_with next.step next.text.now) next.passed (ended_lines next.rest.now)) }
     ensures shorter { IfOk result (λ next. length next.rest.now < length script.now) }
     ensures within { IfOk result (λ next. next.passed + length next.rest.now ≤ length script.now) }
     ensures stop { IfErr result (IsHalted places (ended_lines script.now)) }
-    ensures memory { result ≡ Err Stop.NoMemory → takes_memory (without_end script.now) ≡ true }
+    ensures memory { result ≡ Err StepStop.NoMemory → takes_memory (without_end script.now) ≡ true }
     ensures kept { IfOk result (λ next. IsKept places next.step) }
 {
     let (line, behind) = cut_line(script);

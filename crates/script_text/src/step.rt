@@ -40,7 +40,7 @@ pub enum Step {
 
 /// Why a line asks for nothing.
 #[derive(Clone, Copy, Debug, PartialEq, Eq)]
-pub enum Stop {
+pub enum StepStop {
     /// The script ends.
     End,
     /// The line is refused.
@@ -57,25 +57,25 @@ pub enum Stop {
 /// `End` where the line is `quit`. `Refused` where it has more than 8,192 bytes, isn't in the
 /// grammar, or names a place that is none. `NoMemory`, which comes at lines of frames and of packets
 /// alone.
-pub fn step_of(alloc: Global, line: &[u8], places: u32) -> Result<Step, Stop>
+pub fn step_of(alloc: Global, line: &[u8], places: u32) -> Result<Step, StepStop>
     ensures step { IfOk result (Asks (order_of places line.now)) }
     ensures stop { IfErr result (IsStop (order_of places line.now)) }
-    ensures memory { result ≡ Err Stop.NoMemory → takes_memory line.now ≡ true }
+    ensures memory { result ≡ Err StepStop.NoMemory → takes_memory line.now ≡ true }
     ensures kept { IfOk result (IsKept places) }
 {
     match read_line(alloc, line) {
         Ok(command) => step_by(alloc, command, places),
-        Err(LineError::TooLong) => Err(Stop::Refused(ScriptRefusal::TooLong)),
-        Err(LineError::Grammar) => Err(Stop::Refused(ScriptRefusal::Grammar)),
-        Err(LineError::NoMemory) => Err(Stop::NoMemory),
+        Err(LineError::TooLong) => Err(StepStop::Refused(ScriptRefusal::TooLong)),
+        Err(LineError::Grammar) => Err(StepStop::Refused(ScriptRefusal::Grammar)),
+        Err(LineError::NoMemory) => Err(StepStop::NoMemory),
     }
 }
 
-fn step_by(alloc: Global, command: Command, places: u32) -> Result<Step, Stop>
+fn step_by(alloc: Global, command: Command, places: u32) -> Result<Step, StepStop>
     requires { IsShort command }
     ensures step { IfOk result (Asks (order_by places command)) }
     ensures stop { IfErr result (IsStop (order_by places command)) }
-    ensures memory { result ≡ Err Stop.NoMemory → has_frame command ≡ true }
+    ensures memory { result ≡ Err StepStop.NoMemory → has_frame command ≡ true }
     ensures kept { IfOk result (IsKept places) }
 {
     match command {
@@ -85,7 +85,7 @@ fn step_by(alloc: Global, command: Command, places: u32) -> Result<Step, Stop>
         Command::Packet(place, packet) => {
             let place = place_among(places, place)?;
             let Ok(frame) = frame(alloc, &packet) else {
-                return Err(Stop::NoMemory);
+                return Err(StepStop::NoMemory);
             };
             let port = packet.key().in_port;
             Ok(Step::Arrival { place, port, frame })
@@ -107,7 +107,7 @@ fn step_by(alloc: Global, command: Command, places: u32) -> Result<Step, Stop>
         Command::Unset(table, key) => Ok(Step::Change(Update::Unset { table, key })),
         Command::NewPolicy => Ok(Step::NewPolicy),
         Command::Rules(switch) => Ok(Step::Rules(switch)),
-        Command::Quit => Err(Stop::End),
+        Command::Quit => Err(StepStop::End),
     }
 }
 
@@ -122,13 +122,13 @@ fn frame(alloc: Global, packet: &PacketSpec) -> Result<Bytes, NoMemory>
 }
 
 // A place that is one of so many.
-fn place_among(places: u32, place: u64) -> Result<u32, Stop>
+fn place_among(places: u32, place: u64) -> Result<u32, StepStop>
     ensures place { result ≡ place_among places place }
     ensures among { IfOk result (IsAmong places) }
 {
     if 1 <= place && place <= places as u64 {
         Ok(place as u32)
     } else {
-        Err(Stop::Refused(ScriptRefusal::Switch))
+        Err(StepStop::Refused(ScriptRefusal::Switch))
     }
 }

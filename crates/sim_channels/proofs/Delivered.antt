@@ -12,7 +12,7 @@ use Rattle.sim_steps.specs.Parts.{IsHeardOut}
 use Rattle.sim_steps.specs.Stretches.{Carried}
 use Rattle.sim_steps.proofs.Joining.{carried_none, carried_then}
 use Rattle.sim_channels.specs.declared.channel.Channel.{Channel}
-use Rattle.sim_channels.specs.declared.channel.Stage.TheVariants.{Plugged}
+use Rattle.sim_channels.specs.declared.channel.Plugging.TheVariants.{Plugged}
 use Rattle.sim_channels.specs.declared.driver.Driver.{Driver}
 use Rattle.sim_channels.specs.Channels.{CarriedOver, Fits, bench}
 use Rattle.sim_channels.specs.Delivering.{Delivers, GoesOn, IsPluggedIn, MayGoOn, Spares, TakesOut}

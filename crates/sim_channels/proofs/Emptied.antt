@@ -17,7 +17,7 @@ use Rattle.sim_steps.specs.Deeds.{GetsMessages}
 use Rattle.sim_steps.specs.Stretches.{Carried}
 use Rattle.sim_steps.proofs.Moments.{carried_entry}
 use Rattle.sim_channels.specs.declared.channel.Channel.{Channel}
-use Rattle.sim_channels.specs.declared.channel.Stage.TheVariants.{Plugged}
+use Rattle.sim_channels.specs.declared.channel.Plugging.TheVariants.{Plugged}
 use Rattle.sim_channels.specs.declared.driver.Driver.{Driver}
 use Rattle.sim_channels.specs.Channels.{IsKept, bench, slot_by, slots_of}
 use Rattle.sim_channels.specs.Delivering.{TakesOut}

@@ -13,7 +13,7 @@ use Rattle.world_steps.specs.Worlds.{lacks_memory}
 use Rattle.sim_steps.specs.Benches.{is_plugged}
 use Rattle.sim_steps.specs.Deeds.{IsSmooth}
 use Rattle.sim_channels.specs.declared.channel.Channel.{Channel}
-use Rattle.sim_channels.specs.declared.channel.Stage.TheVariants.{Left, Plugged}
+use Rattle.sim_channels.specs.declared.channel.Plugging.TheVariants.{Left, Plugged}
 use Rattle.sim_channels.specs.declared.driver.Driver.{Driver}
 use Rattle.sim_channels.specs.Channels.{IsKept, slots_of}
 use Rattle.sim_channels.specs.Delivering.{Leaves}

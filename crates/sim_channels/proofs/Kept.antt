@@ -16,8 +16,8 @@ use Rattle.machine_steps.specs.Steps.{Steps}
 use Rattle.sim_steps.specs.Benches.{is_plugged}
 use Rattle.sim_steps.specs.Parts.{IsHeardOut}
 use Rattle.sim_channels.specs.declared.channel.Channel.{Channel}
-use Rattle.sim_channels.specs.declared.channel.Stage.{Stage}
-use Rattle.sim_channels.specs.declared.channel.Stage.TheVariants.{Left, Plugged, Unplugged}
+use Rattle.sim_channels.specs.declared.channel.Plugging.{Plugging}
+use Rattle.sim_channels.specs.declared.channel.Plugging.TheVariants.{Left, Plugged, Unplugged}
 use Rattle.sim_channels.specs.declared.driver.Driver.{Driver}
 use Rattle.sim_channels.specs.Channels.{Fits, IsFresh, IsKept, IsStaged, is_plugged_in, was_plugged_in}
 use Rattle.sim_channels.specs.Delivering.{Spares}
@@ -69,7 +69,7 @@ module _ (at : ℕ) (old mid : Driver) (k : Channel) (there : slice_get old.chan
 pub plugged_at : (driver : Driver) (at : ℕ) (k : Channel) → IsKept driver → slice_get driver.channels.items at ≡ Some k → k.stage ≡ Plugged → is_plugged (at + 1) driver.core ≡ true
 plugged_at driver at k kept there plugged = (kept.stages at k there).plugged ∙ ap is_plugged_in plugged
 
-pub staged : (c : ℕ) (m n : State) (stage : Stage) → is_plugged c n ≡ is_plugged c m → was_opened c n ≡ was_opened c m → IsStaged c m stage → IsStaged c n stage
+pub staged : (c : ℕ) (m n : State) (stage : Plugging) → is_plugged c n ≡ is_plugged c m → was_opened c n ≡ was_opened c m → IsStaged c m stage → IsStaged c n stage
 staged c m n stage p o h = record { plugged = p ∙ h.plugged; opened = o ∙ h.opened }
 
 -- where one channel became another, by the stage of that one and of those beside it
@@ -124,7 +124,7 @@ module _ (laws : DrivingLaws) (old new : Driver) (entry : Entry) (reply : Reply)
     still_plugged : (c : ℕ) → is_plugged c new.core ≡ is_plugged c old.core
     still_plugged c = plugged_same laws old.core entry reply new.core kept.reached steps opens c (no_end c)
 
-    still_staged : (c : ℕ) (stage : Stage) → IsStaged c old.core stage → IsStaged c new.core stage
+    still_staged : (c : ℕ) (stage : Plugging) → IsStaged c old.core stage → IsStaged c new.core stage
     still_staged c stage h = staged c old.core new.core stage (still_plugged c) (opened_same laws old.core entry reply new.core kept.reached steps opens c) h
 
     -- and no channel changes

@@ -17,7 +17,7 @@ use Rattle.sim_steps.specs.Benches.{MovesAt, is_plugged}
 use Rattle.sim_steps.specs.Deeds.{CallsAt, CallsSlot}
 use Rattle.sim_steps.proofs.Moments.{carried_call, carried_failed}
 use Rattle.sim_channels.specs.declared.channel.Channel.{Channel}
-use Rattle.sim_channels.specs.declared.channel.Stage.TheVariants.{Plugged}
+use Rattle.sim_channels.specs.declared.channel.Plugging.TheVariants.{Plugged}
 use Rattle.sim_channels.specs.declared.driver.Driver.{Driver}
 use Rattle.sim_channels.specs.Channels.{Fits, IsKept, bench, slots_of}
 use Rattle.sim_channels.specs.Delivering.{CanOffer, Delivers, GoesOn, IsPluggedIn, Leaves, OffersFirst, Spares, left_in, offers_left, took_by}

@@ -15,7 +15,7 @@ use Rattle.sim_steps.specs.Benches.{is_plugged, opening_bench, slot_of}
 use Rattle.sim_steps.specs.Parts.{IsHeardOut}
 use Rattle.sim_steps.specs.Showing.{AllIdle}
 use Rattle.sim_channels.specs.declared.channel.Channel.{Channel}
-use Rattle.sim_channels.specs.declared.channel.Stage.TheVariants.{Plugged, Unplugged}
+use Rattle.sim_channels.specs.declared.channel.Plugging.TheVariants.{Plugged, Unplugged}
 use Rattle.sim_channels.specs.declared.driver.Driver.{Driver}
 use Rattle.sim_channels.specs.Channels.{Fits, IsKept, IsStaged, bench, slot_by, slots_of}
 use Rattle.sim_channels.specs.Delivering.{IsUnused}

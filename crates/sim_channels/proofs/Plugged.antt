@@ -14,8 +14,8 @@ use Rattle.machine_steps.specs.Steps.{Steps}
 use Rattle.world_steps.specs.Worlds.{lacks_memory}
 use Rattle.sim_steps.specs.Benches.{is_plugged}
 use Rattle.sim_channels.specs.declared.channel.Channel.{Channel}
-use Rattle.sim_channels.specs.declared.channel.Stage.{Stage}
-use Rattle.sim_channels.specs.declared.channel.Stage.TheVariants.{Left, Plugged, Unplugged}
+use Rattle.sim_channels.specs.declared.channel.Plugging.{Plugging}
+use Rattle.sim_channels.specs.declared.channel.Plugging.TheVariants.{Left, Plugged, Unplugged}
 use Rattle.sim_channels.specs.declared.driver.Driver.{Driver}
 use Rattle.sim_channels.specs.Channels.{IsKept, IsStaged, was_plugged_in}
 use Rattle.sim_channels.specs.Driving.{DrivingLaws}
@@ -23,7 +23,7 @@ use Rattle.sim_channels.proofs.Keeping.{opened_same, plugged_same, policy_same, 
 use Rattle.sim_channels.proofs.Kept.{ChannelAt, fresh_but, is_as_long, staged, stages_but}
 
 -- the stage of a place that was opened now, in vain or not
-abbrev pub stage_by : Bool → Stage
+abbrev pub stage_by : Bool → Plugging
 stage_by true = Left
 stage_by false = Plugged
 

@@ -11,14 +11,14 @@ use Rattle.sim_steps.specs.Benches.{IsPluggedAt, Slot, is_plugged}
 use Rattle.sim_steps.specs.Deeds.Deed.{Enters}
 use Rattle.sim_steps.specs.Parts.{HearsInOrder, IsHeardOut, IsStill}
 use Rattle.sim_channels.specs.declared.channel.Channel.{Channel}
-use Rattle.sim_channels.specs.declared.channel.Stage.{Stage}
-use Rattle.sim_channels.specs.declared.channel.Stage.TheVariants.{Left, Plugged, Unplugged}
+use Rattle.sim_channels.specs.declared.channel.Plugging.{Plugging}
+use Rattle.sim_channels.specs.declared.channel.Plugging.TheVariants.{Left, Plugged, Unplugged}
 use Rattle.sim_channels.specs.declared.driver.Driver.{Driver}
 use Rattle.sim_channels.specs.Channels.{Fits, IsKept, bench, is_plugged_in}
 use Rattle.sim_channels.specs.Waiting.{IsAtRest, IsOffered}
 use Rattle.sim_channels.proofs.Slots.{SlotBy, slots_found}
 
-pub plugged_in : (stage : Stage) → is_plugged_in stage ≡ true → stage ≡ Plugged
+pub plugged_in : (stage : Plugging) → is_plugged_in stage ≡ true → stage ≡ Plugged
 plugged_in Unplugged e = absurd (cc)
 plugged_in Plugged e = refl
 plugged_in Left e = absurd (cc)

@@ -11,8 +11,8 @@ use Rattle.machine_steps.specs.Sound.{AreInRange}
 use Rattle.sim_steps.specs.Benches.{Slot, Bench, is_plugged}
 use Rattle.sim_steps.specs.Stretches.{Carried}
 use Rattle.sim_channels.specs.declared.channel.Channel.{Channel}
-use Rattle.sim_channels.specs.declared.channel.Stage.{Stage}
-use Rattle.sim_channels.specs.declared.channel.Stage.TheVariants.{Unplugged, Plugged}
+use Rattle.sim_channels.specs.declared.channel.Plugging.{Plugging}
+use Rattle.sim_channels.specs.declared.channel.Plugging.TheVariants.{Unplugged, Plugged}
 use Rattle.sim_channels.specs.declared.driver.Driver.{Driver}
 
 -- ---- the bench
@@ -32,16 +32,16 @@ bench driver devices = record { machine = driver.core; slots = slots_of driver.c
 -- ---- what is kept
 
 -- the session of a connection is open; it was opened
-abbrev pub is_plugged_in : Stage → Bool
+abbrev pub is_plugged_in : Plugging → Bool
 is_plugged_in Plugged = true
 is_plugged_in stage = false
 
-abbrev pub was_plugged_in : Stage → Bool
+abbrev pub was_plugged_in : Plugging → Bool
 was_plugged_in Unplugged = false
 was_plugged_in stage = true
 
 -- the stage of the channel with this number is that of the session
-pub record IsStaged (c : ℕ) (m : State) (stage : Stage) : Type 0 where
+pub record IsStaged (c : ℕ) (m : State) (stage : Plugging) : Type 0 where
   pub plugged : is_plugged c m ≡ is_plugged_in stage
   pub opened : was_opened c m ≡ was_plugged_in stage
 

@@ -5,7 +5,7 @@ use Rattle.machine_steps.specs.Machine.{session_at}
 use Rattle.world_steps.specs.Worlds.{messages_for}
 use Rattle.sim_steps.specs.Parts.{IsHeardOut}
 use Rattle.sim_channels.specs.declared.channel.Channel.{Channel}
-use Rattle.sim_channels.specs.declared.channel.Stage.TheVariants.{Plugged}
+use Rattle.sim_channels.specs.declared.channel.Plugging.TheVariants.{Plugged}
 use Rattle.sim_channels.specs.declared.driver.Driver.{Driver}
 
 -- it holds of the channel with this index, where its session is open

@@ -4,7 +4,7 @@ use of10_stream::Reassembly;
 
 /// Whether the device at a place is plugged in.
 #[derive(Clone, Copy, Debug, PartialEq, Eq)]
-pub enum Stage {
+pub enum Plugging {
     /// It never was.
     Unplugged,
     /// Its session is open.
@@ -16,7 +16,7 @@ pub enum Stage {
 /// What lies between the machine and the device at a place (OpenFlow 1.0, 4.1, the channel).
 #[derive(Drop)]
 pub struct Channel {
-    pub stage: Stage,
+    pub stage: Plugging,
     /// What was taken out for the device, and wasn't offered to it yet.
     pub to: Block,
     /// What the device appended, behind the messages that were heard.

@@ -6,7 +6,7 @@ ghost use Rattle.sim_channels.specs.Delivering.{Delivers, IsPluggedIn};
 ghost use Rattle.sim_channels.specs.Waiting.{IsAtRest, IsHeard, IsHeardThrough, IsOffered, IsTaken, StaysBut};
 
 use crate::laws::driving_laws;
-use crate::{Driver, Stage};
+use crate::{Driver, Plugging};
 use device_port::Device;
 use maple_base::NoMemory;
 
@@ -30,8 +30,8 @@ impl Driver {
         ensures jobs { OnOk result (self.old.core.jobs ≡ [] → self.new.core.jobs ≡ []) }
     {
         match self.channels[at].stage {
-            Stage::Plugged => self.deliver_plugged(devices, at),
-            Stage::Unplugged | Stage::Left => Ok(()),
+            Plugging::Plugged => self.deliver_plugged(devices, at),
+            Plugging::Unplugged | Plugging::Left => Ok(()),
         }
     }
 

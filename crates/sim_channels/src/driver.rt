@@ -10,7 +10,7 @@ ghost use Rattle.sim_channels.specs.Delivering.{IsUnused};
 ghost use Rattle.sim_channels.specs.Waiting.{IsAtRest};
 
 use crate::outbox::{connection_of, messages_for};
-use crate::{Channel, Stage};
+use crate::{Channel, Plugging};
 use core_machine::Core;
 use device_port::Device;
 use maple_base::{Bytes, NoMemory, Settings};
@@ -77,7 +77,7 @@ fn unplugged(alloc: Global, core: &Core, count: usize) -> Result<Vec<Channel>, N
     let mut channels = Vec::new(alloc);
     for at in 0..count {
         channels.push(Channel {
-            stage: Stage::Unplugged,
+            stage: Plugging::Unplugged,
             to: Block::new(
                 Bytes::new(Vec::new(alloc)),
                 messages_for(core, &connection_of(at)),

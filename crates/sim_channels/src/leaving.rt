@@ -4,7 +4,7 @@ ghost use Rattle.sim_channels.specs.Delivering.{IsPluggedIn, Leaves};
 
 use crate::laws::driving_laws;
 use crate::outbox::connection_of;
-use crate::{Driver, Stage};
+use crate::{Driver, Plugging};
 use core_machine::Entry;
 
 impl Driver {
@@ -20,6 +20,6 @@ impl Driver {
             connection: connection_of(at),
             fault: true,
         });
-        self.channels[at].stage = Stage::Left;
+        self.channels[at].stage = Plugging::Left;
     }
 }

@@ -11,7 +11,7 @@ mod offering;
 mod outbox;
 mod taking;
 
-pub use channel::{Channel, Stage};
+pub use channel::{Channel, Plugging};
 pub use driver::Driver;
 pub use laws::driving_laws;
 pub use outbox::connection_of;

@@ -23,7 +23,7 @@ use Rattle.sim_steps.specs.Stretches.{Carried, Obeyed}
 use Rattle.sim_steps.proofs.Joining.{carried_behind, obeyed}
 use Rattle.sim_steps.proofs.Moments.{called, stretch_call, stretch_failed}
 use Rattle.sim_channels.specs.declared.channel.Channel.{Channel}
-use Rattle.sim_channels.specs.declared.channel.Stage.TheVariants.{Unplugged, Plugged}
+use Rattle.sim_channels.specs.declared.channel.Plugging.TheVariants.{Unplugged, Plugged}
 use Rattle.sim_channels.specs.declared.driver.Driver.{Driver}
 use Rattle.sim_channels.specs.Channels.{Fits, IsKept, bench, slots_of}
 use Rattle.sim_channels.specs.Delivering.{IsPluggedIn, Leaves}

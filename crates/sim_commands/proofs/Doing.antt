@@ -17,8 +17,8 @@ use Rattle.sim_steps.specs.Deeds.{Event, MayNote}
 use Rattle.sim_steps.specs.Parts.{IfPlugged, JustEnters, JustNotes, Obeys, PlugsBy}
 use Rattle.sim_steps.specs.Stretches.{Carried, Obeyed}
 use Rattle.sim_channels.specs.declared.channel.Channel.{Channel}
-use Rattle.sim_channels.specs.declared.channel.Stage.{Stage}
-use Rattle.sim_channels.specs.declared.channel.Stage.TheVariants.{Plugged}
+use Rattle.sim_channels.specs.declared.channel.Plugging.{Plugging}
+use Rattle.sim_channels.specs.declared.channel.Plugging.TheVariants.{Plugged}
 use Rattle.sim_channels.specs.declared.driver.Driver.{Driver}
 use Rattle.sim_channels.specs.Channels.{Fits, IsKept, IsStaged, bench, is_plugged_in}
 use Rattle.sim_channels.specs.Waiting.{IsAtRest, StaysBut}
@@ -47,7 +47,7 @@ pub staged_at : {B : Type 0} (f : B → Meaning) (d : Driver) (devices : List B)
     → k ≡ get_or d.channels.items at k → IsStaged c d.core k.stage
 staged_at f d devices c at k fits among place is = staged_there d c at k fits.kept (among.0, (let few = among.1 in let same = fits.places ∙ length-map devices f in omega arith)) place is
 
-pub others_closed : (stage : Stage) → (stage ≡ Plugged → ⊥) → is_plugged_in stage ≡ false
+pub others_closed : (stage : Plugging) → (stage ≡ Plugged → ⊥) → is_plugged_in stage ≡ false
 others_closed Plugged other = absurd (other refl)
 others_closed stage other = refl
 

@@ -7,7 +7,7 @@ use Rattle.std.proofs.lemmas.Option.{slice_get_within, slice_get-get_or}
 use Rattle.device_port.specs.Devices.{Meaning}
 use Rattle.machine_steps.specs.Machine.{session_at}
 use Rattle.sim_channels.specs.declared.channel.Channel.{Channel}
-use Rattle.sim_channels.specs.declared.channel.Stage.{Stage}
+use Rattle.sim_channels.specs.declared.channel.Plugging.{Plugging}
 use Rattle.sim_channels.specs.declared.driver.Driver.{Driver}
 use Rattle.sim_channels.specs.Channels.{Fits, IsKept, bench, slots_of}
 use Rattle.sim_channels.specs.Driving.{DrivingLaws}
@@ -32,7 +32,7 @@ there_too {X} {Y} xs ys at y same e = within xs at (let h = slice_get_within ys 
     within (z ∷ zs) (suc n) h = within zs n (omega (arith, h))
 
 -- a channel's stage is written
-pub restaged : (d : Driver) (at : ℕ) (stage : Stage) (k : Channel) → at < length d.channels.items → k ≡ get_or d.channels.items at k → (e : Driver) → e ≡ record d { channels = e.channels }
+pub restaged : (d : Driver) (at : ℕ) (stage : Plugging) (k : Channel) → at < length d.channels.items → k ≡ get_or d.channels.items at k → (e : Driver) → e ≡ record d { channels = e.channels }
     → e.channels.items ≡ set d.channels.items at (record k { stage = stage }) → Restages at stage d e
 restaged d at stage k within is e rest sets =
     let there : slice_get d.channels.items at ≡ Some k = slice_get-get_or d.channels.items at k within ∙ ap Some (sym is) in

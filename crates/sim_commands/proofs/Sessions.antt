@@ -15,8 +15,8 @@ use Rattle.world_steps.specs.Worlds.{lacks_memory}
 use Rattle.sim_steps.specs.Benches.{Slot, is_plugged, slot_at}
 use Rattle.sim_steps.specs.Deeds.{MayEnter}
 use Rattle.sim_channels.specs.declared.channel.Channel.{Channel}
-use Rattle.sim_channels.specs.declared.channel.Stage.{Stage}
-use Rattle.sim_channels.specs.declared.channel.Stage.TheVariants.{Left, Plugged, Unplugged}
+use Rattle.sim_channels.specs.declared.channel.Plugging.{Plugging}
+use Rattle.sim_channels.specs.declared.channel.Plugging.TheVariants.{Left, Plugged, Unplugged}
 use Rattle.sim_channels.specs.declared.driver.Driver.{Driver}
 use Rattle.sim_channels.specs.Channels.{Fits, IsKept, bench, slots_of, was_plugged_in}
 use Rattle.sim_channels.specs.Delivering.{IsPluggedIn}
@@ -40,7 +40,7 @@ ends_now old c fault reply new (inl (found, (r, e))) plugged = (let no : false �
 ends_now old c fault reply new (inr (t, found, r, e)) plugged = ap is_end r
 
 -- the machine was given an entry, and then a channel has another stage
-module _ (laws : DrivingLaws) (d m e : Driver) (at : ℕ) (stage : Stage) (kept : IsKept d) (same : m ≡ record d { core = m.core }) (r : Restages at stage m e) where
+module _ (laws : DrivingLaws) (d m e : Driver) (at : ℕ) (stage : Plugging) (kept : IsKept d) (same : m ≡ record d { core = m.core }) (r : Restages at stage m e) where
   abbrev K : Channel
   K = r.channel
 

@@ -15,8 +15,8 @@ use Rattle.sim_steps.specs.Deeds.Deed.{Calls}
 use Rattle.sim_steps.specs.Stretches.{Obeyed, Stretch}
 use Rattle.sim_channels.specs.Channels.{Fits, IsKept, bench, slot_by}
 use Rattle.sim_channels.specs.declared.channel.Channel.{Channel}
-use Rattle.sim_channels.specs.declared.channel.Stage.{Stage}
-use Rattle.sim_channels.specs.declared.channel.Stage.TheVariants.{Left, Plugged, Unplugged}
+use Rattle.sim_channels.specs.declared.channel.Plugging.{Plugging}
+use Rattle.sim_channels.specs.declared.channel.Plugging.TheVariants.{Left, Plugged, Unplugged}
 use Rattle.sim_channels.specs.declared.driver.Driver.{Driver}
 use Rattle.sim_channels.specs.Waiting.{IsAtRestBut, StaysBut}
 use Rattle.sim_channels.specs.Delivering.{IsPluggedIn}
@@ -30,12 +30,12 @@ pub record IsUnplugged (at : ℕ) (driver : Driver) : Type 0 where
   pub unplugged : channel.stage ≡ Unplugged
 
 -- the stage where a session was to be opened, by whether it ended at once
-abbrev pub stage_behind : Bool → Stage
+abbrev pub stage_behind : Bool → Plugging
 stage_behind true = Left
 stage_behind false = Plugged
 
 -- the channel with this index has this stage from now on, which no bench shows
-pub record Restages (at : ℕ) (stage : Stage) (old new : Driver) : Type 0 where
+pub record Restages (at : ℕ) (stage : Plugging) (old new : Driver) : Type 0 where
   pub rest : new ≡ record old { channels = new.channels }
   pub channel : Channel
   pub there : slice_get old.channels.items at ≡ Some channel

@@ -15,7 +15,7 @@ use crate::staging::index_of;
 use core_machine::{Entry, Note, Reply};
 use device_port::Device;
 use maple_base::{Bytes, NoMemory, Seen};
-use sim_channels::{Channel, Driver, Stage, connection_of, driving_laws};
+use sim_channels::{Channel, Driver, Plugging, connection_of, driving_laws};
 use sim_turns::attend::attend;
 use sim_turns::note;
 use std::alloc::Global;
@@ -43,7 +43,7 @@ pub(crate) fn arrive<D: Device>(
 {
     let at = index_of(place);
     match driver.channels[at].stage {
-        Stage::Plugged => {
+        Plugging::Plugged => {
             look(driver, devices, at, port, frame)?;
             attend(driver, devices, at)
         }

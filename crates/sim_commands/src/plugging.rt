@@ -14,7 +14,7 @@ use crate::staging::{index_of, set_stage};
 use core_machine::{Entry, Note, Reply};
 use device_port::Device;
 use maple_base::NoMemory;
-use sim_channels::{Driver, Stage, driving_laws};
+use sim_channels::{Driver, Plugging, driving_laws};
 use sim_turns::{ask, note};
 
 /// A session is opened for the device at a place, and what the machine has for it then is given to it.
@@ -38,9 +38,9 @@ pub(crate) fn plug<D: Device>(
     driving_laws();
     let at = index_of(place);
     match driver.channels[at].stage {
-        Stage::Plugged => note(driver, Note::Present(place)),
-        Stage::Left => note(driver, Note::GoneAlready(place)),
-        Stage::Unplugged => {
+        Plugging::Plugged => note(driver, Note::Present(place)),
+        Plugging::Left => note(driver, Note::GoneAlready(place)),
+        Plugging::Unplugged => {
             open(driver, at, place)?;
             driver.deliver(devices, at)
         }
@@ -62,7 +62,7 @@ pub(crate) fn unplug(driver: &mut Driver, place: u32) -> Result<(), NoMemory>
 {
     let at = index_of(place);
     match driver.channels[at].stage {
-        Stage::Plugged => close(driver, at, place),
+        Plugging::Plugged => close(driver, at, place),
         _ => note(driver, Note::Absent(place)),
     }
 }
@@ -84,12 +84,12 @@ fn open(driver: &mut Driver, at: usize, place: u32) -> Result<(), NoMemory>
     Ok(())
 }
 
-fn stage_behind(reply: &Reply) -> Stage
+fn stage_behind(reply: &Reply) -> Plugging
     ensures { result ≡ stage_behind (is_end reply.now) }
 {
     match reply {
-        Reply::Ended(_) => Stage::Left,
-        _ => Stage::Plugged,
+        Reply::Ended(_) => Plugging::Left,
+        _ => Plugging::Plugged,
     }
 }
 
@@ -111,6 +111,6 @@ fn close(driver: &mut Driver, at: usize, place: u32) -> Result<(), NoMemory>
             fault: false,
         },
     )?;
-    set_stage(driver, at, Stage::Left);
+    set_stage(driver, at, Plugging::Left);
     Ok(())
 }

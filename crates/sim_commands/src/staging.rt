@@ -3,7 +3,7 @@ ghost use Rattle.std.specs.Prelude.{◌≡◌, ◌+◌, ◌<◌, ◌≤◌, leng
 ghost use Rattle.script_text.specs.Steps.{IsAmong};
 ghost use Rattle.sim_commands.specs.Commands.{Restages};
 
-use sim_channels::{Driver, Stage};
+use sim_channels::{Driver, Plugging};
 
 /// The index of a place.
 pub(crate) fn index_of(place: u32) -> usize
@@ -14,7 +14,7 @@ pub(crate) fn index_of(place: u32) -> usize
 }
 
 /// The channel with this index has this stage from now on.
-pub(crate) fn set_stage(driver: &mut Driver, at: usize, stage: Stage)
+pub(crate) fn set_stage(driver: &mut Driver, at: usize, stage: Plugging)
     requires { at < length driver.old.channels.items }
     ensures { Restages at stage driver.old driver.new }
 {

@@ -12,7 +12,7 @@ use maple_base::Settings;
 use maple_io::{PutStop, Sink};
 use policy_lang::Policy;
 use report_text::ScriptRefusal;
-use script_text::{Stop, next_order};
+use script_text::{StepStop, next_order};
 use sim_channels::Driver;
 use sim_laws::{agreeing_laws, world_law};
 use std::alloc::Global;
@@ -106,9 +106,9 @@ fn run_lines<D: Device, O: Sink>(
     while !rest.is_empty() {
         let next = match next_order(alloc, rest, places) {
             Ok(next) => next,
-            Err(Stop::End) => return SimEnd::Done,
-            Err(Stop::Refused(kind)) => return SimEnd::Script { line, kind },
-            Err(Stop::NoMemory) => return SimEnd::NoMemory,
+            Err(StepStop::End) => return SimEnd::Done,
+            Err(StepStop::Refused(kind)) => return SimEnd::Script { line, kind },
+            Err(StepStop::NoMemory) => return SimEnd::NoMemory,
         };
         match follow(driver, devices, next.step, next.text, to) {
             Ok(()) => {}

@@ -2,7 +2,7 @@
 use env_cells::Update;
 use maple_base::NoMemory;
 use report_text::ScriptRefusal;
-use script_text::{Next, Step, Stop, next_order};
+use script_text::{Next, Step, StepStop, next_order};
 use std::alloc::{AllocError, Global};
 use std::test::Fail;
 
@@ -54,9 +54,9 @@ fn shown_script(alloc: Global, script: &[u8]) -> Result<String, NoMemory> {
                 number += next.passed;
                 rest = next.rest;
             }
-            Err(Stop::End) => return ended(text, number, "quits"),
-            Err(Stop::Refused(kind)) => return refused(text, number, kind),
-            Err(Stop::NoMemory) => return Err(NoMemory),
+            Err(StepStop::End) => return ended(text, number, "quits"),
+            Err(StepStop::Refused(kind)) => return refused(text, number, kind),
+            Err(StepStop::NoMemory) => return Err(NoMemory),
         }
     }
     ended(text, number, "ends")

@@ -30,7 +30,7 @@ use Rattle.sim_steps.proofs.Moments.{carried_heard}
 use Rattle.sim_steps.proofs.Silent.{IsSilentWhole, carried_along, is_silent}
 use Rattle.sim_jobs.specs.Works.{AnswersWhole, IsOfAnswer, Works}
 use Rattle.sim_channels.specs.declared.channel.Channel.{Channel}
-use Rattle.sim_channels.specs.declared.channel.Stage.TheVariants.{Left}
+use Rattle.sim_channels.specs.declared.channel.Plugging.TheVariants.{Left}
 use Rattle.sim_channels.specs.declared.driver.Driver.{Driver}
 use Rattle.sim_channels.specs.Channels.{CarriedOver, IsKept, bench, slot_by, slots_of}
 use Rattle.sim_channels.specs.Driving.{DrivingLaws}

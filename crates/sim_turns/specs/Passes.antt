@@ -11,7 +11,7 @@ use Rattle.sim_steps.specs.Parts.{IsHeardOut}
 use Rattle.sim_channels.specs.Channels.{CarriedOver, IsKept}
 use Rattle.sim_channels.specs.Waiting.{IsHeard, IsOffered, StaysBut}
 use Rattle.sim_channels.specs.declared.channel.Channel.{Channel}
-use Rattle.sim_channels.specs.declared.channel.Stage.TheVariants.{Plugged, Left}
+use Rattle.sim_channels.specs.declared.channel.Plugging.TheVariants.{Plugged, Left}
 use Rattle.sim_channels.specs.declared.driver.Driver.{Driver}
 use Rattle.sim_turns.specs.Hearing.{KeepsChannels}
 use Rattle.sim_turns.specs.declared.hear.Came.{Came}

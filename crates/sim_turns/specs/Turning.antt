@@ -13,7 +13,7 @@ use Rattle.sim_steps.specs.Parts.{asks}
 use Rattle.sim_steps.specs.Stretches.{Stretch}
 use Rattle.sim_channels.specs.Channels.{Fits, bench}
 use Rattle.sim_channels.specs.declared.channel.Channel.{Channel}
-use Rattle.sim_channels.specs.declared.channel.Stage.TheVariants.{Plugged}
+use Rattle.sim_channels.specs.declared.channel.Plugging.TheVariants.{Plugged}
 use Rattle.sim_channels.specs.declared.driver.Driver.{Driver}
 
 -- a script asks for this entry

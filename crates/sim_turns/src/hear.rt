@@ -9,7 +9,7 @@ ghost use Rattle.sim_turns.specs.Passes.{Follows, Passed, Takes, came_of};
 use core_machine::{Entry, Input, Reply};
 use maple_base::NoMemory;
 use of10_stream::Next;
-use sim_channels::{Channel, Driver, Stage, connection_of, driving_laws};
+use sim_channels::{Channel, Driver, Plugging, connection_of, driving_laws};
 use sim_jobs::work::work;
 
 /// What came from a device.
@@ -72,7 +72,7 @@ fn hear_next(driver: &mut Driver, at: usize) -> Result<Came, NoMemory>
 fn next_input(channel: &mut Channel) -> Result<Option<Input>, NoMemory>
     ensures { IfOk result (λ found. Takes found channel.old channel.new) }
 {
-    if channel.stage != Stage::Plugged {
+    if channel.stage != Plugging::Plugged {
         return Ok(None);
     }
     match channel.from.next() {
@@ -98,7 +98,7 @@ fn follow(driver: &mut Driver, at: usize, reply: Reply) -> Result<Came, NoMemory
             Ok(Came::Message)
         }
         Reply::Ended(_) => {
-            driver.channels[at].stage = Stage::Left;
+            driver.channels[at].stage = Plugging::Left;
             Ok(Came::NoMore)
         }
         Reply::NewState { .. } => Ok(Came::State),

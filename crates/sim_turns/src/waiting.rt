@@ -5,7 +5,7 @@ ghost use Rattle.sim_channels.specs.Channels.{IsKept, is_plugged_in};
 ghost use Rattle.sim_turns.specs.Taking.{IsLowest, waits_in};
 ghost use Rattle.sim_turns.specs.Turning.{Waits};
 
-use sim_channels::{Channel, Driver, Stage};
+use sim_channels::{Channel, Driver, Plugging};
 
 /// Whether the session of the device with this index is open.
 pub(crate) fn is_plugged_at(driver: &Driver, at: usize) -> bool
@@ -19,7 +19,7 @@ pub(crate) fn is_plugged_at(driver: &Driver, at: usize) -> bool
 fn is_plugged(channel: &Channel) -> bool
     ensures { result ≡ is_plugged_in channel.now.stage }
 {
-    channel.stage == Stage::Plugged
+    channel.stage == Plugging::Plugged
 }
 
 /// Whether a message waits in the device, and its session is open.

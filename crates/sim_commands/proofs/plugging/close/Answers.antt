@@ -1,5 +1,5 @@
 use Rattle.std.proofs.Common.{false, refl}
-use Rattle.sim_channels.specs.declared.channel.Stage.TheVariants.{Left}
+use Rattle.sim_channels.specs.declared.channel.Plugging.TheVariants.{Left}
 use Rattle.sim_commands.proofs.Asking.{asks_for}
 use Rattle.sim_commands.proofs.Sessions.{closed, may_close, rest_left}
 use Rattle.sim_commands.proofs.plugging.close.Goals as goal

@@ -3,7 +3,7 @@ use Rattle.std.specs.Vec.{with_item}
 use Rattle.machine_steps.specs.declared.entry.Entry.TheVariants.{Gone}
 use Rattle.machine_steps.specs.Steps.{Steps}
 use Rattle.sim_channels.specs.declared.channel.Channel.{Channel}
-use Rattle.sim_channels.specs.declared.channel.Stage.TheVariants.{Left}
+use Rattle.sim_channels.specs.declared.channel.Plugging.TheVariants.{Left}
 use Rattle.sim_channels.specs.declared.driver.Driver.{Driver}
 use Rattle.sim_channels.proofs.Ended.{leaves}
 use Rattle.sim_channels.proofs.Kept.{channel_at, channel_read}
