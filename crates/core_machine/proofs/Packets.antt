@@ -7,7 +7,7 @@ use Rattle.maple_base.specs.declared.no_memory.NoMemory.{NoMemory}
 use Rattle.maple_base.specs.declared.update_refused.UpdateRefused.{UpdateRefused}
 use Rattle.env_cells.specs.declared.updates.Update.{Update}
 use Rattle.env_cells.specs.Refusals.{refusal_of, HasRoomForTables}
-use Rattle.switch_session.specs.Parts.{no_buffer}
+use Rattle.maple_base.specs.OpenFlow.{no_buffer}
 use Rattle.machine_steps.specs.declared.job.Job.{Job}
 use Rattle.machine_steps.specs.declared.reply.Reply.{Reply}
 use Rattle.machine_steps.specs.declared.reply.Reply.TheVariants.{Job as JobOpened}

@@ -5,7 +5,7 @@ use Rattle.env_cells.specs.declared.updates.Update.{Update}
 use Rattle.env_cells.specs.declared.updates.Update.TheVariants.{Host}
 use Rattle.env_cells.specs.Refusals.{refusal_of}
 use Rattle.report_text.specs.declared.line.Line.TheVariants as lines
-use Rattle.switch_session.specs.Parts.{no_buffer}
+use Rattle.maple_base.specs.OpenFlow.{no_buffer}
 use Rattle.machine_steps.specs.declared.reply.Reply.{Reply}
 use Rattle.machine_steps.specs.declared.reply.Reply.TheVariants.{Overload, Job as JobOpened}
 use Rattle.machine_steps.specs.declared.job.Job.{Job}

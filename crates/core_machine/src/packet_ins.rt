@@ -4,7 +4,7 @@ ghost use Rattle.std.specs.List.{list_all};
 ghost use Rattle.maple_base.specs.declared.cells.Value.TheVariants.{At};
 ghost use Rattle.maple_base.specs.Keys.{valid_key};
 ghost use Rattle.env_cells.specs.Refusals.{refusal_of, HasRoomForTables};
-ghost use Rattle.switch_session.specs.Parts.{no_buffer};
+ghost use Rattle.maple_base.specs.OpenFlow.{no_buffer};
 ghost use Rattle.tree_prune.specs.Current.{same_value};
 ghost use Rattle.machine_steps.specs.Sound.{IsSound};
 ghost use Rattle.machine_steps.specs.Steps.{begins_at, entry_of, is_individual, is_too_big, teaches};
@@ -17,14 +17,12 @@ use env_cells::{Update, UpdateError};
 use machine_parts::Parts;
 use machine_parts::shared::{next_number, tell};
 use machine_steps::{Job, JobItem, Reply};
+use maple_base::openflow::NO_BUFFER;
 use maple_base::{Bytes, Cell, EnvNow, Key, NoMemory, Place, Value, is_port};
 use packet_key::key_of;
 use report_text::Line;
 use std::alloc::Global;
 use topo_paths::Scene;
-
-// The buffer of a packet that the switch keeps no bytes of (OpenFlow 1.0, 5.4.1).
-const NO_BUFFER: u32 = 0xffff_ffff;
 
 // The most bytes of a packet that is sent back whole.
 const MOST_SENT_BACK: usize = 65_391;

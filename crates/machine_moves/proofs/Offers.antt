@@ -16,7 +16,8 @@ use Rattle.of10_codec.specs.Laws.{Spells, has_bits, actions_have_bits, body_has_
 use Rattle.of10_codec.proofs.Lengths.{length_packet_out, length_flow_mod}
 use Rattle.device_port.specs.Devices.{IsOfController}
 use Rattle.device_port.specs.Switches.{change_of}
-use Rattle.switch_session.specs.Parts.{no_buffer, no_port, add_command, delete_command, delete_strict_command, flow_mod, change_body, change_message, changes_from, barrier_request, hello, features_request, set_config, version_refusal, echo_reply, packet_out}
+use Rattle.maple_base.specs.OpenFlow.{no_buffer, no_port, add_command, delete_command, delete_strict_command}
+use Rattle.switch_session.specs.Parts.{flow_mod, change_body, change_message, changes_from, barrier_request, hello, features_request, set_config, version_refusal, echo_reply, packet_out}
 use Rattle.machine_steps.specs.Machine.{most_sent_back}
 use Rattle.machine_moves.specs.Sends.{CanBeOffered}
 

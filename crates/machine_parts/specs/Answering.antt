@@ -6,7 +6,8 @@ use Rattle.report_text.specs.declared.line.Learnt.TheVariants.{Learned, Known}
 use Rattle.trace_tree.specs.declared.node.Trace.{Trace}
 use Rattle.trace_tree.specs.Growth.{found, scratch}
 use Rattle.priority_plan.specs.Rules.{levels_of, rules_needed}
-use Rattle.switch_session.specs.Parts.{no_buffer, is_nil, packet_out}
+use Rattle.maple_base.specs.OpenFlow.{no_buffer}
+use Rattle.switch_session.specs.Parts.{is_nil, packet_out}
 use Rattle.switch_session.specs.Sessions.{put}
 use Rattle.switch_traces.specs.Traces.{Learnings, with_those}
 use Rattle.switch_traces.specs.Lists.{AreFit}

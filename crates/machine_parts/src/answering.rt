@@ -1,7 +1,7 @@
 // A packet is answered, and its trace is learned.
 ghost use Rattle.std.specs.Prelude.{◌≡◌, ◌≤◌, false, length, None, IfOk, OnOk, OnErr};
 ghost use Rattle.maple_base.specs.Decisions.{actions_at};
-ghost use Rattle.switch_session.specs.Parts.{no_buffer};
+ghost use Rattle.maple_base.specs.OpenFlow.{no_buffer};
 ghost use Rattle.switch_session.specs.declared.told.Phase.TheVariants.{Live};
 ghost use Rattle.switch_traces.specs.Lists.{AreFit};
 ghost use Rattle.machine_steps.specs.Machine.{most_sent_back};

@@ -22,7 +22,7 @@ use Rattle.trace_tree.specs.Apart.{AreApart}
 use Rattle.trace_tree.specs.Growth.{scratch}
 use Rattle.switch_traces.specs.Traces.{Learnings}
 use Rattle.switch_traces.specs.Lists.{AreRulesOf, AreFit}
-use Rattle.switch_session.specs.Parts.{no_buffer}
+use Rattle.maple_base.specs.OpenFlow.{no_buffer}
 use Rattle.update_plan.specs.Batches.{no_rules}
 use Rattle.machine_steps.specs.Machine.{Session, Job, State, in_force, most_sessions, most_jobs, most_sent_back, is_live, is_open, open_count, was_opened, traces_of, session_at}
 use Rattle.machine_steps.specs.Steps.{switch_of}

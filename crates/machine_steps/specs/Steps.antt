@@ -67,7 +67,8 @@ use Rattle.switch_session.specs.declared.told.End.TheVariants as ends
 use Rattle.switch_session.specs.declared.told.Heard.{Heard}
 use Rattle.switch_session.specs.declared.told.Heard.TheVariants as heard
 use Rattle.switch_session.specs.Sessions.{ended, aimed, put, heading}
-use Rattle.switch_session.specs.Parts.{Update as Plan, packet_out, no_buffer, is_nil}
+use Rattle.maple_base.specs.OpenFlow.{no_buffer}
+use Rattle.switch_session.specs.Parts.{Update as Plan, packet_out, is_nil}
 use Rattle.switch_session.specs.Calls.{opened, Answer, Hears, IsUpdate, Accepts, TakesOut}
 use Rattle.machine_steps.specs.declared.entry.Entry.{Entry}
 use Rattle.machine_steps.specs.declared.entry.Entry.TheVariants as entries

@@ -1,5 +1,5 @@
 -- The faults of a policy's text by their numbers and names.
-use Rattle.std.specs.Prelude.{ℕ, List, Option, Some, None, if◌then◌else◌, ◌==◌, codes}
+use Rattle.std.specs.Prelude.{◌≡◌, ℕ, List, Option, Some, None, if◌then◌else◌, ◌==◌, codes}
 use Rattle.maple_base.specs.declared.policy_fault.PolicyFault.{PolicyFault}
 use Rattle.maple_base.specs.declared.policy_fault.PolicyFault.TheVariants.{NotAscii, Token, Syntax, UnknownName, Twice, TypeMismatch, NumberRange, Nesting, Nodes, TooLong}
 
@@ -21,6 +21,10 @@ fault_numbered n =
     if n == 1 then Some NotAscii else (if n == 2 then Some Token else (if n == 3 then Some Syntax else (if n == 4 then Some UnknownName else (if n == 5 then Some Twice
     else (if n == 6 then Some TypeMismatch else (if n == 7 then Some NumberRange else (if n == 8 then Some Nesting else (if n == 9 then Some Nodes
     else (if n == 10 then Some TooLong else None)))))))))
+
+-- the number of a fault is that of no other, and leads back to it
+abbrev pub FaultsAreNumbered : Type 0
+FaultsAreNumbered = (fault : PolicyFault) → fault_numbered (number_of fault) ≡ Some fault
 
 -- the word by which a report tells the fault
 unfoldable pub fault_name : PolicyFault → List ℕ

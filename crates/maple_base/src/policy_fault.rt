@@ -1,6 +1,6 @@
 // What may be wrong with the text of a policy.
 ghost use Rattle.std.specs.Prelude.{◌≡◌};
-ghost use Rattle.maple_base.specs.PolicyFaults.{number_of, fault_numbered};
+ghost use Rattle.maple_base.specs.PolicyFaults.{number_of, fault_numbered, FaultsAreNumbered};
 
 use std::fmt;
 
@@ -67,6 +67,12 @@ impl PolicyFault {
         }
     }
 }
+
+/// The number of each fault leads back to it, so no two have one number.
+#[tactic(auto, using(crate::proofs::FaultNumbers::numbered_back))]
+pub fn fault_numbers_law()
+    ensures { FaultsAreNumbered }
+{}
 
 #[tactic(auto, unfolding(crate::specs::PolicyFaults::fault_name))]
 impl fmt::Display for PolicyFault {

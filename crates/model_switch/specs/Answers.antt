@@ -1,5 +1,6 @@
 -- What a model switch answers to a message, just these bytes, and what the message does to its table.
 use Rattle.std.specs.Prelude.{◌≡◌, ℕ, zero, suc, Bool, true, false, if◌then◌else◌, List, [], ◌∷◌, ◌++◌, length, Option, Some, None, option_map}
+use Rattle.maple_base.specs.OpenFlow.{no_buffer}
 use Rattle.maple_base.specs.declared.cells.Port.{Port}
 use Rattle.maple_base.specs.declared.decision.TableMod.{TableMod}
 use Rattle.maple_base.specs.declared.device.Turned.{Turned}
@@ -73,10 +74,6 @@ pub record Carries (dpid ports : ℕ) (m : Message) (old : Entries) (answer : Tu
 abbrev pub Deals : ℕ → ℕ → Message → Entries → Turned → List ℕ → Entries → Type 0
 Deals dpid ports m old NoMemoryTurn bytes new = (bytes ≡ []) × (new ≡ old)
 Deals dpid ports m old answer bytes new = Carries dpid ports m old answer bytes new
-
--- no buffer (5.2.5)
-abbrev pub no_buffer : ℕ
-no_buffer = 0xffffffff
 
 -- a frame that comes to the controller whole, with the port that it came in by, for this reason
 abbrev pub packet_in : ℕ → List ℕ → ℕ → Message

@@ -12,15 +12,10 @@ ghost use Rattle.of10_codec.specs.declared.message.Body.TheVariants.{FeaturesRep
 
 use crate::changes::change_of;
 use flow_table::{Applied, Table};
+use maple_base::openflow::{ALL_TABLES_FULL, FLOW_MOD_FAILED};
 use maple_base::{NoMemory, Port, Ports, TableMod, Turned};
 use of10_codec::{Body, BodyRef, EncodeError, Message, MessageRef, VERSION, encode, encode_ref};
 use std::alloc::Global;
-
-// There is no room for a rule (OpenFlow 1.0, 5.4.4: OFPET_FLOW_MOD_FAILED,
-// OFPFMFC_ALL_TABLES_FULL).
-const FLOW_MOD_FAILED: u16 = 3;
-
-const ALL_TABLES_FULL: u16 = 0;
 
 /// Does what a message asks for, and appends its answer.
 pub fn carry_out(

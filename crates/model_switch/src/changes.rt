@@ -2,20 +2,9 @@
 ghost use Rattle.std.specs.Prelude.{◌≡◌};
 ghost use Rattle.device_port.specs.Switches.{is_barrier, is_plain, change_by, change_of};
 
+use maple_base::openflow::{ADD, DELETE, DELETE_STRICT, NO_BUFFER, NO_PORT};
 use maple_base::{Match, Rule, TableMod};
 use of10_codec::Body;
-
-// What no change names: a buffer, and a port (OpenFlow 1.0, 5.3.3).
-pub const NO_BUFFER: u32 = 0xffff_ffff;
-
-const NO_PORT: u16 = 0xffff;
-
-// The commands of a change (5.3.3, ofp_flow_mod_command).
-const ADD: u16 = 0;
-
-const DELETE: u16 = 3;
-
-const DELETE_STRICT: u16 = 4;
 
 /// Whether a message is a barrier.
 pub fn is_barrier(body: &Body) -> bool

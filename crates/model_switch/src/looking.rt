@@ -5,16 +5,11 @@ ghost use Rattle.device_port.specs.Devices.{Appends};
 ghost use Rattle.model_switch.specs.Answers.{Sees};
 ghost use Rattle.model_switch.specs.Parts.{SendsFrame};
 
-use crate::changes::NO_BUFFER;
 use flow_table::Table;
+use maple_base::openflow::{ACTION, NO_BUFFER, NO_MATCH};
 use maple_base::{CONTROLLER_PORT, Rule, Seen};
 use of10_codec::{BodyRef, EncodeError, MessageRef, encode_ref};
 use packet_key::key_of;
-
-// Why a packet comes to the controller (OpenFlow 1.0, 5.4.1, ofp_packet_in_reason).
-const NO_MATCH: u8 = 0;
-
-const ACTION: u8 = 1;
 
 /// Looks a frame up: a rule that may be chosen is hit, unless it sends to the controller alone.
 pub fn look_up(table: &Table, port: u16, frame: &[u8], out: &mut Vec<u8>) -> Seen

@@ -13,6 +13,7 @@ use crate::header::{
 use crate::match_reading::read_match;
 use crate::number::{u8_at, u16_at, u32_at, u64_at};
 use crate::port_reading::{PORT_LEN, read_port};
+use maple_base::openflow::PORT_MODIFIED;
 
 // The offsets of fields that may be faulty: the length in the header, which is blamed where it does
 // not suit the type, a match, the reason of a port status, and the length of a packet's actions.
@@ -23,9 +24,6 @@ const MATCH: u16 = 8;
 const REASON: u16 = 8;
 
 const ACTIONS_LEN: u16 = 14;
-
-// The greatest reason of a port status, OFPPR_MODIFY.
-const MODIFIED: u8 = 2;
 
 /// The body of a message of a type, or the offset of its first faulty field.
 pub fn read_body(kind: u8, bytes: &[u8]) -> Result<BodyRef<'_>, u16>
@@ -157,7 +155,7 @@ fn read_port_status(bytes: &[u8]) -> Result<BodyRef<'_>, u16>
         return Err(LENGTH);
     }
     let reason = u8_at(bytes, 8);
-    if reason > MODIFIED {
+    if reason > PORT_MODIFIED {
         return Err(REASON);
     }
     Ok(BodyRef::PortStatus {

@@ -5,6 +5,7 @@ use Rattle.maple_base.specs.declared.key.Match.{Match}
 use Rattle.maple_base.specs.declared.decision.TableMod.{TableMod}
 use Rattle.maple_base.specs.declared.decision.TableMod.TheVariants.{Add, DeleteStrict, DeleteAll}
 use Rattle.maple_base.specs.Keys.{anything, match_normal}
+use Rattle.maple_base.specs.OpenFlow.{no_buffer, no_port, add_command, delete_command, delete_strict_command}
 use Rattle.maple_base.specs.RuleLists.{Rules}
 use Rattle.maple_base.specs.declared.decision.Rule.{Rule}
 use Rattle.of10_codec.specs.declared.message.Message.{Message}
@@ -14,23 +15,6 @@ use Rattle.of10_codec.specs.Types.{protocol_version}
 use Rattle.update_plan.specs.Batches.{rules_of, is_over, origin, first_batch, second_batch, IsTarget, IsFirst, IsSecond}
 use Rattle.switch_session.specs.declared.part.Part.{Part}
 use Rattle.switch_session.specs.declared.part.Part.TheVariants.{Clearing, Batch}
-
--- what no message names: a buffer, and a port (OpenFlow Switch Specification 1.0.0, 5.3.3)
-abbrev pub no_buffer : ℕ
-no_buffer = 0xffffffff
-
-abbrev pub no_port : ℕ
-no_port = 0xffff
-
--- the commands of a change (5.3.3, ofp_flow_mod_command)
-abbrev pub add_command : ℕ
-add_command = 0
-
-abbrev pub delete_command : ℕ
-delete_command = 3
-
-abbrev pub delete_strict_command : ℕ
-delete_strict_command = 4
 
 abbrev pub flow_mod : Match → ℕ → ℕ → ℕ → ℕ → List ℕ → Body
 flow_mod of cookie command idle priority actions = FlowMod of cookie command idle 0 priority no_buffer no_port 0 actions
@@ -63,7 +47,7 @@ features_request = record { xid = 0; body = FeaturesRequest }
 abbrev pub set_config : Message
 set_config = record { xid = 0; body = SetConfig 0xffff }
 
--- no version is common to both sides (5.4.4: OFPET_HELLO_FAILED, OFPHFC_INCOMPATIBLE)
+-- no version is common to both sides (OpenFlow Switch Specification 1.0.0, 5.4.4: OFPET_HELLO_FAILED, OFPHFC_INCOMPATIBLE)
 abbrev pub version_refusal : ℕ → Message
 version_refusal xid = record { xid = xid; body = Error 0 0 [] }
 

@@ -11,22 +11,11 @@ ghost use Rattle.switch_session.specs.Room.{change_fits, most_change, part_room,
 
 use crate::log::Log;
 use crate::part::Part;
+use maple_base::openflow::{ADD, DELETE, DELETE_STRICT, NO_BUFFER, NO_PORT};
 use maple_base::{Actions, Match, NoMemory, Rule, TableMod};
 use of10_codec::{BodyRef, MessageRef, encode_ref};
 use std::alloc::Global;
 use std::mem;
-
-// What no change names: a buffer, and a port (OpenFlow 1.0, 5.3.3).
-pub const NO_BUFFER: u32 = 0xffff_ffff;
-
-const NO_PORT: u16 = 0xffff;
-
-// The commands of a change (5.3.3, ofp_flow_mod_command).
-const ADD: u16 = 0;
-
-const DELETE: u16 = 3;
-
-const DELETE_STRICT: u16 = 4;
 
 // The most ports that a change sends out of.
 pub const MOST_ACTIONS: usize = 16;

@@ -7,14 +7,10 @@ use crate::place::Place;
 use crate::processing::{answer, process, refuse};
 use crate::taking::take;
 use flow_table::Table;
+use maple_base::openflow::{ACTION, NO_MATCH};
 use maple_base::{Key, Seen};
 use model_switch::sends_up;
 use std::alloc::Global;
-
-// Why a packet comes to the controller (OpenFlow 1.0, 5.4.1, ofp_packet_in_reason).
-const NO_MATCH: u8 = 0;
-
-const ACTION: u8 = 1;
 
 /// What a switch is to do.
 #[derive(Drop)]

@@ -5,14 +5,9 @@ ghost use Rattle.device_port.specs.Switches.{IsFree};
 ghost use Rattle.model_switch.specs.Answers.{ports_up};
 ghost use Rattle.world_places.specs.Said.{body_said, message_sent};
 
+use maple_base::openflow::{ALL_TABLES_FULL, FLOW_MOD_FAILED};
 use maple_base::{Bytes, Port};
 use of10_codec::{Body, Message, VERSION};
-
-// There is no room for a rule (OpenFlow 1.0, 5.4.4: OFPET_FLOW_MOD_FAILED,
-// OFPFMFC_ALL_TABLES_FULL).
-const FLOW_MOD_FAILED: u16 = 3;
-
-const ALL_TABLES_FULL: u16 = 0;
 
 /// What a switch here sends.
 #[derive(Drop)]

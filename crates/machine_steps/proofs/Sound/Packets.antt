@@ -8,7 +8,7 @@ use Rattle.packet_key.specs.Frames.{key_of}
 use Rattle.env_cells.specs.declared.updates.Update.{Update}
 use Rattle.env_cells.specs.declared.updates.Update.TheVariants.{Host}
 use Rattle.report_text.specs.declared.line.Line.TheVariants as lines
-use Rattle.switch_session.specs.Parts.{no_buffer}
+use Rattle.maple_base.specs.OpenFlow.{no_buffer}
 use Rattle.machine_steps.specs.declared.job.Job.{Job}
 use Rattle.machine_steps.specs.declared.reply.Reply.{Reply}
 use Rattle.machine_steps.specs.Machine.{Session, State, most_jobs, most_sent_back, is_live, session_at, state_number, tells}

@@ -5,10 +5,8 @@ ghost use Rattle.of10_codec.specs.Written.{written_output, written_outputs};
 ghost use Rattle.of10_codec.specs.Laws.{has_bits, actions_have_bits};
 
 use super::append::append_u16;
+use maple_base::openflow::WHOLE;
 use maple_base::{Actions, CONTROLLER_PORT};
-
-// As many bytes of a packet as there are.
-const WHOLE: u16 = 0xffff;
 
 // OpenFlow 1.0, 5.2.4, ofp_action_output.
 fn append_output(port: u16, out: &mut Vec<u8>)

@@ -9,15 +9,13 @@ use super::{Session, owed};
 use crate::part::UpdateLists;
 use crate::parts::{Aim, CLEARING_ROOM, Parts, aim_at};
 use crate::told::Phase;
+use maple_base::openflow::WHOLE;
 use maple_base::{NoMemory, RuleList, Witness};
 use of10_codec::{BodyRef, MessageRef};
 use std::marker::Model;
 
 // The bytes of a SET_CONFIG.
 const CONFIG: usize = 12;
-
-// Packets are sent to the controller whole (OpenFlow 1.0, 5.3.2).
-const WHOLE: u16 = 0xffff;
 
 impl Session {
     ghost use Rattle.switch_session.specs.Sessions.{aimed, accepted, forgotten};

@@ -5,19 +5,12 @@ ghost use Rattle.switch_session.specs.Parts.{last_start};
 
 use super::Session;
 use crate::told::{End, Heard, Phase};
+use maple_base::openflow::{HELLO_FAILED, INCOMPATIBLE, PORT_DELETED};
 use maple_base::{Bytes, NoMemory, Port, Ports, is_port};
 use of10_codec::{Body, BodyRef, Message, MessageRef};
 
 // From here on no number is left for one more part.
 const LAST_START: u32 = 0xfff0_0000;
-
-// The reason of a PORT_STATUS for a port that was deleted (OpenFlow 1.0, 5.4.3, OFPPR_DELETE).
-const DELETED: u8 = 1;
-
-// What is wrong with a HELLO of another version (5.4.4: OFPET_HELLO_FAILED, OFPHFC_INCOMPATIBLE).
-const HELLO_FAILED: u16 = 0;
-
-const INCOMPATIBLE: u16 = 0;
 
 impl Session {
     ghost use Rattle.switch_session.specs.Calls.{CanBeHeard, Hears, HearsHello, HearsError, HearsEcho, HearsFeatures, HearsPacket, HearsPort, HearsReply, is_awaited, of_batch, of_clearing, takes_none, RefusesVersion, acknowledged_now};
@@ -132,7 +125,7 @@ impl Session {
         }
         Heard::Port {
             port: port.number,
-            up: port.up && !(reason == DELETED),
+            up: port.up && !(reason == PORT_DELETED),
         }
     }
 

@@ -3,10 +3,12 @@ ghost use Rattle.std.specs.Prelude.{◌≡◌, ◌≢◌, ◌≤◌, ◌+◌, �
 ghost use Rattle.of10_codec.specs.Types.{most_bytes};
 ghost use Rattle.of10_codec.specs.Lent.{body_of, message_of};
 ghost use Rattle.of10_codec.specs.Written.{written, written_body, fits_fields};
-ghost use Rattle.switch_session.specs.Parts.{no_buffer, packet_body};
+ghost use Rattle.maple_base.specs.OpenFlow.{no_buffer};
+ghost use Rattle.switch_session.specs.Parts.{packet_body};
 
 use super::{Session, owed};
-use crate::outbox::{MOST_ACTIONS, NO_BUFFER};
+use crate::outbox::MOST_ACTIONS;
+use maple_base::openflow::NO_BUFFER;
 use maple_base::{Actions, Bytes, NoMemory};
 use of10_codec::{BodyRef, MessageRef};
 
