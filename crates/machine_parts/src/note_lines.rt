@@ -1,7 +1,8 @@
 // What a driver did, as lines.
 ghost use Rattle.std.specs.Prelude.{◌≡◌, option_to_list};
-ghost use Rattle.machine_steps.specs.Steps.{note_lines, policy_lines, script_lines, script_refusal, seen_lines};
+ghost use Rattle.machine_steps.specs.Steps.{note_lines, policy_lines, script_lines, seen_lines};
 ghost use Rattle.maple_base.specs.PolicyFaults.{fault_numbered};
+ghost use Rattle.report_text.specs.ScriptRefusals.{refusal_numbered};
 
 use machine_steps::Note;
 use maple_base::{PolicyFault, Seen};
@@ -66,13 +67,13 @@ fn policy_line(line: u32, column: u32, kind: u8) -> Option<Line>
 }
 
 fn script_line(line: u32, kind: u8) -> Option<Line>
-    ensures { option_to_list result ≡ script_lines line (script_refusal kind) }
+    ensures { option_to_list result ≡ script_lines line (refusal_numbered kind) }
 {
-    let kind = match kind {
-        1 => ScriptRefusal::Grammar,
-        2 => ScriptRefusal::TooLong,
-        3 => ScriptRefusal::Switch,
-        _ => return None,
-    };
-    Some(Line::RefusedScript { line, kind })
+    match ScriptRefusal::numbered(kind) {
+        None => None,
+        Some(refusal) => Some(Line::RefusedScript {
+            line,
+            kind: refusal,
+        }),
+    }
 }

@@ -56,7 +56,7 @@ use Rattle.priority_plan.specs.Rules.{rules_of}
 use Rattle.report_text.specs.declared.line.Line.{Line}
 use Rattle.report_text.specs.declared.line.Line.TheVariants as lines
 use Rattle.report_text.specs.declared.line.ScriptRefusal.{ScriptRefusal}
-use Rattle.report_text.specs.declared.line.ScriptRefusal.TheVariants.{Grammar, TooLong, Switch as NoSwitch}
+use Rattle.report_text.specs.ScriptRefusals.{refusal_numbered}
 use Rattle.report_text.specs.Report.{spelled}
 use Rattle.report_text.specs.declared.line.Why.{Why}
 use Rattle.report_text.specs.declared.line.Why.TheVariants as why
@@ -425,9 +425,6 @@ abbrev pub policy_lines : ℕ → ℕ → Option PolicyFault → List Line
 policy_lines line column None = []
 policy_lines line column (Some fault) = lines.RefusedPolicy line column fault ∷ []
 
-abbrev pub script_refusal : ℕ → Option ScriptRefusal
-script_refusal n = if n == 1 then Some Grammar else (if n == 2 then Some TooLong else (if n == 3 then Some NoSwitch else None))
-
 abbrev pub script_lines : ℕ → Option ScriptRefusal → List Line
 script_lines line None = []
 script_lines line (Some kind) = lines.RefusedScript line kind ∷ []
@@ -444,7 +441,7 @@ note_lines (notes.Absent device) = lines.Absent device ∷ []
 note_lines (notes.GoneAlready device) = lines.Gone device ∷ []
 note_lines (notes.Present device) = lines.Present device ∷ []
 note_lines (notes.PolicyRefused line column kind) = policy_lines line column (fault_numbered kind)
-note_lines (notes.LineRefused line kind) = script_lines line (script_refusal kind)
+note_lines (notes.LineRefused line kind) = script_lines line (refusal_numbered kind)
 
 -- ---- the step of each entry
 

@@ -1,5 +1,5 @@
 -- The key of a frame: the numbers of its headers, by their places in the frame.
-use Rattle.std.specs.Prelude.{ℕ, ◌+◌, ◌*◌, ◌^◌, ◌/◌, ◌%◌, Bool, not, ◌&&◌, ◌||◌, ◌==◌, nat_lt, nat_le, if◌then◌else◌, List, length, drop, Result, Ok, Err}
+use Rattle.std.specs.Prelude.{◌≡◌, ℕ, ◌+◌, ◌*◌, ◌^◌, ◌/◌, ◌%◌, Bool, not, ◌&&◌, ◌||◌, ◌==◌, nat_lt, nat_le, if◌then◌else◌, List, length, drop, Result, Ok, Err}
 use Rattle.maple_base.specs.declared.key.Key.{Key}
 use Rattle.maple_base.specs.Assigned.{ip_type, tag_type, first_type, no_vlan, icmp_protocol, tcp_protocol, udp_protocol}
 use Rattle.maple_base.specs.NetworkOrder.{number_at}
@@ -116,3 +116,7 @@ fault_number Ethernet = 1
 fault_number Tag = 2
 fault_number Ip = 3
 fault_number Transport = 4
+
+-- no two faults have one number
+abbrev pub FaultsHaveOwnNumbers : Type 0
+FaultsHaveOwnNumbers = (a b : Malformed) → fault_number a ≡ fault_number b → a ≡ b

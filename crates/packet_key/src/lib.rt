@@ -8,4 +8,4 @@ mod link;
 mod malformed;
 
 pub use frames::key_of;
-pub use malformed::Malformed;
+pub use malformed::{Malformed, fault_numbers_law};

@@ -1,6 +1,6 @@
 // Why a frame has no key.
 ghost use Rattle.std.specs.Prelude.{◌≡◌};
-ghost use Rattle.packet_key.specs.Frames.{fault_number};
+ghost use Rattle.packet_key.specs.Frames.{fault_number, FaultsHaveOwnNumbers};
 
 /// Why a frame has no key: the first header that is cut short or is no such header.
 #[derive(Clone, Copy, Debug, PartialEq, Eq)]
@@ -28,3 +28,9 @@ impl Malformed {
         }
     }
 }
+
+/// No two faults have one number.
+#[tactic(auto, using(crate::proofs::FaultNumbers::own_numbers))]
+pub fn fault_numbers_law()
+    ensures { FaultsHaveOwnNumbers }
+{}

@@ -8,5 +8,5 @@ mod sheet;
 mod spelling;
 mod writing;
 
-pub use line::{Learnt, Line, SHORT_LINE, ScriptRefusal, Why};
+pub use line::{Learnt, Line, SHORT_LINE, ScriptRefusal, Why, refusal_numbers_law};
 pub use writing::{line_len, write_line};

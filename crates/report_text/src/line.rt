@@ -1,4 +1,7 @@
 // The lines of a report.
+ghost use Rattle.std.specs.Prelude.{◌≡◌};
+ghost use Rattle.report_text.specs.ScriptRefusals.{refusal_number, refusal_numbered, RefusalsAreNumbered};
+
 use maple_base::{Actions, Decision, Match, PolicyFault, UpdateRefused};
 
 /// A line of a report. Devices are named by their places among the devices, from 1 on; switches by
@@ -172,6 +175,37 @@ pub enum ScriptRefusal {
     /// It names a place that isn't among the devices.
     Switch,
 }
+
+impl ScriptRefusal {
+    /// The number by which the refusal is told, 1 to 3 in the order of the variants.
+    pub fn number(self) -> u8
+        ensures { result ≡ refusal_number self }
+    {
+        match self {
+            ScriptRefusal::Grammar => 1,
+            ScriptRefusal::TooLong => 2,
+            ScriptRefusal::Switch => 3,
+        }
+    }
+
+    /// The refusal of this number, 1 to 3, or none.
+    pub fn numbered(number: u8) -> Option<ScriptRefusal>
+        ensures { result ≡ refusal_numbered number }
+    {
+        match number {
+            1 => Some(ScriptRefusal::Grammar),
+            2 => Some(ScriptRefusal::TooLong),
+            3 => Some(ScriptRefusal::Switch),
+            _ => None,
+        }
+    }
+}
+
+/// The number of each refusal leads back to it, so no two have one number.
+#[tactic(auto, using(crate::proofs::RefusalNumbers::refusal_back))]
+pub fn refusal_numbers_law()
+    ensures { RefusalsAreNumbered }
+{}
 
 /// What was learned from a packet.
 #[derive(Clone, Copy, Debug, PartialEq, Eq)]
