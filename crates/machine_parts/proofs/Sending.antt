@@ -13,7 +13,6 @@ use Rattle.topo_paths.proofs.scene.Scene.TheSendSync as scene
 use Rattle.maple_base.proofs.key.Field.TheSendSync as field
 use Rattle.trace_tree.proofs.node.Leaf.TheSendSync as leaf
 use Rattle.trace_tree.proofs.node.Node.TheLaws.TheKnot as nodes
-use Rattle.switch_traces.proofs.list.TraceList.TheSendSync as list
 use Rattle.switch_traces.specs.contracts.traces.SwitchTraces
 use Rattle.machine_steps.proofs.job.Job.TheSendSync as job
 use Rattle.machine_steps.proofs.Sending.{shared_send}
@@ -25,7 +24,7 @@ use Rattle.machine_parts.specs.contracts.parts.Parts
 use Rattle.machine_parts.specs.contracts.parts.Parts.TheInside as parts
 
 traces_send : Send.IsSend SwitchTraces.the_row
-traces_send = search (Crossing.crosses, nodes.crosses, list.the_send, leaf.the_field_send, field.the_field_send, sendable) depth 60 fits 20000
+traces_send = search (Crossing.crosses, nodes.crosses, witness.the_send, leaf.the_field_send, field.the_field_send, sendable) depth 60 fits 20000
 
 pub parts_send : Send.IsSend Parts.the_row
 parts_send = Send.view_send parts.the_row _ _ _ _ (Send.recorded_send (parts.the_field).row _ _ (parts.the_type).to_one (Send.struct_send (Declared.shape parts.the_type) (

@@ -1,11 +1,12 @@
 -- A reply may go to another thread: the generated proof is only there for its parts.
+use denote.Builtin.{u8}
 use denote.Enum.Declared
 use denote.Param.Send
 use denote.Param.Send.{sendable}
 use Rattle.maple_base.proofs.cells.Value.TheSendSync as value
 use Rattle.maple_base.proofs.decision.Decision.TheSendSync as decision
-use Rattle.maple_base.proofs.lists.Bytes.TheSendSync as bytes
-use Rattle.maple_base.proofs.lists.Names.TheSendSync as names
+use Rattle.maple_base.proofs.lists.Listed.TheSendSync as listed
+use Rattle.maple_base.specs.contracts.lists.Listed
 use Rattle.maple_base.proofs.name.Name.TheSendSync as name
 use Rattle.maple_base.proofs.key.Field.TheSendSync as field
 use Rattle.maple_base.proofs.update_refused.UpdateRefused.TheSendSync as refused
@@ -28,13 +29,16 @@ use Rattle.std.specs.contracts.impls.GlobalAllocator.TheImpl
 use Rattle.std.specs.contracts.sync.Arc
 
 pub policy_send : Send.IsSend Policy.the_row
-policy_send = search (Crossing.crosses, exprs.crosses, statements.crosses, names.the_send, name.the_send, field.the_field_send, option.the_send, vec.the_send, sendable) depth 60 fits 20000
+policy_send = search (Crossing.crosses, exprs.crosses, statements.crosses, listed.the_send, name.the_send, field.the_field_send, option.the_send, vec.the_send, sendable) depth 60 fits 20000
 
 pub policy_sync : Send.IsSync Policy.the_row
-policy_sync = search (Crossing.crosses, exprs.crosses, statements.crosses, names.the_sync, name.the_sync, field.the_field_sync, option.the_sync, vec.the_sync, sendable) depth 60 fits 20000
+policy_sync = search (Crossing.crosses, exprs.crosses, statements.crosses, listed.the_sync, name.the_sync, field.the_field_sync, option.the_sync, vec.the_sync, sendable) depth 60 fits 20000
 
 pub shared_send : Send.IsSend (Arc.the_row Policy.the_row Global.the_row TheImpl.ghosts)
 shared_send = arc.the_send Policy.the_row Global.the_row TheImpl.ghosts policy_send global.the_send policy_sync global.the_sync frees.the_frees
+
+bytes_send : Send.IsSend (Listed.the_row u8)
+bytes_send = search (listed.the_send, sendable)
 
 reply_field_send : Send.IsSend (Reply.the_field).row
 reply_field_send = Send.enum_send (Declared.shape Reply.the_type) (
@@ -63,7 +67,7 @@ reply_field_send = Send.enum_send (Declared.shape Reply.the_type) (
                         (Send.plain_send _ _ _ _ _, tt),
                         (
                           (decision.the_field_send, (learnt.the_field_send, tt)),
-                          (tt, ((differs.the_field_send, tt), (tt, ((bytes.the_send, tt), ((bytes.the_send, tt), tt))))),
+                          (tt, ((differs.the_field_send, tt), (tt, ((bytes_send, tt), ((bytes_send, tt), tt))))),
                         ),
                       ),
                     ),

@@ -6,11 +6,13 @@ ghost use Rattle.of10_codec.specs.declared.message.Message.{Message};
 ghost use Rattle.of10_codec.specs.Written.{written};
 ghost use Rattle.message_blocks.specs.Spelling.{IsSpelled};
 
-use crate::Messages;
-use maple_base::{Bytes, NoMemory};
+use maple_base::{Bytes, GhostList, NoMemory};
 use of10_codec::{DecodeError, Message, decode};
 use std::alloc::Global;
 use std::marker::Model;
+
+/// Messages in order, which only proofs read.
+pub type Messages = GhostList<Message>;
 
 /// A block of bytes, and the messages that it spells and that weren't taken yet.
 #[derive(Drop)]
@@ -29,17 +31,17 @@ impl Model for Block {
 
     ghost Value = { List Message };
 
-    ghost view = { λ a. behind a.place a.messages.list };
+    ghost view = { λ a. behind a.place a.messages.value };
 
-    ghost invariant = { λ a. IsKept a.place a.bytes a.messages.list };
+    ghost invariant = { λ a. IsKept a.place a.bytes a.messages.value };
 }
 
 impl Block {
     /// A block that spells these messages, none of which was taken.
     pub fn new(bytes: Bytes, messages: Messages) -> Block
-        requires written { bytes ≡ flat_map written messages.list }
-        requires spelled { AllByRecursion IsSpelled messages.list }
-        ensures { result ≡ messages.list }
+        requires written { bytes ≡ flat_map written messages.value }
+        requires spelled { AllByRecursion IsSpelled messages.value }
+        ensures { result ≡ messages.value }
     {
         Block {
             bytes,

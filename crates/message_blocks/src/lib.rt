@@ -5,7 +5,5 @@
 #![tactic(auto)]
 
 pub mod block;
-pub mod messages;
 
-pub use block::Block;
-pub use messages::Messages;
+pub use block::{Block, Messages};

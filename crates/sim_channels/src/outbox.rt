@@ -3,6 +3,7 @@ ghost use Rattle.std.specs.Prelude.{◌≡◌, ◌+◌, ◌^◌, ◌<◌};
 ghost use Rattle.world_steps.specs.Worlds.{messages_for};
 
 use core_machine::Core;
+use maple_base::Witness;
 use message_blocks::Messages;
 
 /// The number of the connection of the device with this index.
@@ -14,8 +15,8 @@ pub fn connection_of(at: usize) -> u32
 }
 
 // The messages that wait in the machine for a connection. It does nothing when it runs.
-pub fn messages_for(_core: &Core, _connection: &u32) -> Messages
-    ensures { result.list ≡ messages_for _connection.now _core.now }
+pub fn messages_for(core: &Core, connection: &u32) -> Messages
+    ensures { result.value ≡ messages_for connection.now core.now }
 {
-    Messages {}
+    Witness::picked(&(core, connection))
 }

@@ -1,4 +1,3 @@
 pub mod Echoes
 pub mod Planned
 pub mod Settled
-pub mod Walks

@@ -34,7 +34,7 @@ seen a = record {
   prepared = option_map (λ s. s.value) a.prepared;
   used = a.used;
   taken = a.taken;
-  outbox = a.outbox.log.messages;
+  outbox = a.outbox.log.value;
 }
 
 pub record IsSound (a : Inside) : Type 0 where

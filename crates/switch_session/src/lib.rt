@@ -34,7 +34,6 @@
 #![tactic(auto)]
 
 mod laws;
-mod log;
 mod outbox;
 mod part;
 mod parts;

@@ -9,11 +9,10 @@ ghost use Rattle.switch_session.specs.declared.part.Part.TheVariants.{Batch};
 ghost use Rattle.switch_session.specs.Parts.{flow_mod, change_body, change_message, changes_from, changes_of, barrier_of, part_messages, barrier_request, last_start};
 ghost use Rattle.switch_session.specs.Room.{change_fits, most_change, part_room, CanBeSent};
 
-use crate::log::Log;
 use crate::part::Part;
 use maple_base::openflow::{ADD, DELETE, DELETE_STRICT, NO_BUFFER, NO_PORT};
-use maple_base::{Actions, Match, NoMemory, Rule, TableMod};
-use of10_codec::{BodyRef, MessageRef, encode_ref};
+use maple_base::{Actions, GhostList, Match, NoMemory, Rule, TableMod, Witness};
+use of10_codec::{BodyRef, Message, MessageRef, encode_ref};
 use std::alloc::Global;
 use std::mem;
 
@@ -24,18 +23,19 @@ pub const MOST_ACTIONS: usize = 16;
 #[derive(Drop)]
 pub struct Outbox {
     pub bytes: Vec<u8>,
-    pub log: Log,
-    ghost spells: { bytes.items ≡ flat_map written log.messages },
+    /// What they spell.
+    pub log: GhostList<Message>,
+    ghost spells: { bytes.items ≡ flat_map written log.value },
 }
 
 impl Outbox {
     pub fn new(alloc: Global) -> Outbox
-        ensures log { result.log.messages ≡ [] }
+        ensures log { result.log.value ≡ [] }
         ensures len { vec_len result.bytes ≡ 0 }
     {
         Outbox {
             bytes: Vec::new(alloc),
-            log: Log::new(),
+            log: GhostList::none(),
         }
     }
 
@@ -44,9 +44,9 @@ impl Outbox {
         requires fits { fits_fields (body_of message.now.body) ≡ true }
         requires short { length (written (message_of message.now)) ≤ most_bytes }
         requires spare { spare < 2 ^ 40 }
-        ensures log { OnOk result (self.new.log.messages ≡ self.old.log.messages ++ message_of message.now ∷ []) }
+        ensures log { OnOk result (self.new.log.value ≡ self.old.log.value ++ message_of message.now ∷ []) }
         ensures room { OnOk result (vec_len self.new.bytes + spare ≤ vec_capacity self.new.bytes) }
-        ensures kept { OnErr result (self.new.log.messages ≡ self.old.log.messages) }
+        ensures kept { OnErr result (self.new.log.value ≡ self.old.log.value) }
         ensures len { OnErr result (vec_len self.new.bytes ≡ vec_len self.old.bytes) }
         ensures capacity { vec_capacity self.old.bytes ≤ vec_capacity self.new.bytes }
     {
@@ -57,7 +57,7 @@ impl Outbox {
 
     /// Makes room for so many bytes more.
     pub fn reserve(&mut self, room: usize) -> Result<(), NoMemory>
-        ensures log { self.new.log.messages ≡ self.old.log.messages }
+        ensures log { self.new.log.value ≡ self.old.log.value }
         ensures len { vec_len self.new.bytes ≡ vec_len self.old.bytes }
         ensures room { OnOk result (vec_len self.new.bytes + room ≤ vec_capacity self.new.bytes) }
         ensures capacity { vec_capacity self.old.bytes ≤ vec_capacity self.new.bytes }
@@ -69,19 +69,19 @@ impl Outbox {
     /// Takes all bytes out, and leaves room for so many.
     pub fn take(&mut self, alloc: Global, room: usize) -> Result<Vec<u8>, NoMemory>
         requires { vec_len self.old.bytes + room ≤ vec_capacity self.old.bytes }
-        ensures bytes { IfOk result (λ bytes. bytes.items ≡ flat_map written self.old.log.messages) }
-        ensures log { OnOk result (self.new.log.messages ≡ []) }
+        ensures bytes { IfOk result (λ bytes. bytes.items ≡ flat_map written self.old.log.value) }
+        ensures log { OnOk result (self.new.log.value ≡ []) }
         ensures room { OnOk result (vec_len self.new.bytes + room ≤ vec_capacity self.new.bytes) }
-        ensures kept { OnErr result (self.new.log.messages ≡ self.old.log.messages) }
+        ensures kept { OnErr result (self.new.log.value ≡ self.old.log.value) }
         ensures same { OnErr result (vec_len self.new.bytes + room ≤ vec_capacity self.new.bytes) }
     {
         if self.bytes.is_empty() {
-            self.log = Log::new();
+            self.log = GhostList::none();
             return Ok(Vec::new(alloc));
         }
         let fresh = Vec::with_capacity(alloc, room)?;
         let full = mem::replace(&mut self.bytes, fresh);
-        self.log = Log::new();
+        self.log = GhostList::none();
         Ok(full)
     }
 
@@ -90,14 +90,14 @@ impl Outbox {
         requires fits { fits_fields (body_of message.now.body) ≡ true }
         requires short { length (written (message_of message.now)) ≤ most_bytes }
         requires room { vec_len self.old.bytes + length (written (message_of message.now)) ≤ vec_capacity self.old.bytes }
-        ensures log { self.new.log.messages ≡ self.old.log.messages ++ message_of message.now ∷ [] }
+        ensures log { self.new.log.value ≡ self.old.log.value ++ message_of message.now ∷ [] }
         ensures len { vec_len self.new.bytes ≡ vec_len self.old.bytes + length (written (message_of message.now)) }
         ensures capacity { vec_capacity self.old.bytes ≤ vec_capacity self.new.bytes }
     {
         if encode_ref(message, &mut self.bytes).is_err() {
             unreachable!();
         }
-        self.log = self.log.then(message);
+        self.log = with(&self.log, message);
     }
 
     /// Puts a part into the room that is there, with the numbers behind this one. The answer is the
@@ -107,7 +107,7 @@ impl Outbox {
         requires numbers { used < last_start }
         requires room { vec_len self.old.bytes + part_room part.now ≤ vec_capacity self.old.bytes }
         ensures barrier { result ≡ barrier_of used part.now }
-        ensures log { self.new.log.messages ≡ self.old.log.messages ++ part_messages used part.now }
+        ensures log { self.new.log.value ≡ self.old.log.value ++ part_messages used part.now }
         ensures len { vec_len self.new.bytes ≤ vec_len self.old.bytes + part_room part.now }
         ensures capacity { vec_capacity self.old.bytes ≤ vec_capacity self.new.bytes }
     {
@@ -122,7 +122,7 @@ impl Outbox {
         requires numbers { used < last_start }
         requires room { vec_len self.old.bytes + part_room (Batch changes.now) ≤ vec_capacity self.old.bytes }
         ensures barrier { result ≡ barrier_of used (Batch changes.now) }
-        ensures log { self.new.log.messages ≡ self.old.log.messages ++ part_messages used (Batch changes.now) }
+        ensures log { self.new.log.value ≡ self.old.log.value ++ part_messages used (Batch changes.now) }
         ensures len { vec_len self.new.bytes ≤ vec_len self.old.bytes + part_room (Batch changes.now) }
         ensures capacity { vec_capacity self.old.bytes ≤ vec_capacity self.new.bytes }
     {
@@ -140,7 +140,7 @@ impl Outbox {
         requires numbers { xid + length changes.now < 2 ^ 32 }
         requires room { vec_len self.old.bytes + most_change * length changes.now ≤ vec_capacity self.old.bytes }
         ensures next { result ≡ xid + length changes.now }
-        ensures log { self.new.log.messages ≡ self.old.log.messages ++ changes_from xid changes.now }
+        ensures log { self.new.log.value ≡ self.old.log.value ++ changes_from xid changes.now }
         ensures len { vec_len self.new.bytes ≤ vec_len self.old.bytes + most_change * length changes.now }
         ensures capacity { vec_capacity self.old.bytes ≤ vec_capacity self.new.bytes }
     {
@@ -157,7 +157,7 @@ impl Outbox {
     fn put_change(&mut self, xid: u32, change: TableMod)
         requires fits { change_fits change ≡ true }
         requires room { vec_len self.old.bytes + most_change ≤ vec_capacity self.old.bytes }
-        ensures log { self.new.log.messages ≡ self.old.log.messages ++ change_message xid change ∷ [] }
+        ensures log { self.new.log.value ≡ self.old.log.value ++ change_message xid change ∷ [] }
         ensures len { vec_len self.new.bytes ≤ vec_len self.old.bytes + most_change }
         ensures capacity { vec_capacity self.old.bytes ≤ vec_capacity self.new.bytes }
     {
@@ -166,6 +166,13 @@ impl Outbox {
             body: change_body(change),
         });
     }
+}
+
+// With this message behind those.
+fn with(log: &GhostList<Message>, message: &MessageRef<'_>) -> GhostList<Message>
+    ensures { result.value ≡ log.now.value ++ message_of message.now ∷ [] }
+{
+    Witness::picked(&(log, message))
 }
 
 fn change_body(change: TableMod) -> BodyRef<'static>

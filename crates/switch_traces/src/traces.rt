@@ -14,8 +14,8 @@ ghost use Rattle.switch_traces.specs.Lists.{AreRulesOf};
 ghost use Rattle.switch_traces.specs.Learning.{CanTake, judged};
 
 use crate::laws::traces_laws;
-use crate::list::TraceList;
-use maple_base::{EnvNow, Key, NoMemory, RuleList};
+use crate::list;
+use maple_base::{EnvNow, GhostList, Key, NoMemory, RuleList};
 use priority_plan::{levels, rules_needed};
 use report_text::Learnt;
 use rule_builder::{rules, rules_where};
@@ -31,7 +31,7 @@ pub struct SwitchTraces {
     alloc: Global,
     switch: u64,
     tree: Tree,
-    list: TraceList,
+    list: GhostList<Trace>,
 }
 
 impl Model for SwitchTraces {
@@ -44,9 +44,9 @@ impl Model for SwitchTraces {
 
     ghost coded = { Prim.hlevel (codes, traces_code) };
 
-    ghost view = { λ a. record { switch = a.switch; traces = a.list.traces } };
+    ghost view = { λ a. record { switch = a.switch; traces = a.list.value } };
 
-    ghost invariant = { λ a. StandsFor a.tree a.list.traces };
+    ghost invariant = { λ a. StandsFor a.tree a.list.value };
 }
 
 impl SwitchTraces {
@@ -59,7 +59,7 @@ impl SwitchTraces {
             alloc,
             switch,
             tree: Tree::new(alloc),
-            list: TraceList::new(),
+            list: GhostList::none(),
         }
     }
 
@@ -136,7 +136,7 @@ impl SwitchTraces {
         ensures err { IfErr result (λ back. back ≡ trace) }
         ensures unchanged { OnErr result (self.new ≡ self.old) }
     {
-        let more = self.list.then(&trace);
+        let more = list::with(&self.list, &trace);
         scratch_laws();
         self.tree.augment(trace)?;
         self.list = more;
@@ -198,7 +198,7 @@ impl SwitchTraces {
     pub fn retire(&mut self, number: u64)
         ensures { self.new ≡ with_those (those (has_other_number number) self.old.traces) self.old }
     {
-        self.list = self.list.others(number);
+        self.list = list::others(&self.list, number);
         self.tree.retire(number);
     }
 
@@ -206,7 +206,7 @@ impl SwitchTraces {
     pub fn prune(&mut self, scene: &Scene)
         ensures { self.new ≡ with_those (those (is_current (cell_in scene.now)) self.old.traces) self.old }
     {
-        self.list = self.list.current(scene);
+        self.list = list::current(&self.list, scene);
         let _gone = prune(&mut self.tree, scene);
     }
 
@@ -216,7 +216,7 @@ impl SwitchTraces {
     {
         scratch_laws();
         self.tree = Tree::new(self.alloc);
-        self.list = TraceList::new();
+        self.list = GhostList::none();
     }
 
     /// The leaf of the trace that a key meets.

@@ -13,6 +13,7 @@ ghost use Rattle.world_model.specs.declared.moves.Move.TheVariants.{Machine};
 use crate::moves::Moved;
 use core_machine::{Core, Entry, Reply};
 use machine_moves::sends_law;
+use maple_base::Witness;
 use message_blocks::{Block, Messages};
 use world_places::{Place, make_room, place_of, put};
 use world_steps::world_laws;
@@ -51,8 +52,8 @@ fn take_out_here(core: &mut Core, place: &mut Place) -> Moved
 }
 
 // The messages that wait in the machine for a place's connection. It does nothing when it runs.
-fn messages_for(_core: &Core, _place: &Place) -> Messages
-    ensures { result.list ≡ messages_for _place.now.connection _core.now }
+fn messages_for(core: &Core, place: &Place) -> Messages
+    ensures { result.value ≡ messages_for place.now.connection core.now }
 {
-    Messages {}
+    Witness::picked(&(core, place))
 }

@@ -9,7 +9,7 @@ abbrev pub invariant-loop-rest : goal.invariant-loop-rest
 invariant-loop-rest l = record {
   fits : list_all change_fits l.rest ≡ true;
   numbers : l.xid + length l.rest ≡ l.fn.xid + length l.changes;
-  log : l.self.log.messages ++ changes_from l.xid l.rest ≡ l.fn.self.log.messages ++ changes_from l.fn.xid l.changes;
+  log : l.self.log.value ++ changes_from l.xid l.rest ≡ l.fn.self.log.value ++ changes_from l.fn.xid l.changes;
   len : vec_len l.self.bytes + most_change * length l.rest ≤ vec_len l.fn.self.bytes + most_change * length l.changes;
   room : vec_len l.self.bytes + most_change * length l.rest ≤ vec_capacity l.self.bytes;
   capacity : vec_capacity l.fn.self.bytes ≤ vec_capacity l.self.bytes;
