@@ -1,7 +1,6 @@
-// What the adapters ask of a reader and of a writer of std, call by call, and failures in memory.
-use crate::text::{hex, unhex};
-use maple_io::{Got, MemSink, MemSource, Put, ReadSource, Sink, Source, WriteSink};
-use std::alloc::Global;
+// What the adapters ask of a reader and of a writer of std, and what they answer, call after call.
+use maple_io::{Got, Put, ReadSource, Sink, Source, WriteSink};
+use std::alloc::{AllocError, Global};
 use std::io;
 use std::io::{ErrorKind, Read, Write};
 use std::test::Fail;
@@ -113,91 +112,145 @@ fn a_write_asks_once_and_never_flushes(rt: HostRuntime) {
     }
 }
 
-// The bytes of a source, the numbers of its reads that fail, and what five reads into three bytes
-// say and count.
-const FED: [(&str, &[u64], &str); 6] = [
-    ("", &[], " end/0 end/0 end/0 end/0 end/0"),
-    ("", &[1, 3], " failed/1 end/1 failed/2 end/2 end/2"),
-    ("010203", &[], " 010203/0 end/0 end/0 end/0 end/0"),
-    ("01020304", &[1], " failed/1 010203/1 04/1 end/1 end/1"),
-    (
-        "01020304",
-        &[4, 2, 2],
-        " 010203/0 failed/1 04/1 failed/2 end/2",
-    ),
-    ("01020304", &[0, 6], " 010203/0 04/0 end/0 end/0 end/0"),
-];
+// Gives one byte, then fails once, and then gives another.
+#[derive(Drop)]
+struct Faltering {
+    calls: u8,
+}
 
-// The numbers of a sink's writes that fail, what three writes of `6162` say and count, and the
-// bytes that it took.
-const STORED: [(&[u64], &str, &str); 4] = [
-    (&[], " 2/0 2/0 2/0", "616261626162"),
-    (&[2], " 2/0 failed/1 2/1", "61626162"),
-    (&[3, 1], " failed/1 2/1 failed/2", "6162"),
-    (&[1, 2, 3], " failed/1 failed/2 failed/3", ""),
-];
+impl Read for Faltering {
+    fn read(&mut self, buf: &mut [u8]) -> io::Result<usize> {
+        self.calls = self.calls.saturating_add(1);
+        if self.calls == 2 {
+            return Err(io::Error::from(ErrorKind::BrokenPipe));
+        }
+        if buf.is_empty() || self.calls > 3 {
+            return Ok(0);
+        }
+        buf[0] = self.calls;
+        Ok(1)
+    }
+}
 
-fn told_read(alloc: Global, source: &mut MemSource) -> Result<String, Fail> {
-    let mut into = [0u8; 3];
+// Takes one byte, then none, then fails, and then takes another.
+#[derive(Drop)]
+struct Stubborn {
+    calls: u8,
+}
+
+impl Write for Stubborn {
+    fn write(&mut self, buf: &[u8]) -> io::Result<usize> {
+        self.calls = self.calls.saturating_add(1);
+        match self.calls {
+            2 => Ok(0),
+            3 => Err(io::Error::from(ErrorKind::OutOfMemory)),
+            _ => Ok(buf.len().min(1)),
+        }
+    }
+
+    fn flush(&mut self) -> io::Result<()> {
+        Ok(())
+    }
+}
+
+// Appends what one read into two bytes gave, and how many reads failed up to now.
+fn read_once<S: Source>(source: &mut S, answers: &mut String) -> Result<(), AllocError> {
+    let mut into = [0u8; 2];
     let got = source.read(&mut into);
     let faults = source.faults();
-    Ok(match got {
-        Got::Bytes(count) => {
-            let front = hex(alloc, into.get(..count).unwrap_or(&[]))?;
-            format!(in alloc; " {front}/{faults}")?
-        }
-        Got::End => format!(in alloc; " end/{faults}")?,
-        Got::Failed => format!(in alloc; " failed/{faults}")?,
-    })
+    match got {
+        Got::Bytes(count) => push_got(answers, into.get(..count).unwrap_or(&[]), faults),
+        Got::End => write!(answers, " end/{faults}"),
+        Got::Failed => write!(answers, " failed/{faults}"),
+    }
 }
 
-fn told_reads(alloc: Global, content: &str, fails: &[u64]) -> Result<String, Fail> {
-    let mut source = MemSource::new(unhex(alloc, content)?, Vec::from_slice(alloc, fails)?);
-    let mut told = String::new(alloc);
-    for _ in 0..5 {
-        told.push_str(&told_read(alloc, &mut source)?)?;
+fn push_got(answers: &mut String, bytes: &[u8], faults: u64) -> Result<(), AllocError> {
+    answers.push_str(" ")?;
+    for byte in bytes {
+        write!(answers, "{byte:02x}")?;
     }
-    Ok(told)
+    write!(answers, "/{faults}")
+}
+
+// Fails with the answers of six reads, where they are not these.
+fn check_reads<S: Source>(alloc: Global, source: &mut S, expected: &str) -> Result<(), Fail> {
+    let mut answers = String::new(alloc);
+    for _ in 0..6 {
+        read_once(source, &mut answers)?;
+    }
+    if answers.as_str() == expected {
+        Ok(())
+    } else {
+        Err(Fail::from(answers))
+    }
 }
 
 #[test]
-fn a_source_in_memory_fails_where_it_is_told(rt: HostRuntime) -> Result<(), Fail> {
+fn reads(rt: HostRuntime) -> Result<(), Fail> {
     let alloc = rt.alloc();
-    for (content, fails, answers) in FED {
-        let told = told_reads(alloc, content, fails)?;
-        assert_eq!(rt; told.as_str(), answers, "{content} {fails:?}");
-    }
-    Ok(())
+    let text: &[u8] = b"abc";
+    let mut reader = ReadSource::new(text);
+    check_reads(alloc, &mut reader, " 6162/0 63/0 end/0 end/0 end/0 end/0")?;
+    let mut faltering = ReadSource::new(Faltering { calls: 0 });
+    check_reads(
+        alloc,
+        &mut faltering,
+        " 01/0 failed/1 03/1 end/1 end/1 end/1",
+    )
 }
 
-fn told_write(alloc: Global, sink: &mut MemSink) -> Result<String, Fail> {
-    let put = sink.write(b"ab");
+// Appends what became of one write of a piece, and how many writes failed up to now.
+fn write_once<S: Sink>(sink: &mut S, piece: &str, answers: &mut String) -> Result<(), Fail> {
+    if piece.is_empty() {
+        return Err(Fail::from("an empty piece"));
+    }
+    let put = sink.write(piece.as_bytes());
     let faults = sink.faults();
-    Ok(match put {
-        Put::Took(count) => format!(in alloc; " {count}/{faults}")?,
-        Put::Failed => format!(in alloc; " failed/{faults}")?,
-        Put::NoMemory => format!(in alloc; " no memory/{faults}")?,
-    })
+    match put {
+        Put::Took(count) => write!(answers, " {count}/{faults}")?,
+        Put::Failed => write!(answers, " failed/{faults}")?,
+        Put::NoMemory => write!(answers, " no memory/{faults}")?,
+    }
+    Ok(())
 }
 
-// What three writes say, and after a blank the bytes that the sink took.
-fn told_writes(alloc: Global, fails: &[u64]) -> Result<(String, String), Fail> {
-    let mut sink = MemSink::new(Vec::from_slice(alloc, fails)?);
-    let mut told = String::new(alloc);
-    for _ in 0..3 {
-        told.push_str(&told_write(alloc, &mut sink)?)?;
+// Fails with the answers of writes of these pieces, where they are not these.
+fn check_writes<S: Sink>(
+    alloc: Global,
+    sink: &mut S,
+    pieces: &[&str],
+    expected: &str,
+) -> Result<(), Fail> {
+    let mut answers = String::new(alloc);
+    for piece in pieces {
+        write_once(sink, piece, &mut answers)?;
     }
-    let taken = hex(alloc, sink.bytes())?;
-    Ok((told, taken))
+    if answers.as_str() == expected {
+        Ok(())
+    } else {
+        Err(Fail::from(answers))
+    }
 }
 
 #[test]
-fn a_sink_in_memory_fails_where_it_is_told(rt: HostRuntime) -> Result<(), Fail> {
+fn writes(rt: HostRuntime) -> Result<(), Fail> {
     let alloc = rt.alloc();
-    for (fails, answers, bytes) in STORED {
-        let (told, taken) = told_writes(alloc, fails)?;
-        assert_eq!(rt; told.as_str(), answers, "{fails:?}");
-        assert_eq!(rt; taken.as_str(), bytes, "{fails:?}");
-    }
+    let mut bytes = Vec::new(alloc);
+    let mut sink = WriteSink::new(&mut bytes);
+    check_writes(alloc, &mut sink, &["ab", "c"], " 2/0 1/0")?;
+    assert_eq!(rt; bytes.as_slice(), b"abc".as_slice());
     Ok(())
+}
+
+#[test]
+fn writes_that_falter(rt: HostRuntime) -> Result<(), Fail> {
+    let alloc = rt.alloc();
+    let mut stubborn = WriteSink::new(Stubborn { calls: 0 });
+    check_writes(
+        alloc,
+        &mut stubborn,
+        &["ab", "b", "b", "b"],
+        " 1/0 failed/1 failed/2 1/2",
+    )
 }

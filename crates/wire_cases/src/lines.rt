@@ -1,0 +1,225 @@
+// The lines of reports, of words.
+use crate::spelling::ports_of;
+use case_text::{Stop, Words};
+use case_values::match_of;
+use maple_base::{Decision, Path, Place, PolicyFault, UpdateRefused};
+use report_text::{Learnt, Line, ScriptRefusal, Why};
+use std::alloc::Global;
+
+/// The line that words are.
+pub fn line_of(alloc: Global, mut words: Words<'_>) -> Result<Line, Stop> {
+    match words.word() {
+        "update" => update(words),
+        "policy" => policy(words),
+        "script" => script(words),
+        "answer" => answer(alloc, words),
+        "hit" => Ok(Line::Hit {
+            device: words.number_u32()?,
+            port: words.number_u16()?,
+            actions: ports_of(alloc, words.word())?,
+        }),
+        "rule" => Ok(Line::Rule {
+            switch: words.number()?,
+            priority: words.number_u16()?,
+            actions: ports_of(alloc, words.word())?,
+            of: match_of(words.word())?,
+        }),
+        "settled" => Ok(Line::Settled {
+            turns: words.number_u32()?,
+        }),
+        "unsettled" => Ok(Line::Unsettled {
+            turns: words.number_u32()?,
+        }),
+        "stale" => Ok(Line::Stale {
+            job: words.number()?,
+        }),
+        "end" => Ok(Line::End),
+        verb => numbered(verb, words),
+    }
+}
+
+// Lines of a switch and a number, or of a state.
+fn numbered(verb: &str, mut words: Words<'_>) -> Result<Line, Stop> {
+    match verb {
+        "state" => Ok(Line::State {
+            state: words.number()?,
+            pruned: words.number_u32()?,
+        }),
+        "quiet" => Ok(Line::Quiet {
+            switch: words.number()?,
+            retired: words.number_u32()?,
+        }),
+        "spent" => Ok(Line::Spent {
+            switch: words.number()?,
+            port: words.number_u16()?,
+        }),
+        "rules" => Ok(Line::Rules {
+            switch: words.number()?,
+            count: words.number_u32()?,
+        }),
+        _ => of_device(verb, words.number_u32()?, words),
+    }
+}
+
+// Lines of a device alone, or with one thing more.
+fn of_device(verb: &str, device: u32, mut words: Words<'_>) -> Result<Line, Stop> {
+    match verb {
+        "open" => Ok(Line::Open { device }),
+        "overload" => Ok(Line::Overload { device }),
+        "absent" => Ok(Line::Absent { device }),
+        "gone" => Ok(Line::Gone { device }),
+        "present" => Ok(Line::Present { device }),
+        "ready" => Ok(Line::Ready {
+            device,
+            switch: words.number()?,
+        }),
+        "closed" => Ok(Line::Closed {
+            device,
+            why: why(words)?,
+        }),
+        _ => heard(verb, device, words),
+    }
+}
+
+// Lines of a device with what came from it.
+fn heard(verb: &str, device: u32, mut words: Words<'_>) -> Result<Line, Stop> {
+    match verb {
+        "error" => Ok(Line::Error {
+            device,
+            kind: words.number_u16()?,
+            code: words.number_u16()?,
+        }),
+        "malformed" => Ok(Line::Malformed {
+            device,
+            kind: words.number_u8()?,
+        }),
+        "toobig" => Ok(Line::TooBig {
+            device,
+            bytes: words.number_u32()?,
+        }),
+        "miss" => Ok(Line::Miss {
+            device,
+            port: words.number_u16()?,
+            reason: words.number_u8()?,
+        }),
+        "turned" => Ok(Line::Turned {
+            device,
+            turns: words.number_u32()?,
+        }),
+        _ => Err(Stop::Unread),
+    }
+}
+
+fn why(mut words: Words<'_>) -> Result<Why, Stop> {
+    match words.word() {
+        "Bad" => Ok(Why::Bad {
+            place: words.number()?,
+            cause: words.number_u8()?,
+        }),
+        "Version" => Ok(Why::Version),
+        "Twice" => Ok(Why::Twice(words.number()?)),
+        "Full" => Ok(Why::Full),
+        "Clear" => Ok(Why::Clear),
+        "Early" => Ok(Why::Early(words.number_u32()?)),
+        "Xids" => Ok(Why::Xids),
+        "Link" => Ok(Why::Link),
+        "Fault" => Ok(Why::Fault),
+        _ => Err(Stop::Unread),
+    }
+}
+
+fn update(mut words: Words<'_>) -> Result<Line, Stop> {
+    let kind = match words.word() {
+        "UnknownTable" => UpdateRefused::UnknownTable,
+        "UnknownSwitch" => UpdateRefused::UnknownSwitch,
+        "PortRange" => UpdateRefused::PortRange,
+        "Full" => UpdateRefused::Full {
+            count: words.number()?,
+            limit: words.number()?,
+        },
+        _ => return Err(Stop::Unread),
+    };
+    Ok(Line::RefusedUpdate { kind })
+}
+
+// LINE COLUMN NUMBER: the number of the fault, in the order of its kinds.
+fn policy(mut words: Words<'_>) -> Result<Line, Stop> {
+    Ok(Line::RefusedPolicy {
+        line: words.number_u32()?,
+        column: words.number_u32()?,
+        kind: PolicyFault::numbered(words.number_u8()?).ok_or(Stop::Unread)?,
+    })
+}
+
+fn script(mut words: Words<'_>) -> Result<Line, Stop> {
+    let line = words.number_u32()?;
+    let kind = match words.word() {
+        "Grammar" => ScriptRefusal::Grammar,
+        "TooLong" => ScriptRefusal::TooLong,
+        "Switch" => ScriptRefusal::Switch,
+        _ => return Err(Stop::Unread),
+    };
+    Ok(Line::RefusedScript { line, kind })
+}
+
+// SWITCH PORT DECISION LEARNT
+fn answer(alloc: Global, mut words: Words<'_>) -> Result<Line, Stop> {
+    let switch = words.number()?;
+    let port = words.number_u16()?;
+    let word = words.word();
+    let learnt = learnt(words)?;
+    Ok(Line::Answer {
+        switch,
+        port,
+        decision: decision_of(alloc, word)?,
+        learnt,
+    })
+}
+
+fn learnt(mut words: Words<'_>) -> Result<Learnt, Stop> {
+    match words.word() {
+        "Learned" => Ok(Learnt::Learned),
+        "Known" => Ok(Learnt::Known),
+        "Levels" => Ok(Learnt::Levels {
+            need: words.number()?,
+            limit: words.number_u32()?,
+        }),
+        "Rows" => Ok(Learnt::Rows {
+            need: words.number()?,
+            capacity: words.number_u32()?,
+        }),
+        "Quiet" => Ok(Learnt::Quiet),
+        _ => Err(Stop::Unread),
+    }
+}
+
+fn decision_of(alloc: Global, word: &str) -> Result<Decision, Stop> {
+    match word {
+        "drop" => Ok(Decision::Drop),
+        "flood" => Ok(Decision::Flood),
+        "two_hops" => Ok(Decision::Path(two_hops(alloc)?)),
+        "most_hops" => Ok(Decision::Path(most_hops(alloc)?)),
+        _ => Ok(Decision::Out(ports_of(alloc, word)?)),
+    }
+}
+
+// By port 1 of switch 1, and port 16 of switch 2.
+fn two_hops(alloc: Global) -> Result<Path, Stop> {
+    let hops = [
+        Place { switch: 1, port: 1 },
+        Place {
+            switch: 2,
+            port: 16,
+        },
+    ];
+    Ok(Path::new(Vec::from_slice(alloc, &hops)?))
+}
+
+// 64 hops, each with a switch of twenty digits and a port of five.
+fn most_hops(alloc: Global) -> Result<Path, Stop> {
+    let hop = Place {
+        switch: u64::MAX,
+        port: 65_280,
+    };
+    Ok(Path::new(Vec::from_slice(alloc, &[hop; 64])?))
+}
