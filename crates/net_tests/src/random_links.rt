@@ -1,6 +1,5 @@
 // Next hops between 64 switches with random links, against a search by hand.
-use crate::hops::make;
-use crate::scripts::follow;
+use crate::networks::{link, next, switches};
 use env_cells::Update;
 use maple_base::{Cell, EnvNow, NoMemory, Place, Value};
 use std::alloc::Global;
@@ -106,13 +105,6 @@ fn all_agree(alloc: Global, scene: &Scene) -> Result<bool, NoMemory> {
     Ok(true)
 }
 
-// The numbers that a fixed sequence has behind one.
-fn next(state: u64) -> u64 {
-    state
-        .wrapping_mul(6364136223846793005)
-        .wrapping_add(1442695040888963407)
-}
-
 fn place(numbers: u64) -> Place {
     Place {
         switch: numbers % 64 + 1,
@@ -122,14 +114,13 @@ fn place(numbers: u64) -> Place {
 
 // 64 switches with so many random links, of which some replace others.
 fn network(alloc: Global, seed: u64, count: u64) -> Result<Scene, Fail> {
-    let mut scene = Scene::new(alloc)?;
-    follow(alloc, &mut scene, "1 65 each switch #")?;
+    let mut scene = switches(alloc, 64)?;
     let mut state = seed;
     for _ in 0..count {
         state = next(state);
         let from = place(state >> 20);
         let to = place(state >> 40);
-        make(&mut scene, &Update::Link { from, to })?;
+        link(&mut scene, from, to)?;
     }
     Ok(scene)
 }
@@ -148,7 +139,7 @@ fn hops_follow_links_that_go(rt: HostRuntime) -> Result<(), Fail> {
     let mut scene = network(rt.alloc(), 5, 150)?;
     for switch in 1..65 {
         let from = Place { switch, port: 1 };
-        make(&mut scene, &Update::NoLink { from })?;
+        scene.apply(&Update::NoLink { from })?;
     }
     assert!(rt; all_agree(rt.alloc(), &scene)?);
     Ok(())

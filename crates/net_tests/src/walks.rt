@@ -1,7 +1,5 @@
 // Next hops against a search over all walks, in networks of four switches.
-use crate::hops::make;
-use crate::scripts::follow;
-use env_cells::Update;
+use crate::networks::{link, next, switches};
 use maple_base::{NoMemory, Place};
 use std::alloc::Global;
 use std::test::Fail;
@@ -63,13 +61,10 @@ fn best_hop(links: &[(Place, Place)], from: u64, to: u64) -> Option<Place> {
 
 // A network of 4 switches and up to 7 links, by a fixed sequence of numbers.
 fn network(alloc: Global, seed: u64) -> Result<Scene, Fail> {
-    let mut scene = Scene::new(alloc)?;
-    follow(alloc, &mut scene, "1 5 each switch #")?;
+    let mut scene = switches(alloc, 4)?;
     let mut state = seed;
     for _ in 0..7 {
-        state = state
-            .wrapping_mul(6364136223846793005)
-            .wrapping_add(1442695040888963407);
+        state = next(state);
         let numbers = state >> 33;
         let from = Place {
             switch: numbers % 4 + 1,
@@ -79,7 +74,7 @@ fn network(alloc: Global, seed: u64) -> Result<Scene, Fail> {
             switch: numbers / 12 % 4 + 1,
             port: numbers / 48 % 3 + 1,
         };
-        make(&mut scene, &Update::Link { from, to })?;
+        link(&mut scene, from, to)?;
     }
     Ok(scene)
 }
