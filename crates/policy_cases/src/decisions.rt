@@ -5,7 +5,7 @@ use case_text::{Stop, Words};
 use case_values::{key_of, push_flag};
 use maple_base::{Decision, Key, Outcome, Place, is_port};
 use maple_text::value_of;
-use policy_data::sent_out;
+use policy_eval::sent_out;
 use policy_eval::eval;
 use std::alloc::{AllocError, Global};
 

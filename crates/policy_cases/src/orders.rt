@@ -4,7 +4,7 @@ use case_text::push_hex;
 use case_values::push_place;
 use env_cells::Update;
 use maple_base::{Name, NoMemory, Place};
-use script_orders::{Next, Step, Stop, next_order};
+use script_text::{Next, Step, StepStop, next_order};
 use std::alloc::{AllocError, Global};
 
 // How many places there are.
@@ -33,8 +33,8 @@ pub fn push_script(alloc: Global, script: &[u8], out: &mut String) -> Result<(),
 
 fn push_stop(number: usize, stop: Stop, out: &mut String) -> Result<(), NoMemory> {
     match stop {
-        Stop::End => write!(out, "{number} quits")?,
-        Stop::Refused(kind) => write!(out, "{number} {kind:?}")?,
+        StepStop::End => write!(out, "{number} quits")?,
+        StepStop::Refused(kind) => write!(out, "{number} {kind:?}")?,
         Stop::NoMemory => return Err(NoMemory),
     }
     Ok(())

@@ -2,7 +2,7 @@
 use case_text::{Stop, Subject, Words};
 use case_values::{name_of, push_flag, push_place};
 use maple_base::NoMemory;
-use policy_data::{Datum, Scope};
+use policy_eval::{Datum, Scope};
 use std::alloc::{AllocError, Global};
 
 /// The names in force and what they stand for.

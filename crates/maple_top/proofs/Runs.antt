@@ -1,0 +1,69 @@
+-- How the run of a script ends.
+use Rattle.std.proofs.Common.{◌≡◌, ℕ, List, ◌++◌, Option, Some, None, refl, sym, subst, inl, inr}
+use Rattle.std.proofs.KnownBytes.{Appends-trans}
+use Rattle.maple_base.specs.Counts.{HasRisen}
+use Rattle.maple_io.specs.Views.{SinkView, WriteFailed, Wrote}
+use Rattle.report_text.specs.declared.line.ScriptRefusal.{ScriptRefusal}
+use Rattle.device_port.specs.Devices.{Meaning}
+use Rattle.sim_driver.specs.declared.drive.SimEnd.{SimEnd}
+use Rattle.sim_driver.specs.declared.drive.SimEnd.TheVariants as ends
+use Rattle.sim_driver.specs.Runs.{EndsWith, Given, IsFollowed}
+use Rattle.maple_top.specs.declared.status.Status.{Status}
+use Rattle.maple_top.specs.declared.status.Status.TheVariants.{Done, Usage, Policy, Script, ReadFault, WriteFault, NoMemory, TooLong}
+use Rattle.maple_top.specs.Ends.{Ends, EndsTelling, IsAside, WroteFront, WroteSome}
+use Rattle.maple_top.specs.Running.{IsCutShort, IsTold, RunsScript, due_of, end_of, refused_of}
+
+-- a run that is due by a script called its devices, or broke off
+never_aside : (old new : SinkView) (refused : Option (ℕ × ScriptRefusal)) (Told : List ℕ → Type 0) (Cut : SimEnd → List ℕ → Type 0) (s : Status)
+    → EndsTelling old new (due_of refused) Told Cut s → IsAside s → ⊥
+never_aside old new refused Told Cut Done e a = a
+never_aside old new None Told Cut Usage e a = let is = e.0 in cc
+never_aside old new (Some r) Told Cut Usage e a = let is = e.0 in cc
+never_aside old new None Told Cut Policy e a = let is = e.0 in cc
+never_aside old new (Some r) Told Cut Policy e a = let is = e.0 in cc
+never_aside old new refused Told Cut Script e a = a
+never_aside old new None Told Cut ReadFault e a = let is = e.0 in cc
+never_aside old new (Some r) Told Cut ReadFault e a = let is = e.0 in cc
+never_aside old new refused Told Cut WriteFault e a = a
+never_aside old new refused Told Cut NoMemory e a = a
+never_aside old new None Told Cut TooLong e a = let is = e.0 in cc
+never_aside old new (Some r) Told Cut TooLong e a = let is = e.0 in cc
+
+pub script_never_aside : (g : Given) (after : List Meaning) (old new : SinkView) (s : Status) → RunsScript g after old new s → IsAside s → ⊥
+script_never_aside g after old new s e a = never_aside old new (refused_of g) (IsTold g after) (λ end text. IsCutShort end g after text) s e a
+
+module _ (g : Given) (after : List Meaning) (old mid new : SinkView) (report : List ℕ) (followed : IsFollowed g after report) (wrote : Wrote old mid report) where
+  -- the report, and the whole last line
+  whole : (s due : Status) → (s ≡ due) × Wrote mid new (end_of (refused_of g)) → (s ≡ due) × WroteSome old new (IsTold g after)
+  whole s due (is, w) =
+      (is, (report ++ end_of (refused_of g), (report, followed, refl), Appends-trans old.taken mid.taken new.taken report (end_of (refused_of g)) wrote w))
+
+  -- the report, and a front of it
+  part : (end : SimEnd) → WroteFront mid new (end_of (refused_of g)) → WroteSome old new (IsCutShort end g after)
+  part end (front, is, w) =
+      (report ++ front, inr (report, front, followed, is, refl), Appends-trans old.taken mid.taken new.taken report front wrote w)
+
+  told : (WriteFailed mid new → WriteFailed old new) → (s : Status) → Ends mid new (due_of (refused_of g)) (end_of (refused_of g)) s → RunsScript g after old new s
+  told f Done e = whole Done (due_of (refused_of g)) e
+  told f Usage e = whole Usage (due_of (refused_of g)) e
+  told f Policy e = whole Policy (due_of (refused_of g)) e
+  told f Script e = whole Script (due_of (refused_of g)) e
+  told f ReadFault e = whole ReadFault (due_of (refused_of g)) e
+  told f WriteFault e = (f e.0, part ends.WriteFault e.1)
+  told f NoMemory e = part ends.NoMemory e
+  told f TooLong e = whole TooLong (due_of (refused_of g)) e
+
+-- a run came to the end of its script, or to its first refused line, and the last line was begun
+pub ended : (g : Given) (after : List Meaning) (old mid new : SinkView) (refused : Option (ℕ × ScriptRefusal)) (s : Status) → refused_of g ≡ refused
+    → WroteSome old mid (IsFollowed g after) → mid.failed ≡ old.failed → Ends mid new (due_of refused) (end_of refused) s → RunsScript g after old new s
+ended g after old mid new refused s is (report, followed, wrote) spared e =
+    told g after old mid new report followed wrote (λ risen. subst (λ n. HasRisen n new.failed) spared risen) s
+    (subst (λ r. Ends mid new (due_of r) (end_of r) s) (sym is) e)
+
+-- a write failed in the run
+pub failed : (g : Given) (after : List Meaning) (old new : SinkView) → WroteSome old new (EndsWith ends.WriteFault g after) → WriteFailed old new → RunsScript g after old new WriteFault
+failed g after old new (text, e, wrote) risen = (risen, (text, inl e, wrote))
+
+-- memory ran out in it
+pub lacked : (g : Given) (after : List Meaning) (old new : SinkView) → WroteSome old new (EndsWith ends.NoMemory g after) → RunsScript g after old new NoMemory
+lacked g after old new (text, e, wrote) = (text, inl e, wrote)

@@ -1,0 +1,36 @@
+// The examples: a policy with its script in one file, and what comes of it in another.
+use crate::given::Given;
+use maple_base::NoMemory;
+use std::alloc::Global;
+use std::io::ErrorKind;
+use std::{fs, io};
+
+/// Runs a word of the command line on the example of this name; whether it writes what is stored.
+///
+/// # Errors
+///
+/// A file that can't be read, or too little memory.
+pub fn check_example(rt: &HostRuntime, word: &str, name: &str) -> io::Result<bool> {
+    let input = read(rt, name, "maple")?;
+    let output = read(rt, name, "out")?;
+    if is_right(rt.alloc(), word, input.as_str(), output.as_str())? {
+        println!(rt; "{name}: 1 right")?;
+        Ok(true)
+    } else {
+        eprintln!(rt; "{name} writes something else")?;
+        Ok(false)
+    }
+}
+
+fn read(rt: &HostRuntime, name: &str, ending: &str) -> io::Result<String> {
+    let mut file = String::new(rt.alloc());
+    write!(file, "{name}.{ending}")?;
+    fs::read_to_string(rt, file.as_str())
+}
+
+fn is_right(alloc: Global, word: &str, input: &str, output: &str) -> io::Result<bool> {
+    match Given::new(alloc).run(word, input) {
+        Ok(came) => Ok(came.status == 0 && came.text() == output),
+        Err(NoMemory) => Err(io::Error::from(ErrorKind::OutOfMemory)),
+    }
+}

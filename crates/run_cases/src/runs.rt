@@ -1,0 +1,141 @@
+// Runs of the top call.
+use crate::given::Given;
+use case_text::{Stop, Subject, Words};
+use maple_base::NoMemory;
+use std::alloc::Global;
+
+// The first device is plugged in, and becomes ready.
+const BOOT: &str = "plug 1\nsettle\n";
+
+// What is reported of it.
+const BOOTED: &str = "open c1\nstate 1 pruned 0\nready c1 s1\nsettled 5\n";
+
+/// What a run is given, and what it is to write.
+#[derive(Drop)]
+pub struct Runs {
+    alloc: Global,
+    given: Given,
+    input: String,
+    output: String,
+}
+
+impl Subject for Runs {
+    fn new(alloc: Global) -> Result<Runs, NoMemory> {
+        Ok(Runs {
+            alloc,
+            given: Given::new(alloc),
+            input: String::new(alloc),
+            output: String::new(alloc),
+        })
+    }
+
+    fn answer(&mut self, mut call: Words<'_>, out: &mut String) -> Result<(), Stop> {
+        match call.word() {
+            "run" => self.run(call, out),
+            "sim" => self.give("sim", call, out),
+            "check" => self.give("check", call, out),
+            "both" => self.both(call, out),
+            "form" => self.form(call, out),
+            word => {
+                self.set(word, call)?;
+                Ok(out.push_str("ok")?)
+            }
+        }
+    }
+}
+
+impl Runs {
+    fn set(&mut self, word: &str, mut call: Words<'_>) -> Result<(), Stop> {
+        match word {
+            "device" => self.given.device(call),
+            "devices" => self.given.devices(call),
+            "fail" => self.given.fault(call),
+            "boot" => self.boot(),
+            "input" => push_line(&mut self.input, call),
+            "input_part" => Ok(self.input.push_str(&call.text(self.alloc)?)?),
+            "input_code" => Ok(self.input.push(char::from(call.number_u8()?))?),
+            "input_each" => push_each(self.alloc, &mut self.input, call),
+            "output" => push_line(&mut self.output, call),
+            "output_part" => Ok(self.output.push_str(&call.text(self.alloc)?)?),
+            "output_each" => push_each(self.alloc, &mut self.output, call),
+            _ => Err(Stop::Unread),
+        }
+    }
+
+    fn boot(&mut self) -> Result<(), Stop> {
+        self.input.push_str(BOOT)?;
+        self.output.push_str(BOOTED)?;
+        Ok(())
+    }
+
+    // Runs the words of the call.
+    fn run(&self, call: Words<'_>, out: &mut String) -> Result<(), Stop> {
+        let came = self.given.run(call.rest(), self.input.as_str())?;
+        Ok(came.push(self.output.as_str(), out)?)
+    }
+
+    // Runs a word, where the text of the call stands in the place of `@`.
+    fn give(&self, word: &str, call: Words<'_>, out: &mut String) -> Result<(), Stop> {
+        let input = self.input_with(call)?;
+        let came = self.given.run(word, input.as_str())?;
+        Ok(came.push(self.output.as_str(), out)?)
+    }
+
+    // The same of both commands, which are to write the same.
+    fn both(&self, call: Words<'_>, out: &mut String) -> Result<(), Stop> {
+        self.give("sim", call, out)?;
+        let mut other = String::new(self.alloc);
+        self.give("check", call, &mut other)?;
+        if out.as_str() != other.as_str() {
+            write!(out, ", and at check {other}")?;
+        }
+        Ok(())
+    }
+
+    // Prints a policy, and then what was printed, of which the same is to come.
+    fn form(&self, call: Words<'_>, out: &mut String) -> Result<(), Stop> {
+        let input = self.input_with(call)?;
+        let came = self.given.run("check", input.as_str())?;
+        came.push(self.output.as_str(), out)?;
+        let again = self.given.run("check", came.text())?;
+        if again.status != came.status || again.text() != came.text() {
+            out.push_str(", and of that ")?;
+            again.push(self.output.as_str(), out)?;
+        }
+        Ok(())
+    }
+
+    fn input_with(&self, call: Words<'_>) -> Result<String, Stop> {
+        let Some((ahead, behind)) = self.input.split_once('@') else {
+            return Err(Stop::Unread);
+        };
+        let text = call.text(self.alloc)?;
+        let mut input = String::from_str(self.alloc, ahead)?;
+        input.push_str(&text)?;
+        input.push_str(behind)?;
+        Ok(input)
+    }
+}
+
+fn push_line(text: &mut String, call: Words<'_>) -> Result<(), Stop> {
+    text.push_str(call.rest())?;
+    text.push_str("\n")?;
+    Ok(())
+}
+
+// Appends a text for each number from one up to another, which `$` in the text stands for.
+fn push_each(alloc: Global, text: &mut String, mut call: Words<'_>) -> Result<(), Stop> {
+    let first = call.number_u32()?;
+    let last = call.number_u32()?;
+    let part = call.text(alloc)?;
+    let (ahead, behind) = part.split_once('$').unwrap_or((part.as_str(), ""));
+    let is_numbered = part.contains('$');
+    for number in first..=last {
+        text.push_str(ahead)?;
+        if is_numbered {
+            write!(text, "{number}")?;
+        }
+        text.push_str(behind)?;
+    }
+    Ok(())
+}
