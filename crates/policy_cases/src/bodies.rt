@@ -5,7 +5,7 @@ use case_text::{Stop, Words};
 use maple_base::{Name, NoMemory};
 use maple_text::value_of;
 use policy_lang::{Block, Expr, Exprs, Head, Statement};
-use policy_tree::Parts;
+use policy_tree::PolicyParts;
 use std::alloc::Global;
 
 /// body STATEMENT ..: as `tree`, of these statements: `drop=COUNT`, so often `drop;`; `unknown`, `out x;`;
@@ -15,7 +15,7 @@ pub fn body(alloc: Global, words: Words<'_>, out: &mut String) -> Result<(), Sto
     for word in words.rest().split_whitespace() {
         push_statements(alloc, word, &mut list)?;
     }
-    let parts = Parts {
+    let parts = PolicyParts {
         tables: Vec::new(alloc),
         learning: false,
         body: Block::new(list),

@@ -5,8 +5,7 @@ use case_text::{Stop, Words};
 use case_values::{key_of, push_flag};
 use maple_base::{Decision, Key, Outcome, Place, is_port};
 use maple_text::value_of;
-use policy_eval::sent_out;
-use policy_eval::eval;
+use policy_eval::{eval, sent_out};
 use std::alloc::{AllocError, Global};
 
 /// decide STEPS SWITCH PORT POLICY: what is decided in 1 to 65,536 steps of TCP to a port that comes to a

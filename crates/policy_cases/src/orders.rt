@@ -31,11 +31,11 @@ pub fn push_script(alloc: Global, script: &[u8], out: &mut String) -> Result<(),
     Ok(())
 }
 
-fn push_stop(number: usize, stop: Stop, out: &mut String) -> Result<(), NoMemory> {
+fn push_stop(number: usize, stop: StepStop, out: &mut String) -> Result<(), NoMemory> {
     match stop {
         StepStop::End => write!(out, "{number} quits")?,
         StepStop::Refused(kind) => write!(out, "{number} {kind:?}")?,
-        Stop::NoMemory => return Err(NoMemory),
+        StepStop::NoMemory => return Err(NoMemory),
     }
     Ok(())
 }

@@ -4,7 +4,7 @@ use case_text::{Stop, Words};
 use policy_lang::{Node, Site};
 use policy_outline::{OutlineError, read_outline, site_token};
 use policy_tokens::read_tokens;
-use policy_tree::{Parts, build};
+use policy_tree::{PolicyParts, build};
 use std::alloc::{AllocError, Global};
 
 /// outline TEXT: how many nodes a text has that passes no limit; or the number of tokens ahead of its
@@ -24,7 +24,7 @@ pub fn outline(alloc: Global, words: Words<'_>, out: &mut String) -> Result<(), 
 }
 
 /// The parts of the text that all words are, and its nodes.
-pub fn parts_in(alloc: Global, words: Words<'_>) -> Result<(Parts, Vec<Node>), Stop> {
+pub fn parts_in(alloc: Global, words: Words<'_>) -> Result<(PolicyParts, Vec<Node>), Stop> {
     let text = text_in(alloc, words)?;
     let Ok(tokens) = read_tokens(alloc, &text) else {
         return Err(Stop::Unread);

@@ -4,7 +4,7 @@ use crate::texts::push_bytes;
 use case_text::{Stop, Words};
 use policy_lang::{BuildError, Policy};
 use policy_text::print_policy;
-use policy_tree::Parts;
+use policy_tree::PolicyParts;
 use std::alloc::Global;
 
 /// tree TEXT: the printed form of the policy of a text's tree; or the node and the kind of the tree's
@@ -15,7 +15,7 @@ pub fn tree(alloc: Global, words: Words<'_>, out: &mut String) -> Result<(), Sto
 }
 
 /// The same of the tree that these parts are.
-pub fn push_tree(alloc: Global, parts: Parts, out: &mut String) -> Result<(), Stop> {
+pub fn push_tree(alloc: Global, parts: PolicyParts, out: &mut String) -> Result<(), Stop> {
     if parts.tables.len() > 16 {
         return Err(Stop::Unread);
     }
