@@ -45,6 +45,12 @@ mutual
       let b = counted_in bs in
       (omega (arith, a.0, b.0), λ e. let c = a.1 (omega (arith, e)) in let d = b.1 (omega (arith, e)) in omega (arith, c, d))
 
+pub no_rules : (t : Shape) → levels_of t ≡ 0 → count_of t ≡ 0
+no_rules t e = (counted t).1 e
+
+pub levels_within : (t : Shape) → levels_of t ≤ count_of t
+levels_within t = (counted t).0
+
 behind_length : (l c : ℕ) (m : Match) (b : ℕ) → Agree l c → c + length (map Barrier (barrier_behind l m b)) ≡ with_barrier c
 behind_length zero c m b a = let e = a.1 refl in let w = no_barrier c e in omega (arith, e, w)
 behind_length (suc l) zero m b a = absurd (omega (arith, a.0))

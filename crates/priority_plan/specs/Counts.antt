@@ -1,5 +1,5 @@
 -- How many rules a tree has, counted from below.
-use Rattle.std.specs.Prelude.{ℕ, ◌+◌}
+use Rattle.std.specs.Prelude.{ℕ, ◌+◌, min}
 use Rattle.trace_tree.specs.Shape.{Shape, Branches, Empty, Ends, Reads, Tests, NoBranch, Branch}
 use Rattle.priority_plan.specs.Rules.{with_barrier}
 
@@ -14,3 +14,7 @@ abbrev mutual
   pub count_in : Branches → ℕ
   count_in NoBranch = 0
   count_in (Branch v t bs) = count_of t + count_in bs
+
+-- as it is counted in 64 bits, where the greatest number stands for more too
+abbrev pub capped : ℕ → ℕ
+capped n = min n 18446744073709551615

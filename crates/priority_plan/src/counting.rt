@@ -1,13 +1,21 @@
 // How many priorities the rules of a tree take, and how many rules there are.
-ghost use Rattle.std.specs.Prelude.{◌≡◌, ◌^◌, ◌<◌};
+ghost use Rattle.std.specs.Prelude.{◌≡◌, ◌+◌, ◌^◌, ◌<◌, ◌≤◌};
 ghost use Rattle.trace_tree.specs.TreeOf.{tree_of, branches, child_trees};
 ghost use Rattle.priority_plan.specs.Rules.{levels_of, most_levels, rules_of, rules_needed};
-ghost use Rattle.priority_plan.specs.Counts.{count_of, count_in};
+ghost use Rattle.priority_plan.specs.Counts.{count_of, count_in, capped};
 ghost use Rattle.priority_plan.specs.Emptied.{emptied, emptied_in};
 ghost use Rattle.priority_plan.specs.Laws.{IsGreatest};
 
 use crate::which::{EveryLeaf, WhichLeaves};
 use trace_tree::{Node, Tree};
+
+// How many priorities the rules of a part of a tree take, and how many rules there are, where
+// 2^64 - 1 stands for more too.
+#[derive(Clone, Copy)]
+struct Counts {
+    levels: u64,
+    rules: u64,
+}
 
 /// How many priorities the rules of a tree take.
 #[tactic(auto, using(crate::proofs::Places::levels_law, crate::proofs::Grows::few_priorities))]
@@ -28,98 +36,65 @@ pub fn node_levels(node: &Node) -> u64
 }
 
 /// How many priorities the rules of a node take whose other leaves are left out.
-// Down the false sides in a loop: a path has few other steps, since each of these fixes a field.
-#[cycle(levels)]
 pub fn node_levels_where<W: WhichLeaves>(node: &Node, which: &W) -> u64
     requires { levels_of (emptied (W.counted which.now) (tree_of node.now)) < 2 ^ 64 }
     ensures { result ≡ levels_of (emptied (W.counted which.now) (tree_of node.now)) }
 {
-    let mut node = node;
-    let mut levels: u64 = 0;
-    // tests since the last rule: their barriers count once a further rule stands on their false side
-    let mut waiting: u64 = 0;
-    loop {
-        match node {
-            Node::Empty => return levels,
-            Node::Leaf(leaf) => {
-                return if which.counts(leaf) {
-                    levels + waiting + 1
-                } else {
-                    levels
-                };
-            }
-            Node::Values { children, .. } => {
-                let most = most_levels(children, which);
-                return if most == 0 {
-                    levels
-                } else {
-                    levels + waiting + most
-                };
-            }
-            Node::Test { no, yes, .. } => {
-                let above = node_levels_where(yes, which);
-                if above == 0 {
-                    waiting = waiting.saturating_add(1);
-                } else {
-                    levels += waiting + above;
-                    waiting = 1;
-                }
-                node = no;
-            }
-        }
-    }
-}
-
-#[cycle(levels)]
-fn most_levels<W: WhichLeaves>(children: &[(u64, Node)], which: &W) -> u64
-    requires { most_levels (emptied_in (W.counted which.now) (branches (child_trees children.now))) < 2 ^ 64 }
-    ensures { result ≡ most_levels (emptied_in (W.counted which.now) (branches (child_trees children.now))) }
-{
-    let mut most = 0;
-    for child in children {
-        let levels = node_levels_where(&child.1, which);
-        if most < levels {
-            most = levels;
-        }
-    }
-    most
+    node_counts(node, which).levels
 }
 
 /// How many rules a tree has.
-#[tactic(auto, using(crate::proofs::Counted::needed_count, crate::proofs::Grows::few_counted))]
+#[tactic(auto, using(crate::proofs::Counted::needed_count, crate::proofs::Grows::few_counted, crate::proofs::Grows::few_priorities, crate::proofs::Shrinks::emptied_every))]
 pub fn rules_needed(tree: &Tree) -> u64
     ensures { result ≡ rules_needed tree.now }
 {
-    node_rules(tree.root())
+    node_counts(tree.root(), &EveryLeaf).rules
 }
 
+// Down the false sides in a loop: a path has few other steps, since each of these fixes a field.
 #[cycle(counts)]
-fn node_rules(node: &Node) -> u64
-    requires { count_of (tree_of node.now) < 2 ^ 64 }
-    ensures { result ≡ count_of (tree_of node.now) }
+fn node_counts<W: WhichLeaves>(node: &Node, which: &W) -> Counts
+    requires { levels_of (emptied (W.counted which.now) (tree_of node.now)) < 2 ^ 64 }
+    ensures levels { result.levels ≡ levels_of (emptied (W.counted which.now) (tree_of node.now)) }
+    ensures rules { result.rules ≡ capped (count_of (emptied (W.counted which.now) (tree_of node.now))) }
 {
     let mut node = node;
+    let mut levels: u64 = 0;
     let mut rules: u64 = 0;
     // tests since the last rule: their barriers count once a further rule stands on their false side
     let mut waiting: u64 = 0;
     loop {
         match node {
-            Node::Empty => return rules,
-            Node::Leaf(_) => return rules + waiting + 1,
-            Node::Values { children, .. } => {
-                let all = all_rules(children);
-                return if all == 0 {
-                    rules
+            Node::Empty => return Counts { levels, rules },
+            Node::Leaf(leaf) => {
+                return if which.counts(leaf) {
+                    Counts {
+                        levels: levels + waiting + 1,
+                        rules: with_more(rules, waiting, 1),
+                    }
                 } else {
-                    rules + waiting + all
+                    Counts { levels, rules }
+                };
+            }
+            Node::Values { children, .. } => {
+                let all = all_counts(children, which);
+                let more = with_more(rules, waiting, all.rules);
+                return if all.levels == 0 {
+                    Counts { levels, rules }
+                } else {
+                    Counts {
+                        levels: levels + waiting + all.levels,
+                        rules: more,
+                    }
                 };
             }
             Node::Test { no, yes, .. } => {
-                let above = node_rules(yes);
-                if above == 0 {
+                let above = part_counts(yes, which);
+                if above.levels == 0 {
                     waiting = waiting.saturating_add(1);
                 } else {
-                    rules += waiting + above;
+                    levels += waiting + above.levels;
+                    rules = with_more(rules, waiting, above.rules);
                     waiting = 1;
                 }
                 node = no;
@@ -128,14 +103,43 @@ fn node_rules(node: &Node) -> u64
     }
 }
 
+// The same; there are no more levels than rules, and rules only where there are levels.
 #[cycle(counts)]
-fn all_rules(children: &[(u64, Node)]) -> u64
-    requires { count_in (branches (child_trees children.now)) < 2 ^ 64 }
-    ensures { result ≡ count_in (branches (child_trees children.now)) }
+#[tactic(auto, using(crate::proofs::Counted::levels_within, crate::proofs::Counted::no_rules))]
+fn part_counts<W: WhichLeaves>(node: &Node, which: &W) -> Counts
+    requires { levels_of (emptied (W.counted which.now) (tree_of node.now)) < 2 ^ 64 }
+    ensures levels { result.levels ≡ levels_of (emptied (W.counted which.now) (tree_of node.now)) }
+    ensures rules { result.rules ≡ capped (count_of (emptied (W.counted which.now) (tree_of node.now))) }
+    ensures few { result.levels ≤ result.rules }
+    ensures none { result.levels ≡ 0 → result.rules ≡ 0 }
 {
-    let mut all = 0;
+    node_counts(node, which)
+}
+
+// The greatest levels of the children, which share their priorities, and the rules of all.
+#[cycle(counts)]
+fn all_counts<W: WhichLeaves>(children: &[(u64, Node)], which: &W) -> Counts
+    requires { most_levels (emptied_in (W.counted which.now) (branches (child_trees children.now))) < 2 ^ 64 }
+    ensures levels { result.levels ≡ most_levels (emptied_in (W.counted which.now) (branches (child_trees children.now))) }
+    ensures rules { result.rules ≡ capped (count_in (emptied_in (W.counted which.now) (branches (child_trees children.now)))) }
+    ensures few { result.levels ≤ result.rules }
+    ensures none { result.levels ≡ 0 → result.rules ≡ 0 }
+{
+    let mut levels = 0;
+    let mut rules: u64 = 0;
     for child in children {
-        all += node_rules(&child.1);
+        let part = part_counts(&child.1, which);
+        if levels < part.levels {
+            levels = part.levels;
+        }
+        rules = with_more(rules, 0, part.rules);
     }
-    all
+    Counts { levels, rules }
+}
+
+// With so many barriers and rules more.
+fn with_more(rules: u64, barriers: u64, more: u64) -> u64
+    ensures { result ≡ capped (rules + (barriers + more)) }
+{
+    rules.saturating_add(barriers).saturating_add(more)
 }
