@@ -1,5 +1,5 @@
 -- No change leads from one list of rules to another just where they are the same rules, up to order.
-use Rattle.std.proofs.Common.{◌≡◌, ℕ, ◌≤◌, Bool, true, false, cond, List, [], ◌∷◌, ◌++◌, length, refl, sym, ap, ◌∙◌, subst, le-ltb, arith}
+use Rattle.std.proofs.Common.{◌≡◌, ℕ, Bool, true, false, cond, List, [], ◌∷◌, ◌++◌, length, refl, sym, ap, ◌∙◌, subst, le-ltb, arith}
 use Rattle.std.specs.Prelude.{Contains, map, not, ◌&&◌, ◌||◌, nat_lt, if◌then◌else◌, None}
 use Rattle.std.specs.List.Sorted.{IsPermutation}
 use Rattle.std.proofs.lemmas.Bool.{and_parts}
@@ -13,10 +13,9 @@ use Rattle.update_plan.specs.Batches.{rules_of, no_rules, IsTarget, lacking, lea
 use Rattle.update_plan.specs.Laws.{KeepShield, ShieldLaw}
 use Rattle.update_plan.proofs.Members.{here, there}
 use Rattle.update_plan.proofs.Shielded.{in_has}
-use Rattle.switch_session.specs.Parts.{Update, is_nil, leads_nowhere}
-use Rattle.switch_session.specs.Sessions.{State, heading, aimed_by}
-use Rattle.switch_session.specs.Calls.{IsUpdate}
-use Rattle.switch_session.specs.Laws.{SettlesInPlace, SettledLaw}
+use Rattle.switch_session.specs.Parts.{is_nil, leads_nowhere}
+use Rattle.switch_session.specs.Sessions.{heading, aimed_by}
+use Rattle.switch_session.specs.Laws.{SettledLaw}
 
 -- a list lacks none of the rules that it has, and none of them is to leave it
 none_lacking : (X : Rules) (rules : List Rule) → ((r : Rule) → Contains rules r → Contains (rules_of X) r) → lacking X rules ≡ []
