@@ -109,27 +109,38 @@ impl Driver {
     fn reply(&mut self, alloc: Global, call: Words<'_>) -> Result<Reply, Stop> {
         let mut words = call;
         match words.word() {
-            "record" => self.record(alloc, words),
-            "commit" => self.commit(words),
+            "record" => self.record_call(alloc, words),
+            "commit" => self.commit_call(words),
             "boot" => self.boot(alloc, words),
             _ => self.enter(alloc, call),
         }
     }
 
     // record JOB: records a run for a job.
-    fn record(&mut self, alloc: Global, mut words: Words<'_>) -> Result<Reply, Stop> {
+    fn record_call(&mut self, alloc: Global, mut words: Words<'_>) -> Result<Reply, Stop> {
         let job = words.number()?;
-        let item = item_of(&self.items, job).ok_or(Stop::Unread)?;
-        let run = recorded(alloc, &mut self.core, self.budget, &item)?;
-        self.runs.push((job, run))?;
+        self.record(alloc, job)?;
         Ok(Reply::Done)
     }
 
+    fn record(&mut self, alloc: Global, job: u64) -> Result<(), Stop> {
+        let item = item_of(&self.items, job).ok_or(Stop::Unread)?;
+        let run = recorded(alloc, &mut self.core, self.budget, &item)?;
+        self.runs.push((job, run))?;
+        Ok(())
+    }
+
     // commit JOB, commit JOB of JOB: commits the run that was recorded for the job that is named last.
-    fn commit(&mut self, mut words: Words<'_>) -> Result<Reply, Stop> {
+    fn commit_call(&mut self, mut words: Words<'_>) -> Result<Reply, Stop> {
         let job = words.number()?;
         let other = run_word(job, words)?;
-        let run = taken(&mut self.runs, other).ok_or(Stop::Unread)?;
+        self.commit(job, other)
+    }
+
+    fn commit(&mut self, job: u64, other: u64) -> Result<Reply, Stop> {
+        let Some(run) = taken(&mut self.runs, other) else {
+            return Err(Stop::Unread);
+        };
         Ok(self.core.step(Entry::Commit { job, run }))
     }
 

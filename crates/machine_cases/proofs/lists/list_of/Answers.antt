@@ -1,5 +1,5 @@
 use Rattle.std.proofs.Common.{sym, ◌∙◌}
-use Rattle.machine_cases.proofs.Lists.{target_is}
+use Rattle.machine_cases.proofs.RuleTests.{target_is}
 use Rattle.machine_cases.proofs.lists.list_of.Goals as goal
 
 pub returns-then-branch : goal.returns-then-branch
