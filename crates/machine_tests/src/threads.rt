@@ -1,55 +1,35 @@
-// The machine, what it is told and what it answers may go to another thread.
+// The machine, what it is told and what it answers, sessions and devices may go to another thread.
 ghost use Rattle.machine_steps.specs.Sound.{AreInRange};
 
-use crate::entries::policy_of;
-use crate::sessions::and_back;
 use core_machine::{Core, Entry, JobItem, Reply};
-use maple_base::Settings;
+use device_port::Device;
+use maple_base::{Settings, Turned};
+use model_switch::{Backward, Failing, Logged, Orderly, Shuffled};
+use policy_text::read_policy;
 use std::alloc::Global;
 use std::test::Fail;
-use std::thread::Threads;
+use std::thread::{Threads, join};
+use switch_session::Session;
 
-#[test]
-fn items_go_to_another_thread(rt: HostRuntime) -> Result<(), Fail> {
-    let items: Vec<JobItem> = and_back(&rt, Vec::new(rt.alloc()));
-    if items.is_empty() {
-        Ok(())
-    } else {
-        Err(Fail::from("items"))
-    }
+// The HELLO that a session begins with.
+const HELLO: &[u8] = &[1, 0, 0, 8, 0, 0, 0, 0];
+
+// The value, behind a stay in another thread.
+fn and_back<T: Drop + Send>(rt: &impl Threads, value: T) -> T {
+    let (value, ()) = join(rt, move || value, || ());
+    value
 }
 
-#[test]
-fn replies_go_to_another_thread(rt: HostRuntime) -> Result<(), Fail> {
-    match reply_and_back(&rt, Reply::Count(7)) {
-        Reply::Count(7) => Ok(()),
-        _ => Err(Fail::from("a reply")),
-    }
+fn items_and_back(rt: &impl Threads, items: Vec<JobItem>) -> Vec<JobItem> {
+    and_back(rt, items)
 }
 
 fn reply_and_back(rt: &impl Threads, reply: Reply) -> Reply {
     and_back(rt, reply)
 }
 
-#[test]
-fn entries_go_to_another_thread(rt: HostRuntime) -> Result<(), Fail> {
-    match entry_and_back(&rt, Entry::OpenJobs) {
-        Entry::OpenJobs => Ok(()),
-        _ => Err(Fail::from("an entry")),
-    }
-}
-
 fn entry_and_back(rt: &impl Threads, entry: Entry) -> Entry {
     and_back(rt, entry)
-}
-
-#[test]
-fn machines_go_to_another_thread(rt: HostRuntime) -> Result<(), Fail> {
-    let mut core = core_and_back(&rt, machine(rt.alloc())?);
-    match core.step(Entry::OpenJobs) {
-        Reply::Count(0) => Ok(()),
-        _ => Err(Fail::from("a machine")),
-    }
 }
 
 fn core_and_back(rt: &impl Threads, core: Core) -> Core {
@@ -57,7 +37,9 @@ fn core_and_back(rt: &impl Threads, core: Core) -> Core {
 }
 
 fn machine(alloc: Global) -> Result<Core, Fail> {
-    let policy = policy_of(alloc, "policy { drop; }")?;
+    let Ok(policy) = read_policy(alloc, b"policy { drop; }") else {
+        return Err(Fail::from("a policy"));
+    };
     match Core::new(alloc, policy, settings()) {
         Ok(core) => Ok(core),
         Err(_) => Err(Fail::from("memory")),
@@ -73,4 +55,54 @@ fn settings() -> Settings
         budget: 1,
         workers: 0,
     }
+}
+
+#[test]
+fn machines(rt: HostRuntime) -> Result<(), Fail> {
+    let items = items_and_back(&rt, Vec::new(rt.alloc()));
+    assert!(&rt; items.is_empty());
+    let reply = reply_and_back(&rt, Reply::Count(7));
+    assert!(&rt; matches!(reply, Reply::Count(7)));
+    let entry = entry_and_back(&rt, Entry::OpenJobs);
+    assert!(&rt; matches!(entry, Entry::OpenJobs));
+    let mut core = core_and_back(&rt, machine(rt.alloc())?);
+    assert!(&rt; matches!(core.step(Entry::OpenJobs), Reply::Count(0)));
+    Ok(())
+}
+
+#[test]
+fn sessions(rt: HostRuntime) -> Result<(), Fail> {
+    let Ok(opened) = Session::open(rt.alloc(), 1, 5) else {
+        return Err(Fail::from("memory"));
+    };
+    let mut session = and_back(&rt, opened);
+    match session.take_out() {
+        Ok(bytes) => assert!(&rt; bytes.items() == HELLO),
+        Err(_) => return Err(Fail::from("memory")),
+    }
+    Ok(())
+}
+
+// Whether no message waits in the device, behind a stay in another thread.
+fn rests<D: Device + Send>(rt: &impl Threads, alloc: Global, device: D) -> bool {
+    let mut device = and_back(rt, device);
+    let mut out = Vec::new(alloc);
+    matches!(device.turn(&mut out), Turned::Nothing) && out.is_empty()
+}
+
+fn orderly(alloc: Global) -> Orderly {
+    Orderly::new(alloc, 1, 3, 2)
+}
+
+#[test]
+fn devices(rt: HostRuntime) -> Result<(), Fail> {
+    let alloc = rt.alloc();
+    assert!(&rt; rests(&rt, alloc, orderly(alloc)));
+    assert!(&rt; rests(&rt, alloc, Logged::new(alloc, orderly(alloc))));
+    assert!(&rt; rests(&rt, alloc, Backward::new(alloc, 1, 3, 2)));
+    assert!(&rt; rests(&rt, alloc, Failing::new(orderly(alloc), Vec::new(alloc))));
+    assert!(&rt; rests(&rt, alloc, Shuffled::new(alloc, 1, 3, 2, 7)));
+    let boxed: Box<dyn Device + Send> = Box::new(alloc, orderly(alloc))?;
+    assert!(&rt; rests(&rt, alloc, boxed));
+    Ok(())
 }
