@@ -1,28 +1,17 @@
-// Messages as they are written.
-ghost use Rattle.std.specs.Prelude.{◌≡◌, true, IsTrue};
-ghost use Rattle.of10_codec.specs.Lent.{body_of};
-ghost use Rattle.of10_codec.specs.Written.{is_address, match_fits_fields, fits_fields};
-
-use crate::bodies::body_of;
+// Messages and matches as they are written.
+use crate::bodies::push_body;
 use crate::spelling::repeated;
+use crate::writing::{Form, Writing, match_fits};
 use case_text::{Stop, Subject, Words, push_hex};
 use case_values::match_of;
-use maple_base::{Match, NoMemory};
-use of10_codec::{BodyRef, EncodeError, MessageRef, encode, encode_ref, match_bytes};
-use std::alloc::{AllocError, Global};
+use maple_base::NoMemory;
+use of10_codec::match_bytes;
+use std::alloc::Global;
 
 /// Messages have no state.
 #[derive(Drop)]
 pub struct Encoding {
     alloc: Global,
-}
-
-// What a message is written as: where its bytes are lent or its own, and with room for just its bytes or none.
-#[derive(Clone, Copy)]
-enum Form {
-    Lent,
-    Own,
-    Grown,
 }
 
 impl Subject for Encoding {
@@ -51,123 +40,7 @@ fn push_message(
     let xid = call.number_u32()?;
     let (words, digits) = call.rest().split_once(" : ").unwrap_or((call.rest(), ""));
     let bytes = repeated(alloc, digits)?;
-    let body = body_of(alloc, Words::new(words), &bytes)?;
-    push_written(alloc, form, &MessageRef { xid, body }, out)
-}
-
-fn push_written(
-    alloc: Global,
-    form: Form,
-    message: &MessageRef<'_>,
-    out: &mut String,
-) -> Result<(), Stop> {
-    match form {
-        Form::Lent => push_lent(alloc, message, out),
-        Form::Own => push_own(alloc, message, message.encoded_len(), out),
-        Form::Grown => push_own(alloc, message, 0, out),
-    }
-}
-
-fn is_address(fixed: Option<u64>) -> bool
-    ensures { result ≡ is_address fixed }
-{
-    match fixed {
-        None => true,
-        Some(address) => address < 1 << 48,
-    }
-}
-
-fn match_fits(of: &Match) -> bool
-    ensures { result ≡ match_fits_fields of.now }
-{
-    is_address(of.dl_src) && is_address(of.dl_dst)
-}
-
-// Whether a body may be written; not told of one of another type.
-fn may_be_written(body: &BodyRef<'_>) -> bool
-    ensures { IsTrue result → fits_fields (body_of body.now) ≡ true }
-{
-    match *body {
-        BodyRef::FlowRemoved { of, .. } => match_fits(&of),
-        BodyRef::FlowMod { of, .. } => match_fits(&of),
-        BodyRef::PortStatus { reason, .. } => reason <= 2,
-        BodyRef::Other { kind } => kind == 16,
-        _ => true,
-    }
-}
-
-// A byte 7, with room for so many behind it.
-fn seven(alloc: Global, len: u128) -> Result<Vec<u8>, Stop> {
-    let room = usize::try_from(len)?;
-    let mut out = Vec::with_capacity(alloc, room.saturating_add(1))?;
-    out.push(7)?;
-    Ok(out)
-}
-
-fn push_lent(alloc: Global, message: &MessageRef<'_>, out: &mut String) -> Result<(), Stop> {
-    if !may_be_written(&message.body) {
-        return Err(Stop::Unread);
-    }
-    let mut bytes = seven(alloc, message.encoded_len())?;
-    push_told(encode_ref(message, &mut bytes), out)?;
-    push_room(&bytes, out)?;
-    Ok(push_bytes(&bytes, out)?)
-}
-
-fn push_own(
-    alloc: Global,
-    message: &MessageRef<'_>,
-    room: u128,
-    out: &mut String,
-) -> Result<(), Stop> {
-    if !may_be_written(&message.body) {
-        return Err(Stop::Unread);
-    }
-    let own = message.to_message(alloc)?;
-    let mut bytes = seven(alloc, room)?;
-    push_told(encode(&own, &mut bytes), out)?;
-    if room > 0 {
-        push_room(&bytes, out)?;
-    }
-    Ok(push_bytes(&bytes, out)?)
-}
-
-fn push_told(answer: Result<(), EncodeError>, out: &mut String) -> Result<(), Stop> {
-    match answer {
-        Ok(()) => Ok(()),
-        Err(EncodeError::TooLong(len)) => Ok(write!(out, "TooLong {len}, ")?),
-        Err(EncodeError::NoMemory) => Err(Stop::NoMemory),
-    }
-}
-
-// Whether there is other room than for just the bytes.
-fn push_room(bytes: &Vec<u8>, out: &mut String) -> Result<(), AllocError> {
-    if out.is_empty() && bytes.capacity() != bytes.len() {
-        write!(out, "room for {}, ", bytes.capacity())?;
-    }
-    Ok(())
-}
-
-// All bytes, or how many, the first nine, and how many of the others are 1.
-fn push_bytes(bytes: &[u8], out: &mut String) -> Result<(), AllocError> {
-    match bytes.split_at_checked(9) {
-        Some((front, rest)) if rest.len() > 1000 => {
-            write!(out, "{} bytes, ", bytes.len())?;
-            push_hex(front, out)?;
-            write!(out, ".., {} of 1", ones(rest))
-        }
-        _ => push_hex(bytes, out),
-    }
-}
-
-fn ones(bytes: &[u8]) -> u32 {
-    let mut count = 0u32;
-    for byte in bytes {
-        if *byte == 1 {
-            count = count.saturating_add(1);
-        }
-    }
-    count
+    push_body(Writing { alloc, form, xid }, Words::new(words), &bytes, out)
 }
 
 // MATCH: its 40 bytes.

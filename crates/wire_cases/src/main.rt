@@ -16,6 +16,7 @@ mod reports;
 mod scripts;
 mod spelling;
 mod streams;
+mod writing;
 
 use base::Base;
 use case_text::{Program, check_file, check_files};
