@@ -1,5 +1,5 @@
 // What a trace has to be to be put into a tree.
-ghost use Rattle.std.specs.Prelude.{◌≡◌, ◌≤◌, [], length, IsTrue, IfOk, OnOk, MatchResult};
+ghost use Rattle.std.specs.Prelude.{◌≡◌, ◌<◌, ◌≤◌, [], length, IsTrue, IfOk, OnOk, MatchResult};
 ghost use Rattle.trace_tree.specs.TreeOf.{branches, child_trees, values_of};
 ghost use Rattle.std.specs.List.{list_all, list_any};
 ghost use Rattle.maple_base.specs.Questions.{asks_once, field_number, same_field, within_domain};
