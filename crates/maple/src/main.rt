@@ -1,9 +1,10 @@
 //! Maple, an SDN controller for OpenFlow 1.0 switches.
 #![tactic(auto)]
 
+use device_port::Device;
 use maple_base::{Bytes, NoMemory, Words};
 use maple_io::{ReadSource, WriteSink};
-use maple_top::{Status, maple, program_devices};
+use maple_top::{DEVICES, Status, maple, program_device, push_idle};
 use std::alloc::Global;
 use std::env;
 use std::io::ErrorKind;
@@ -41,7 +42,10 @@ fn main(rt: HostRuntime) -> ExitCode {
 fn run(rt: &HostRuntime) -> Result<Status, NoMemory> {
     let alloc = rt.alloc();
     let words = words_of(rt)?;
-    let mut devices = program_devices(alloc)?;
+    let mut devices: Vec<Box<dyn Device + Send>> = Vec::new(alloc);
+    for place in 1..=DEVICES {
+        push_idle(&mut devices, Box::new(alloc, program_device(alloc, place))?)?;
+    }
     let mut input = ReadSource::new(rt.stdin());
     let mut output = WriteSink::new(rt.stdout());
     Ok(maple(rt, alloc, &words, &mut input, &mut output, &mut devices))

@@ -1,9 +1,10 @@
 // The devices of the program.
-ghost use Rattle.std.specs.Prelude.{◌≡◌, ◌++◌, [], ◌∷◌, IfOk, OnOk, length, map};
+ghost use Rattle.std.specs.Prelude.{◌≡◌, ◌++◌, [], ◌∷◌, None, OnOk, map};
+ghost use Rattle.model_switch.specs.Meanings.{of_shuffled};
+ghost use Rattle.model_switch.specs.States.{meaning_of, opened};
 ghost use Rattle.sim_steps.specs.Showing.{AllIdle};
 
 use device_port::Device;
-use maple_base::NoMemory;
 use model_switch::Shuffled;
 use std::alloc::{AllocError, Global};
 
@@ -27,15 +28,11 @@ pub fn push_idle<D: Device>(all: &mut Vec<D>, device: D) -> Result<(), AllocErro
     Ok(())
 }
 
-/// The devices of the program, with the datapath ids and the seeds from 1 on. No message waits in any.
-pub fn program_devices(alloc: Global) -> Result<Vec<Box<dyn Device + Send>>, NoMemory>
-    ensures count { IfOk result (λ devices. length devices.items ≡ 64) }
-    ensures idle { IfOk result (λ devices. AllIdle (map meaning devices.items)) }
+/// The device of the program at a place, from 1 to `DEVICES`: its datapath id and its seed are the
+/// place. No message waits in it.
+pub fn program_device(alloc: Global, place: u64) -> Shuffled
+    ensures meaning { of_shuffled result ≡ meaning_of 0 None (opened place 48 65535) }
+    ensures idle { (of_shuffled result).pending ≡ [] }
 {
-    let mut devices: Vec<Box<dyn Device + Send>> = Vec::new(alloc);
-    for number in 1..=DEVICES {
-        let device = Shuffled::new(alloc, number, PORTS, MOST_RULES, number);
-        push_idle(&mut devices, Box::new(alloc, device)?)?;
-    }
-    Ok(devices)
+    Shuffled::new(alloc, place, PORTS, MOST_RULES, place)
 }

@@ -10,6 +10,6 @@ pub mod status;
 pub mod top;
 pub mod words;
 
-pub use devices::{DEVICES, MOST_RULES, PORTS, program_devices, push_idle};
+pub use devices::{DEVICES, MOST_RULES, PORTS, program_device, push_idle};
 pub use status::Status;
 pub use top::maple;

@@ -1,5 +1,6 @@
 // The examples: a policy with its script in one file, and what comes of it in another.
 use crate::given::Given;
+use crate::outcome::outcome_of;
 use maple_base::NoMemory;
 use std::alloc::Global;
 use std::io::ErrorKind;
@@ -29,7 +30,7 @@ fn read(rt: &HostRuntime, name: &str, ending: &str) -> io::Result<String> {
 }
 
 fn is_right(alloc: Global, word: &str, input: &str, output: &str) -> io::Result<bool> {
-    match Given::new(alloc).run(word, input) {
+    match outcome_of(alloc, &Given::new(alloc), word, input) {
         Ok(came) => Ok(came.status == 0 && came.text() == output),
         Err(NoMemory) => Err(io::Error::from(ErrorKind::OutOfMemory)),
     }

@@ -1,7 +1,13 @@
 // What comes of a run.
+use crate::devices::{Kind, backward, failing, logged, orderly};
+use crate::given::Given;
+use crate::words::words_of;
 use case_text::push_text;
-use maple_io::MemSink;
-use std::alloc::AllocError;
+use device_port::Device;
+use maple_base::NoMemory;
+use maple_io::{MemSink, MemSource};
+use maple_top::{maple, program_device, push_idle};
+use std::alloc::{AllocError, Global};
 
 /// The exit status, and what was written.
 #[derive(Drop)]
@@ -27,6 +33,37 @@ impl Outcome {
             None => push_behind(" with ", self.text(), out),
         }
     }
+}
+
+/// Runs these words on an input.
+pub fn outcome_of(
+    alloc: Global,
+    given: &Given,
+    words: &str,
+    input: &str,
+) -> Result<Outcome, NoMemory> {
+    let words = words_of(alloc, words)?;
+    let mut source = source_of(alloc, given, input)?;
+    let mut sink = MemSink::new(Vec::from_slice(alloc, &given.writes)?);
+    let mut boxes: Vec<Box<dyn Device + Send>> = Vec::new(alloc);
+    for kind in given.kinds(alloc)? {
+        match kind {
+            Kind::Shuffled(n) => push_idle(&mut boxes, Box::new(alloc, program_device(alloc, n))?)?,
+            Kind::Orderly(n, room) => {
+                push_idle(&mut boxes, Box::new(alloc, orderly(alloc, n, room))?)?
+            }
+            Kind::Backward(n) => push_idle(&mut boxes, Box::new(alloc, backward(alloc, n))?)?,
+            Kind::Logged(n) => push_idle(&mut boxes, Box::new(alloc, logged(alloc, n))?)?,
+            Kind::Failing(call) => push_idle(&mut boxes, Box::new(alloc, failing(alloc, call)?)?)?,
+        }
+    }
+    let status = maple(&(), alloc, &words, &mut source, &mut sink, &mut boxes).number();
+    Ok(Outcome { status, sink })
+}
+
+fn source_of(alloc: Global, given: &Given, input: &str) -> Result<MemSource, AllocError> {
+    let content = Vec::from_slice(alloc, input.as_bytes())?;
+    Ok(MemSource::new(content, Vec::from_slice(alloc, &given.reads)?))
 }
 
 fn part_of<'a>(text: &'a str, wanted: &str) -> Option<&'a str> {

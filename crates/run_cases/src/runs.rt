@@ -1,5 +1,6 @@
 // Runs of the top call.
 use crate::given::Given;
+use crate::outcome::{Outcome, outcome_of};
 use case_text::{Stop, Subject, Words};
 use maple_base::NoMemory;
 use std::alloc::Global;
@@ -68,16 +69,20 @@ impl Runs {
         Ok(())
     }
 
+    fn came(&self, words: &str, input: &str) -> Result<Outcome, NoMemory> {
+        outcome_of(self.alloc, &self.given, words, input)
+    }
+
     // Runs the words of the call.
     fn run(&self, call: Words<'_>, out: &mut String) -> Result<(), Stop> {
-        let came = self.given.run(call.rest(), self.input.as_str())?;
+        let came = self.came(call.rest(), self.input.as_str())?;
         Ok(came.push(self.output.as_str(), out)?)
     }
 
     // Runs a word, where the text of the call stands in the place of `@`.
     fn give(&self, word: &str, call: Words<'_>, out: &mut String) -> Result<(), Stop> {
         let input = self.input_with(call)?;
-        let came = self.given.run(word, input.as_str())?;
+        let came = self.came(word, input.as_str())?;
         Ok(came.push(self.output.as_str(), out)?)
     }
 
@@ -95,9 +100,9 @@ impl Runs {
     // Prints a policy, and then what was printed, of which the same is to come.
     fn form(&self, call: Words<'_>, out: &mut String) -> Result<(), Stop> {
         let input = self.input_with(call)?;
-        let came = self.given.run("check", input.as_str())?;
+        let came = self.came("check", input.as_str())?;
         came.push(self.output.as_str(), out)?;
-        let again = self.given.run("check", came.text())?;
+        let again = self.came("check", came.text())?;
         if again.status != came.status || again.text() != came.text() {
             out.push_str(", and of that ")?;
             again.push(self.output.as_str(), out)?;

@@ -1,9 +1,10 @@
 // An input without an end, and a script whose numbers begin elsewhere.
 ghost use Rattle.std.specs.Prelude.{None};
 
+use device_port::Device;
 use maple_base::{Bytes, NoMemory, Settings, Words};
 use maple_io::{Got, MemSink, Source};
-use maple_top::{Status, maple, program_devices};
+use maple_top::{Status, maple, program_device, push_idle};
 use policy_text::read_policy;
 use report_text::ScriptRefusal;
 use sim_driver::{SimEnd, run_sim};
@@ -31,7 +32,8 @@ impl Source for Endless {
 fn stops_at_an_endless_input(rt: HostRuntime) -> Result<(), Fail> {
     let alloc = rt.alloc();
     let words = sim_alone(alloc)?;
-    let mut devices = program_devices(alloc)?;
+    let mut devices: Vec<Box<dyn Device + Send>> = Vec::new(alloc);
+    push_idle(&mut devices, Box::new(alloc, program_device(alloc, 1))?)?;
     let mut sink = MemSink::new(Vec::new(alloc));
     let status = maple(&(), alloc, &words, &mut Endless, &mut sink, &mut devices);
     assert_eq!(&rt; status, Status::TooLong);
@@ -61,7 +63,8 @@ fn refuses_the_second_line(rt: HostRuntime) -> Result<(), Fail> {
         return Err(Fail::from("a policy"));
     };
     let script = b"plug 1\nplug 65\n";
-    let mut devices = program_devices(alloc)?;
+    let mut devices: Vec<Box<dyn Device + Send>> = Vec::new(alloc);
+    push_idle(&mut devices, Box::new(alloc, program_device(alloc, 1))?)?;
     let mut sink = MemSink::new(Vec::new(alloc));
     let end = run_sim(alloc, policy, script, 7, SETTINGS, &mut devices, &mut sink);
     let refused = SimEnd::Script {
