@@ -2,6 +2,7 @@
 ghost use Rattle.std.specs.Prelude.{◌≡◌};
 ghost use Rattle.policy_lang.specs.TreeOf.{term_of};
 ghost use Rattle.policy_lang.specs.Forms.{form_term};
+ghost use Rattle.policy_lang.specs.Nodes.{level_of};
 
 use crate::Expr;
 use maple_base::{Field, Name, Operator};
@@ -58,6 +59,18 @@ impl Expr {
             Expr::NotEqual(left, right) => Form::Pair(Operator::NotEqual, left, right),
             Expr::Less(left, right) => Form::Pair(Operator::Less, left, right),
             Expr::LessEqual(left, right) => Form::Pair(Operator::LessEqual, left, right),
+        }
+    }
+
+    /// How closely its last operator binds: 5 where it has none.
+    pub fn level(&self) -> u8
+        ensures { result ≡ level_of (term_of self.now) }
+    {
+        match self.form() {
+            Form::Single(_) | Form::Call(_, _, _) => 5,
+            Form::Is(_, _) => 3,
+            Form::Not(_) => 2,
+            Form::Pair(operator, _, _) => operator.level(),
         }
     }
 }

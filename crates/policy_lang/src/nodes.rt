@@ -4,7 +4,7 @@ ghost use Rattle.maple_base.specs.PolicyLimits.{most_nodes, deepest};
 ghost use Rattle.maple_base.specs.Operators.{left_level, right_level};
 ghost use Rattle.policy_lang.specs.Tree.{Binds};
 ghost use Rattle.policy_lang.specs.TreeOf.{term_of, terms_of, ask_of, act_of, acts_of, tree_of};
-ghost use Rattle.policy_lang.specs.Nodes.{level_of, opens, length_of, node, term_nodes, nodes_from, lengths_of, terms_nodes, ask_length, ask_nodes, act_length, act_nodes, nodes_of, AreFree, IsStopOf};
+ghost use Rattle.policy_lang.specs.Nodes.{opens, length_of, node, term_nodes, nodes_from, lengths_of, terms_nodes, ask_length, ask_nodes, act_length, act_nodes, nodes_of, AreFree, IsStopOf};
 ghost use Rattle.policy_lang.specs.NodeWalks.{Begun, TermBegun, Walked, PartWalked, CallWalked, PairWalked, IfWalked, WhileWalked, OtherWalked, ActsWalked, Spares, binding_nodes, deep_in};
 ghost use Rattle.std.specs.Option.{option_map};
 ghost use Rattle.maple_base.specs.declared.policy_fault.PolicyFault.TheVariants.{Nesting, Nodes};
@@ -68,23 +68,12 @@ fn too_many() -> WalkStop
     })
 }
 
-fn level(expr: &Expr) -> u8
-    ensures { result ≡ level_of (term_of expr.now) }
-{
-    match expr.form() {
-        Form::Single(_) | Form::Call(_, _, _) => 5,
-        Form::Is(_, _) => 3,
-        Form::Not(_) => 2,
-        Form::Pair(operator, _, _) => operator.level(),
-    }
-}
-
 // How many parentheses open ahead of an expression at a place of a level.
 fn opens(least: u8, expr: &Expr) -> u32
     ensures result { result ≡ opens least (term_of expr.now) }
     ensures few { result ≤ 1 }
 {
-    if level(expr) < least { 1 } else { 0 }
+    if expr.level() < least { 1 } else { 0 }
 }
 
 // Of the parts of an expression that begin with its first token, the first that is too deep.

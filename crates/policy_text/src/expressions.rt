@@ -2,7 +2,6 @@
 ghost use Rattle.std.specs.Prelude.{◌≡◌, ◌++◌, nat_lt, decimal, OnOk, codes};
 ghost use Rattle.policy_lang.specs.TreeOf.{term_of, terms_of};
 ghost use Rattle.policy_lang.specs.Forms.{atom_of, callee_of};
-ghost use Rattle.policy_lang.specs.Nodes.{level_of};
 ghost use Rattle.policy_text.specs.Printed.{◌&◌, sign_of, field_text, call_text, callee_text, atom_text, expr_text, more_text, exprs_text};
 ghost use Rattle.policy_text.specs.Operators.{part_text, operation_text};
 
@@ -22,18 +21,6 @@ fn sign_of(operator: Operator) -> &'static [u8]
         Operator::LessEqual => b"<=",
         Operator::Add => b"+",
         Operator::Sub => b"-",
-    }
-}
-
-// How closely the last operator of an expression binds.
-fn level_of(expr: &Expr) -> u8
-    ensures { result ≡ level_of (term_of expr.now) }
-{
-    match expr.form() {
-        Form::Pair(operator, _, _) => operator.level(),
-        Form::Not(_) => 2,
-        Form::Is(_, _) => 3,
-        Form::Single(_) | Form::Call(_, _, _) => 5,
     }
 }
 
@@ -121,7 +108,7 @@ fn push_call(text: &mut Vec<u8>, name: &[u8], left: &Expr, right: &Expr) -> Resu
 fn push_part(text: &mut Vec<u8>, least: u8, part: &Expr) -> Result<(), AllocError>
     ensures { OnOk result (text.new.items ≡ text.old.items ++ part_text least (term_of part.now)) }
 {
-    if !needs_parentheses(least, level_of(part)) {
+    if !needs_parentheses(least, part.level()) {
         return push_expr(text, part);
     }
     text.extend_from_slice(b"(")?;

@@ -17,6 +17,16 @@ struct Counts {
     rules: u64,
 }
 
+const NO_RULES: Counts = Counts {
+    levels: 0,
+    rules: 0,
+};
+
+const ONE_RULE: Counts = Counts {
+    levels: 1,
+    rules: 1,
+};
+
 /// How many priorities the rules of a tree take.
 #[tactic(auto, using(crate::proofs::Places::levels_law, crate::proofs::Grows::few_priorities))]
 pub fn levels(tree: &Tree) -> u64
@@ -59,33 +69,19 @@ fn node_counts<W: WhichLeaves>(node: &Node, which: &W) -> Counts
     ensures rules { result.rules ≡ capped (count_of (emptied (W.counted which.now) (tree_of node.now))) }
 {
     let mut node = node;
-    let mut levels: u64 = 0;
-    let mut rules: u64 = 0;
+    let mut counts = NO_RULES;
     // tests since the last rule: their barriers count once a further rule stands on their false side
     let mut waiting: u64 = 0;
     loop {
         match node {
-            Node::Empty => return Counts { levels, rules },
-            Node::Leaf(leaf) => {
-                return if which.counts(leaf) {
-                    Counts {
-                        levels: levels + waiting + 1,
-                        rules: with_more(rules, waiting, 1),
-                    }
-                } else {
-                    Counts { levels, rules }
-                };
-            }
+            Node::Leaf(leaf) if which.counts(leaf) => return with_part(counts, waiting, ONE_RULE),
+            Node::Empty | Node::Leaf(_) => return counts,
             Node::Values { children, .. } => {
                 let all = all_counts(children, which);
-                let more = with_more(rules, waiting, all.rules);
                 return if all.levels == 0 {
-                    Counts { levels, rules }
+                    counts
                 } else {
-                    Counts {
-                        levels: levels + waiting + all.levels,
-                        rules: more,
-                    }
+                    with_part(counts, waiting, all)
                 };
             }
             Node::Test { no, yes, .. } => {
@@ -93,8 +89,7 @@ fn node_counts<W: WhichLeaves>(node: &Node, which: &W) -> Counts
                 if above.levels == 0 {
                     waiting = waiting.saturating_add(1);
                 } else {
-                    levels += waiting + above.levels;
-                    rules = with_more(rules, waiting, above.rules);
+                    counts = with_part(counts, waiting, above);
                     waiting = 1;
                 }
                 node = no;
@@ -135,6 +130,18 @@ fn all_counts<W: WhichLeaves>(children: &[(u64, Node)], which: &W) -> Counts
         rules = with_more(rules, 0, part.rules);
     }
     Counts { levels, rules }
+}
+
+// With the barriers of so many tests and a part on the false side of them.
+fn with_part(counts: Counts, barriers: u64, part: Counts) -> Counts
+    requires { counts.levels + (barriers + part.levels) < 2 ^ 64 }
+    ensures levels { result.levels ≡ counts.levels + (barriers + part.levels) }
+    ensures rules { result.rules ≡ capped (counts.rules + (barriers + part.rules)) }
+{
+    Counts {
+        levels: counts.levels + barriers + part.levels,
+        rules: with_more(counts.rules, barriers, part.rules),
+    }
 }
 
 // With so many barriers and rules more.

@@ -1,18 +1,9 @@
 use Rattle.std.proofs.Common.{◌≡◌, sym, ap, ◌∙◌, arith}
 use Rattle.trace_tree.specs.TreeOf.{tree_of, branches, child_trees}
 use Rattle.trace_tree.proofs.Rolls.{tree_of-Values}
-use Rattle.priority_plan.specs.Rules.{levels_of, most_levels}
 use Rattle.priority_plan.specs.Counts.{count_of, count_in, capped}
 use Rattle.priority_plan.specs.Emptied.{emptied, emptied_in}
 use Rattle.priority_plan.proofs.counting.+counts.Goals as goal
-
-pub node_counts-overflow_add-result-else-all-eq0 : goal.node_counts-overflow_add-result-else-all-eq0
-node_counts-overflow_add-result-else-all-eq0 g t c =
-    let p = g.W.WhichLeaves.counted c.args.which.now in
-    let rolled = ap tree_of c.in-Values.is ∙ tree_of-Values c.in-Values.field c.in-Values.children in
-    let left : levels_of (emptied p (tree_of c.loop-node.node.now)) ≡ c.all_counts-all.result.levels = ap (λ x. levels_of (emptied p x)) rolled ∙ ap (λ cs. most_levels (emptied_in p (branches (child_trees cs)))) (sym c.deref.ensures.value) ∙ sym c.all_counts-all.ensures.levels in
-    let all = c.loop-node.invariant.more (omega (arith, left)) in
-    omega (arith, all, left, c.requires)
 
 pub node_counts-returns-then-all-eq0-clause-rules : goal.node_counts-returns-then-all-eq0-clause-rules
 node_counts-returns-then-all-eq0-clause-rules g t c =
@@ -28,4 +19,4 @@ node_counts-returns-else-all-eq0-clause-rules g t c =
     let rolled = ap tree_of c.in-Values.is ∙ tree_of-Values c.in-Values.field c.in-Values.children in
     let left : capped (count_of (emptied p (tree_of c.loop-node.node.now))) ≡ c.all_counts-all.result.rules = ap (λ x. capped (count_of (emptied p x))) rolled ∙ ap (λ cs. capped (count_in (emptied_in p (branches (child_trees cs))))) (sym c.deref.ensures.value) ∙ sym c.all_counts-all.ensures.rules in
     let all = c.loop-node.invariant.more_rules (omega (arith, left, c.all_counts-all.ensures.few)) in
-    omega (arith, all, left, c.with_more-more.ensures)
+    omega (arith, all, left, c.with_part-else-all-eq0.ensures.rules)

@@ -14,10 +14,10 @@ invariant-node_counts-loop-node g l =
     let left = emptied p (tree_of l.node) in
     let all = emptied p (tree_of l.fn.node) in
     record {
-      done : levels_of left ≡ 0 → l.levels ≡ levels_of all;
-      more : 0 < levels_of left → l.levels + (l.waiting + levels_of left) ≡ levels_of all;
-      done_rules : count_of left ≡ 0 → l.rules ≡ capped (count_of all);
-      more_rules : 0 < count_of left → capped (l.rules + (l.waiting + count_of left)) ≡ capped (count_of all);
+      done : levels_of left ≡ 0 → l.counts.levels ≡ levels_of all;
+      more : 0 < levels_of left → l.counts.levels + (l.waiting + levels_of left) ≡ levels_of all;
+      done_rules : count_of left ≡ 0 → l.counts.rules ≡ capped (count_of all);
+      more_rules : 0 < count_of left → capped (l.counts.rules + (l.waiting + count_of left)) ≡ capped (count_of all);
       nodes : nodes_of (tree_of l.node) ≤ nodes_of (tree_of l.fn.node);
     }
 
