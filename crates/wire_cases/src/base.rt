@@ -1,6 +1,8 @@
 // Keys and matches, names, paths and decisions.
+use crate::decisions::{decision_of, two_hops};
+use crate::spelling::push_ports;
 use case_text::{Stop, Subject, Words};
-use case_values::{actions_of, key_of, match_of, push_actions, push_flag, push_place, with_fields};
+use case_values::{key_of, match_of, push_flag, push_place, with_fields};
 use maple_base::{Decision, Field, Key, Match, Name, NoMemory, Path, Place};
 use std::alloc::{AllocError, Global};
 
@@ -26,8 +28,8 @@ impl Subject for Base {
             "match" => push_judged(&match_of(call.word())?, &self.key, out)?,
             "name" => push_flag(Name::new(call.rest().as_bytes()).is_some(), out)?,
             "field" => push_field(Field::named(call.rest().as_bytes()), out)?,
-            "hops" => push_hops(two_hops(self.alloc)?.items(), out)?,
-            "copy" => push_hops(two_hops(self.alloc)?.copy()?.items(), out)?,
+            "hops" => push_two_hops(self.alloc, out)?,
+            "copy" => push_copy(self.alloc, out)?,
             "actions" => push_actions_at(self.alloc, call, out)?,
             _ => return Err(Stop::Unread),
         }
@@ -66,9 +68,21 @@ fn push_field(field: Option<Field>, out: &mut String) -> Result<(), AllocError> 
     }
 }
 
-fn two_hops(alloc: Global) -> Result<Path, NoMemory> {
-    let hops = [Place { switch: 1, port: 5 }, Place { switch: 2, port: 6 }];
-    Ok(Path::new(Vec::from_slice(alloc, &hops)?))
+fn push_two_hops(alloc: Global, out: &mut String) -> Result<(), NoMemory> {
+    let path = two_hops(alloc)?;
+    push_hops(path.items(), out)?;
+    Ok(())
+}
+
+fn push_copy(alloc: Global, out: &mut String) -> Result<(), NoMemory> {
+    let copy = copy_of_hops(alloc)?;
+    push_hops(copy.items(), out)?;
+    Ok(())
+}
+
+fn copy_of_hops(alloc: Global) -> Result<Path, NoMemory> {
+    let path = two_hops(alloc)?;
+    path.copy()
 }
 
 fn push_hops(hops: &[Place], out: &mut String) -> Result<(), AllocError> {
@@ -85,15 +99,11 @@ fn push_hops(hops: &[Place], out: &mut String) -> Result<(), AllocError> {
 fn push_actions_at(alloc: Global, mut call: Words<'_>, out: &mut String) -> Result<(), Stop> {
     let switch = call.number()?;
     let decision = decision_of(alloc, call.word())?;
-    let copy = decision.copy()?;
-    Ok(push_actions(&copy.actions_at(switch), out)?)
+    Ok(push_copied(&decision, switch, out)?)
 }
 
-fn decision_of(alloc: Global, word: &str) -> Result<Decision, Stop> {
-    match word {
-        "drop" => Ok(Decision::Drop),
-        "flood" => Ok(Decision::Flood),
-        "hops" => Ok(Decision::Path(two_hops(alloc)?)),
-        _ => Ok(Decision::Out(actions_of(word)?)),
-    }
+fn push_copied(decision: &Decision, switch: u64, out: &mut String) -> Result<(), NoMemory> {
+    let copy = decision.copy()?;
+    push_ports(copy.actions_at(switch).items(), out)?;
+    Ok(())
 }

@@ -1,8 +1,9 @@
 // The lines of reports, of words.
+use crate::decisions::decision_of;
 use crate::spelling::ports_of;
 use case_text::{Stop, Words};
 use case_values::match_of;
-use maple_base::{Decision, Path, Place, PolicyFault, UpdateRefused};
+use maple_base::{PolicyFault, UpdateRefused};
 use report_text::{Learnt, Line, ScriptRefusal, Why};
 use std::alloc::Global;
 
@@ -191,35 +192,4 @@ fn learnt(mut words: Words<'_>) -> Result<Learnt, Stop> {
         "Quiet" => Ok(Learnt::Quiet),
         _ => Err(Stop::Unread),
     }
-}
-
-fn decision_of(alloc: Global, word: &str) -> Result<Decision, Stop> {
-    match word {
-        "drop" => Ok(Decision::Drop),
-        "flood" => Ok(Decision::Flood),
-        "two_hops" => Ok(Decision::Path(two_hops(alloc)?)),
-        "most_hops" => Ok(Decision::Path(most_hops(alloc)?)),
-        _ => Ok(Decision::Out(ports_of(alloc, word)?)),
-    }
-}
-
-// By port 1 of switch 1, and port 16 of switch 2.
-fn two_hops(alloc: Global) -> Result<Path, Stop> {
-    let hops = [
-        Place { switch: 1, port: 1 },
-        Place {
-            switch: 2,
-            port: 16,
-        },
-    ];
-    Ok(Path::new(Vec::from_slice(alloc, &hops)?))
-}
-
-// 64 hops, each with a switch of twenty digits and a port of five.
-fn most_hops(alloc: Global) -> Result<Path, Stop> {
-    let hop = Place {
-        switch: u64::MAX,
-        port: 65_280,
-    };
-    Ok(Path::new(Vec::from_slice(alloc, &[hop; 64])?))
 }

@@ -5,6 +5,7 @@ mod base;
 mod bodies;
 mod changes;
 mod commands;
+mod decisions;
 mod decoding;
 mod encoding;
 mod frames;

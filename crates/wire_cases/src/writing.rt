@@ -75,9 +75,8 @@ fn push_lent(alloc: Global, message: &MessageRef<'_>, out: &mut String) -> Resul
         return Err(Stop::Unread);
     }
     let mut bytes = seven(alloc, message.encoded_len())?;
-    push_told(encode_ref(message, &mut bytes), out)?;
-    push_room(&bytes, out)?;
-    Ok(push_bytes(&bytes, out)?)
+    let answer = encode_ref(message, &mut bytes);
+    push_answer(answer, &bytes, true, out)
 }
 
 fn push_own(
@@ -89,26 +88,31 @@ fn push_own(
     if !may_be_written(&message.body) {
         return Err(Stop::Unread);
     }
-    let own = message.to_message(alloc)?;
     let mut bytes = seven(alloc, room)?;
-    push_told(encode(&own, &mut bytes), out)?;
-    if room > 0 {
-        push_room(&bytes, out)?;
-    }
-    Ok(push_bytes(&bytes, out)?)
+    let own = message.to_message(alloc)?;
+    let answer = encode(&own, &mut bytes);
+    push_answer(answer, &bytes, room > 0, out)
 }
 
-fn push_told(answer: Result<(), EncodeError>, out: &mut String) -> Result<(), Stop> {
+// What was answered, and what stands then: all bytes where just these had room.
+fn push_answer(
+    answer: Result<(), EncodeError>,
+    bytes: &Vec<u8>,
+    had_room: bool,
+    out: &mut String,
+) -> Result<(), Stop> {
     match answer {
-        Ok(()) => Ok(()),
-        Err(EncodeError::TooLong(len)) => Ok(write!(out, "TooLong {len}, ")?),
-        Err(EncodeError::NoMemory) => Err(Stop::NoMemory),
+        Ok(()) if had_room => push_room(bytes, out)?,
+        Ok(()) => {}
+        Err(EncodeError::TooLong(len)) => write!(out, "TooLong {len}, ")?,
+        Err(EncodeError::NoMemory) => return Err(Stop::NoMemory),
     }
+    Ok(push_bytes(bytes, out)?)
 }
 
 // Whether there is other room than for just the bytes.
 fn push_room(bytes: &Vec<u8>, out: &mut String) -> Result<(), AllocError> {
-    if out.is_empty() && bytes.capacity() != bytes.len() {
+    if bytes.capacity() != bytes.len() {
         write!(out, "room for {}, ", bytes.capacity())?;
     }
     Ok(())
