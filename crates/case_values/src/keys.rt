@@ -124,6 +124,8 @@ fn push_tag(key: &Key, begin: usize, out: &mut String) -> Result<(), AllocError>
     if key.dl_vlan != NO_VLAN {
         push_blank(begin, out)?;
         write!(out, "dl_vlan={} dl_pcp={}", key.dl_vlan, key.dl_pcp)?;
+    } else {
+        push_number("dl_pcp", key.dl_pcp as u64, begin, out)?;
     }
     if key.dl_type != 0 {
         push_blank(begin, out)?;
