@@ -1,53 +1,39 @@
-// Devices of each kind.
-use case_text::{Stop, Words};
+// A device in a box.
+use crate::devices::tell;
+use crate::kinds::orderly;
+use case_text::{Stop, Subject, Words};
 use device_port::Device;
-use model_switch::{Backward, Failing, Logged, Orderly, Shuffled};
-use std::alloc::{AllocError, Global};
+use maple_base::NoMemory;
+use std::alloc::Global;
 
-/// Puts a device behind others: `orderly`, `logged`, `backward`, `shuffled SEED`, or `failing CALL ..`, whose calls of these
-/// numbers fail.
-pub fn push_device(
+/// Calls on a boxed device, which deals with messages in their order.
+#[derive(Drop)]
+pub struct Boxes {
     alloc: Global,
-    call: Words<'_>,
-    boxes: &mut Vec<Box<dyn Device + Send>>,
-) -> Result<(), Stop> {
-    let mut words = call;
-    match words.word() {
-        "orderly" => Ok(boxes.push(Box::new(alloc, orderly(alloc))?)?),
-        "logged" => Ok(boxes.push(Box::new(alloc, Logged::new(alloc, orderly(alloc)))?)?),
-        "backward" => Ok(boxes.push(Box::new(alloc, Backward::new(alloc, 1, 3, 2))?)?),
-        "shuffled" => push_shuffled(alloc, words, boxes),
-        "failing" => push_failing(alloc, words, boxes),
-        _ => Err(Stop::Unread),
+}
+
+impl Subject for Boxes {
+    fn new(alloc: Global) -> Result<Boxes, NoMemory> {
+        Ok(Boxes { alloc })
+    }
+
+    fn answer(&mut self, call: Words<'_>, out: &mut String) -> Result<(), Stop> {
+        let mut words = call;
+        match words.word() {
+            "boxed" => push_answers(self.alloc, words, out),
+            _ => Err(Stop::Unread),
+        }
     }
 }
 
-fn orderly(alloc: Global) -> Orderly {
-    Orderly::new(alloc, 1, 3, 2)
-}
-
-fn push_shuffled(
-    alloc: Global,
-    mut words: Words<'_>,
-    boxes: &mut Vec<Box<dyn Device + Send>>,
-) -> Result<(), Stop> {
-    let seed = words.number()?;
-    Ok(boxes.push(Box::new(alloc, Shuffled::new(alloc, 1, 3, 2, seed))?)?)
-}
-
-fn push_failing(
-    alloc: Global,
-    words: Words<'_>,
-    boxes: &mut Vec<Box<dyn Device + Send>>,
-) -> Result<(), Stop> {
-    let fails = numbers(alloc, words)?;
-    Ok(boxes.push(Box::new(alloc, Failing::new(orderly(alloc), fails))?)?)
-}
-
-fn numbers(alloc: Global, words: Words<'_>) -> Result<Vec<u64>, Stop> {
-    let mut numbers = Vec::new(alloc);
-    for word in words.rest().split_whitespace() {
-        numbers.push(Words::new(word).number()?)?;
+// boxed CALL / CALL ..: the answers to calls on a new device, parted in the same way.
+fn push_answers(alloc: Global, words: Words<'_>, out: &mut String) -> Result<(), Stop> {
+    let mut device: Box<dyn Device + Send> = Box::new(alloc, orderly(alloc))?;
+    let mut mark = "";
+    for call in words.rest().split(" / ") {
+        out.push_str(mark)?;
+        tell(alloc, &mut device, Words::new(call), out)?;
+        mark = " / ";
     }
-    Ok(numbers)
+    Ok(())
 }

@@ -5,7 +5,7 @@ ghost use Rattle.machine_cases.specs.Entries.{IsPlain};
 
 use crate::messages::message_of;
 use case_text::{Stop, Words};
-use core_machine::{Entry, Input};
+use machine_steps::{Entry, Input};
 use of10_codec::Bad;
 use std::alloc::Global;
 

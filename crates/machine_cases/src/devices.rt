@@ -1,5 +1,5 @@
-// Devices, call by call: each has the datapath id 1, three ports and room for two rules.
-use crate::boxes::push_device;
+// Devices, call by call.
+use crate::kinds::Made;
 use crate::messages::push_sent;
 use crate::offers::is_offer;
 use case_text::{Stop, Subject, Words};
@@ -10,37 +10,38 @@ use std::alloc::{AllocError, Global};
 // The most bytes of a frame.
 const MOST_BYTES: usize = 65_517;
 
-/// Devices: calls go to the last.
+/// A device, once `device` made it.
 #[derive(Drop)]
-pub struct Devices {
+pub struct Devices<D: Made> {
     alloc: Global,
-    boxes: Vec<Box<dyn Device + Send>>,
+    device: Option<D>,
 }
 
-impl Subject for Devices {
-    fn new(alloc: Global) -> Result<Devices, NoMemory> {
+impl<D: Made> Subject for Devices<D> {
+    fn new(alloc: Global) -> Result<Devices<D>, NoMemory> {
         Ok(Devices {
             alloc,
-            boxes: Vec::new(alloc),
+            device: None,
         })
     }
 
     fn answer(&mut self, call: Words<'_>, out: &mut String) -> Result<(), Stop> {
         let mut words = call;
         if words.word() == "device" {
-            push_device(self.alloc, words, &mut self.boxes)?;
+            self.device = Some(D::made(self.alloc, words)?);
             return Ok(out.push_str("ok")?);
         }
-        match self.boxes.last_mut() {
+        match &mut self.device {
             Some(device) => tell(self.alloc, device, call, out),
             None => Err(Stop::Unread),
         }
     }
 }
 
-fn tell(
+/// Appends the answer to a call.
+pub fn tell<D: Device>(
     alloc: Global,
-    device: &mut Box<dyn Device + Send>,
+    device: &mut D,
     call: Words<'_>,
     out: &mut String,
 ) -> Result<(), Stop> {

@@ -7,6 +7,7 @@ mod devices;
 mod driver;
 mod entries;
 mod heard;
+mod kinds;
 mod limits;
 mod lists;
 mod machine;
@@ -23,9 +24,11 @@ mod sessions;
 mod targets;
 mod worlds;
 
+use boxes::Boxes;
 use case_text::{Program, check_file, check_files};
 use devices::Devices;
 use machine::Machine;
+use model_switch::{Backward, Failing, Logged, Orderly, Shuffled};
 use plans::Plans;
 use sessions::Sessions;
 use std::io;
@@ -41,7 +44,12 @@ impl Program for Machines {
             "sessions" => check_file::<Sessions>(rt, file),
             "machine" => check_file::<Machine>(rt, file),
             "worlds" => check_file::<Worlds>(rt, file),
-            "devices" => check_file::<Devices>(rt, file),
+            "orderly" => check_file::<Devices<Orderly>>(rt, file),
+            "logged" => check_file::<Devices<Logged>>(rt, file),
+            "backward" => check_file::<Devices<Backward>>(rt, file),
+            "shuffled" => check_file::<Devices<Shuffled>>(rt, file),
+            "failing" => check_file::<Devices<Failing>>(rt, file),
+            "boxed" => check_file::<Boxes>(rt, file),
             _ => Err(io::Error::from(ErrorKind::NotFound)),
         }
     }

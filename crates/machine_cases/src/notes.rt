@@ -1,7 +1,7 @@
 // What a driver did.
 use case_text::{Stop, Words};
 use case_values::actions_of;
-use core_machine::Note;
+use machine_steps::Note;
 use maple_base::{Bytes, Seen, Turned};
 use std::alloc::Global;
 

@@ -6,7 +6,7 @@ ghost use Rattle.machine_cases.specs.Entries.{IsPlain};
 
 use crate::connection_entries::heard;
 use case_text::{Stop, Words};
-use core_machine::Entry;
+use machine_steps::Entry;
 use script_text::{Command, PacketSpec, frame_of, read_line};
 use std::alloc::Global;
 

@@ -1,7 +1,7 @@
 // Replies to packets, and to what answers them, as text.
 use crate::replies::push_ascii;
 use case_values::{push_key, push_place};
-use core_machine::{Differs, JobItem, Reply};
+use machine_steps::{Differs, JobItem, Reply};
 use maple_base::{Cell, Decision, Place, Value};
 use report_text::Learnt;
 use std::alloc::AllocError;

@@ -4,7 +4,7 @@ use crate::messages::{push_bytes, push_list};
 use crate::packet_replies::{push_difference, push_packet_reply, push_value};
 use case_text::Stop;
 use case_values::push_refusal;
-use core_machine::Reply;
+use machine_steps::Reply;
 use maple_base::UpdateRefused;
 use policy_lang::Policy;
 use policy_text::print_policy;
