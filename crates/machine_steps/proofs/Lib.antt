@@ -1,3 +1,5 @@
+pub mod Changes
+pub mod Effects
 pub mod Later
 pub mod Learning
 pub mod Running

@@ -1,7 +1,8 @@
 -- A reader must believe: Machine (what the machine knows), Steps (what it does at each entry, and what it answers), Admitting (the condition of each entry),
 -- Histories (legal histories, and their reports), Waiting (what is told of a packet that waits), Laws.
--- Sound says what holds behind each legal history. Places and Running serve the machine's private contracts.
+-- Sound says what holds behind each legal history. Effects tells what entries change as one closed sum: it follows from Steps. Places and Running serve the machine's private contracts.
 pub mod Admitting
+pub mod Effects
 pub mod Histories
 pub mod Laws
 pub mod Machine
