@@ -49,7 +49,7 @@ AreLeft js ks = (ks ≡ js) ⊎ ((p : Job → Bool) × (ks ≡ filter p js))
 -- no other packet waits, or no more may, or one more does, with the next number
 pub data JobsBy (old : State) (entry : Entry) (reply : Reply) (new : State) : Type 0 where
   Left : tells_packet reply ≡ false → new.job_count ≡ old.job_count → AreLeft old.jobs new.jobs → JobsBy old entry reply new
-  AreMany : reply ≡ Overload → new.job_count ≡ old.job_count → most_jobs ≤ length old.jobs → JobsBy old entry reply new
+  AreMany : reply ≡ Overload → new.job_count ≡ old.job_count → most_jobs ≤ length old.jobs → new.jobs ≡ old.jobs → JobsBy old entry reply new
   Added : (h : Heard) (t : Session) (j : Job) → Hearing old entry h t → reply ≡ JobOpened (item_of j) → j.connection ≡ t.connection → j.number ≡ old.job_count + 1
       → new.job_count ≡ old.job_count + 1 → new.jobs ≡ old.jobs ++ j ∷ [] → JobsBy old entry reply new
 
@@ -250,7 +250,7 @@ module _ (old : State) (entry : Entry) (reply : Reply) (new : State) where
       let may = ap may_advance p.hearing.is in
       let h = taught old entry reply may (ap tells_state r) (switch_of t) k m p.teaches in
       packet old entry reply may (ap tells_state r) m new h (ap network e) (ap (λ (n : State). n.settings) e) (ap (λ (n : State). n.opened) e)
-      (AreMany r (ap (λ (n : State). n.job_count) e ∙ ap (λ (y : Rest). y.2) h.leaves) many)
+      (AreMany r (ap (λ (n : State). n.job_count) e ∙ ap (λ (y : Rest). y.2) h.leaves) many (ap jobs_of e ∙ ap (λ (y : Rest). y.3) h.leaves))
       (further old m new _ h.extends (ap lines_of e)) (ap tells_run r) (ap tells_lack r)
   changes_by (Waits t buffer frame k m p few r e) =
       let may = ap may_advance p.hearing.is in

@@ -52,7 +52,7 @@ module _ (old : State) (entry : Entry) (reply : Reply) (new : State) where
 
   counts : JobsBy old entry reply new → Counts (opened_by reply) old.job_count new.job_count
   counts (Left untold e left) = subst (λ o. Counts o old.job_count new.job_count) (sym (unopened reply untold)) e
-  counts (AreMany r e many) = subst (λ o. Counts o old.job_count new.job_count) (sym (ap opened_by r)) e
+  counts (AreMany r e many jobs) = subst (λ o. Counts o old.job_count new.job_count) (sym (ap opened_by r)) e
   counts (Added h t j from r its number e jobs) = subst (λ o. Counts o old.job_count new.job_count) (sym (ap opened_by r)) (e, number)
 
 pub is_later : (old : State) (reply : Reply) (new : State) (entry : Entry) → Steps old entry reply new → IsLater old reply new
