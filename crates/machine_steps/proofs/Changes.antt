@@ -228,7 +228,7 @@ module _ (old : State) (entry : Entry) (reply : Reply) (new : State) where
       go : (b : Bool) → new ≡ emptied b t old → Changes old entry reply new
       go true f = quiet old entry reply new (ap telling r) (ap basis f) (inl (ap jobs_of f)) (inr (none_more old new (ap lines_of f)))
       go false f = quiet old entry reply new (ap telling r) (ap basis f) (inl (ap jobs_of f)) (inr (none_more old new (ap lines_of f)))
-  changes_by (Moves h t from p more e) = quiet old entry reply new p.0 (ap basis e) (inl (ap jobs_of e)) (inr (told old new more (ap lines_of e)))
+  changes_by (Moves h t from still p more e) = quiet old entry reply new p.0 (ap basis e) (inl (ap jobs_of e)) (inr (told old new more (ap lines_of e)))
   changes_by (Quiets kind code t from p e) = quiet old entry reply new p.0 (ap basis e) (inl (ap jobs_of e)) (inr (told old new _ (ap lines_of e ∙ append_assoc old.lines _ _)))
   changes_by (Ends t end ending r more e) =
       quiet old entry reply new (ap telling r) (ap basis e) (inr ((λ (j : Job). not (j.connection == t.connection)), ap jobs_of e)) (inr (told old new more (ap lines_of e)))

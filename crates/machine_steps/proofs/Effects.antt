@@ -21,7 +21,7 @@ use Rattle.machine_steps.specs.declared.entry.Entry.TheVariants as entries
 use Rattle.machine_steps.specs.declared.entry.Input.TheVariants.{Message as Whole, Bad}
 use Rattle.machine_steps.specs.declared.reply.Reply.{Reply}
 use Rattle.machine_steps.specs.declared.reply.Reply.TheVariants.{NoMemory, Policy as PolicyLent}
-use Rattle.machine_steps.specs.Effects.{telling, tells_end, IsPlain, job_in, may_advance, IsEndOf, Hearing, Running, shuts, Effect}
+use Rattle.machine_steps.specs.Effects.{telling, tells_end, IsPlain, job_in, may_advance, IsEndOf, only_moves, Hearing, Running, shuts, Effect}
 use Rattle.machine_steps.specs.Effects.Effect.{RunsOut, Rests, Misses, Outdates, Tells, Reports, OpensSession, TurnsAway, Empties, Moves, Quiets, Ends, Advances, Renews, Accepts, Overflows, Waits, Spends, AnswersJob}
 use Rattle.machine_steps.specs.Machine.{Session, Job, State, with_session}
 use Rattle.machine_steps.specs.Steps.{switch_of, Updates, Opens, EndsSession, TakesMessages, HearsFeatures, HearsPacket, HearsOf, HearsMessage, Concludes, Commits, Decides, LendsPolicy, Steps}
@@ -45,8 +45,8 @@ module _ (old : State) (entry : Entry) (reply : Reply) (new : State) where
   -- ---- messages
 
   module _ (t : Session) where
-    stays : (h : Heard) → Hearing old entry h t → IsPlain reply → new ≡ with_session t old → Does
-    stays h from p e = Moves h t from p [] (e ∙ ap (λ ls. record (with_session t old) { lines = ls }) (sym (append-nil old.lines)))
+    stays : (h : Heard) → Hearing old entry h t → only_moves h ≡ true → IsPlain reply → new ≡ with_session t old → Does
+    stays h from still p e = Moves h t from still p [] (e ∙ ap (λ ls. record (with_session t old) { lines = ls }) (sym (append-nil old.lines)))
 
     features : (dpid : ℕ) (ports : List Port) → Hearing old entry (heard.Features dpid ports) t → HearsFeatures t dpid ports old reply new → Does
     features dpid ports from (inl (served, r, e)) = Ends (ended t) _ (inr (inl (t, dpid, ports, from, refl))) r _ e
@@ -62,14 +62,14 @@ module _ (old : State) (entry : Entry) (reply : Reply) (new : State) where
         Waits t buffer frame k taught (record { in_port = in_port; hearing = from; key = is; teaches = h }) few r e
 
     by_heard : (m : Message) (h : Heard) → may_advance entry ≡ true → Hearing old entry h t → HearsOf m t h old reply new → Does
-    by_heard m heard.Passed may from (r, e) = stays heard.Passed from (plain _ (refl, refl) r) e
+    by_heard m heard.Passed may from (r, e) = stays heard.Passed from refl (plain _ (refl, refl) r) e
     by_heard m (heard.Features dpid ports) may from d = features dpid ports from d
     by_heard m (heard.PacketIn buffer in_port frame) may from d = packet buffer in_port frame from d
     by_heard m (heard.Port port up) may from d = updates (PortUpdate (switch_of t) port up) may d
-    by_heard m (heard.Acknowledged true) may from (r, e) = Moves (heard.Acknowledged true) t from (plain _ (refl, refl) r) _ e
-    by_heard m (heard.Acknowledged false) may from (r, e) = stays (heard.Acknowledged false) from (plain _ (refl, refl) r) e
+    by_heard m (heard.Acknowledged true) may from (r, e) = Moves (heard.Acknowledged true) t from refl (plain _ (refl, refl) r) _ e
+    by_heard m (heard.Acknowledged false) may from (r, e) = stays (heard.Acknowledged false) from refl (plain _ (refl, refl) r) e
     by_heard m (heard.Refused kind code true) may from (r, e) = Quiets kind code t from (plain _ (refl, refl) r) e
-    by_heard m (heard.Refused kind code false) may from (r, e) = Moves (heard.Refused kind code false) t from (plain _ (refl, refl) r) _ e
+    by_heard m (heard.Refused kind code false) may from (r, e) = Moves (heard.Refused kind code false) t from refl (plain _ (refl, refl) r) _ e
     by_heard m (heard.Ended end) may from (r, e) =
         Ends t end (inr (inr (end, from))) r _ (e ∙ ap (λ ls. record (shuts t old) { lines = ls }) (append_assoc old.lines _ _))
 

@@ -95,6 +95,13 @@ IsEndOf c entry = ⊥
 
 -- ---- messages
 
+-- what was heard makes the session at most another that stays open, and quiet or not as it was
+abbrev pub only_moves : Heard → Bool
+only_moves heard.Passed = true
+only_moves (heard.Acknowledged first) = true
+only_moves (heard.Refused kind code breaks) = not breaks
+only_moves h = false
+
 -- what the open session of a connection, t from then on, made of a message
 pub record Hearing (old : State) (entry : Entry) (h : Heard) (t : Session) : Type 0 where
   pub connection : ℕ
@@ -153,7 +160,7 @@ pub data Effect (old : State) (entry : Entry) (reply : Reply) (new : State) : Ty
   Empties : (c : ℕ) (s t : Session) (bytes : List ℕ) → entry ≡ entries.TakeOut c → kept_at c old ≡ Some s → TakesOut s bytes t → reply ≡ Out bytes
       → new ≡ emptied (is_open s) t old → Effect old entry reply new
   -- a message makes a session another, which stays open
-  Moves : (h : Heard) (t : Session) → Hearing old entry h t → IsPlain reply → (more : List Line) → new ≡ tells_all more (with_session t old) → Effect old entry reply new
+  Moves : (h : Heard) (t : Session) → Hearing old entry h t → only_moves h ≡ true → IsPlain reply → (more : List Line) → new ≡ tells_all more (with_session t old) → Effect old entry reply new
   -- the first error of a batch
   Quiets : (kind code : ℕ) (t : Session) → Hearing old entry (heard.Refused kind code true) t → IsPlain reply
       → new ≡ quiets t (tells (lines.Error t.connection kind code) (with_session t old)) → Effect old entry reply new
