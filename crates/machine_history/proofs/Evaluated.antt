@@ -8,9 +8,6 @@ use Rattle.maple_base.specs.declared.cells.Value.{Value}
 use Rattle.maple_base.specs.declared.items.Item.{Item}
 use Rattle.maple_base.specs.declared.decision.Outcome.{Outcome}
 use Rattle.maple_base.specs.declared.decision.Outcome.TheVariants.{Decided, Spent as SpentRun}
-use Rattle.report_text.specs.declared.line.Learnt.{Learnt}
-use Rattle.report_text.specs.declared.line.Learnt.TheVariants.{Learned}
-use Rattle.trace_tree.specs.declared.node.Trace.{Trace}
 use Rattle.update_plan.proofs.Members.{none_in}
 use Rattle.machine_steps.specs.declared.job.Job.{Job}
 use Rattle.machine_steps.specs.declared.entry.Entry.{Entry}
@@ -19,9 +16,10 @@ use Rattle.machine_steps.specs.declared.reply.Reply.{Reply}
 use Rattle.machine_steps.specs.Admitting.{Admits}
 use Rattle.machine_steps.specs.Histories.{Turn, IsTurn, Leads}
 use Rattle.machine_steps.specs.Laws.{OpensSound, KeepsSound}
-use Rattle.machine_steps.specs.Machine.{Session, State, opening}
+use Rattle.machine_steps.specs.Machine.{State, opening}
 use Rattle.machine_steps.specs.Sound.{IsSound}
-use Rattle.machine_steps.specs.Steps.{Keeps, Concludes, Steps}
+use Rattle.machine_steps.specs.Steps.{Concludes, Steps}
+use Rattle.machine_steps.proofs.Changes.{kept_rest}
 use Rattle.machine_history.specs.Jobs.{job_of, outcome_of, eval_now, WasOpened}
 use Rattle.machine_history.specs.Laws.{IsLegal, AnswersAreEvaluation}
 use Rattle.machine_history.proofs.Along.{sound_last, jobs_along}
@@ -53,14 +51,10 @@ module _ (j : Job) (items : List Item) (cells : List (Cell × Value)) (old : Sta
   concludes_so SpentRun (r, e) = ap outcome_of r
   concludes_so (Decided d) a = ap outcome_of a.replies
 
-  kept_same : (switch : ℕ) (key : Key) (l : Learnt) (r : Trace) (s : Session) (kept : State) → Keeps l j r s old kept → eval_now kept switch key ≡ eval_now old switch key
-  kept_same switch key Learned r s kept (t, heads, e) = ap (λ m. eval_now m switch key) e
-  kept_same switch key other r s kept e = ap (λ m. eval_now m switch key) e
-
   -- plain evaluation stays
   pub concludes_same : (switch : ℕ) (key : Key) (o : Outcome) → Concludes j items cells o old reply new → eval_now new switch key ≡ eval_now old switch key
   concludes_same switch key SpentRun (r, e) = ap (λ m. eval_now m switch key) e
-  concludes_same switch key (Decided d) a = ap (λ m. eval_now m switch key) a.now_is ∙ kept_same switch key a.learns _ _ a.kept a.keeps
+  concludes_same switch key (Decided d) a = ap (λ m. eval_now m switch key) a.now_is ∙ ap (λ m. eval_now m switch key) (kept_rest a.learns j _ _ old a.kept a.keeps)
 
 module _ (opens : OpensSound) (keeps : KeepsSound) (laws : Laws) where
   pub sound_at : (ts : List Turn) (m : State) → IsLegal ts m → IsSound m

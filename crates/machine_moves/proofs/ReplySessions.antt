@@ -1,49 +1,57 @@
 -- Which sessions are open behind an entry, and which are as they were.
-use Rattle.std.proofs.Common.{◌≡◌, ◌≢◌, ℕ, Bool, true, false, cond, List, [], ◌∷◌, ◌++◌, length, refl, sym, ap, ◌∙◌, subst, inl, inr, ⊎_elim, arith}
+use Rattle.std.proofs.Common.{◌≡◌, ◌≢◌, ℕ, Bool, true, false, cond, List, [], ◌∷◌, ◌++◌, length, refl, sym, ap, ◌∙◌, subst, inl, inr, arith}
 use Rattle.std.specs.Prelude.{◌==◌, ◌&&◌, not, find, if◌then◌else◌, Contains, Option, Some, None, is_some}
+use Rattle.std.specs.FinSet as set
 use Rattle.std.specs.List.{list_any}
 use Rattle.std.proofs.lemmas.Bool.{and_parts, and_from, and_right, eq-eqb, eqb-true, eqb-false}
 use Rattle.std.proofs.lemmas.List.{length_push}
-use Rattle.std.proofs.lemmas.Option.{same_Some}
+use Rattle.std.proofs.lemmas.Option.{same_Some, none-some}
 use Rattle.maple_base.specs.declared.cells.Cell.{Cell}
 use Rattle.maple_base.specs.declared.cells.Port.{Port}
 use Rattle.maple_base.specs.declared.cells.Value.{Value}
 use Rattle.maple_base.specs.declared.decision.Decision.{Decision}
-use Rattle.maple_base.specs.declared.decision.Outcome.{Outcome}
-use Rattle.maple_base.specs.declared.decision.Outcome.TheVariants.{Decided, Spent as SpentRun}
 use Rattle.maple_base.specs.declared.items.Item.{Item}
 use Rattle.maple_base.specs.declared.key.Key.{Key}
 use Rattle.maple_base.specs.Decisions.{actions_at}
-use Rattle.of10_codec.specs.declared.message.Message.{Message}
-use Rattle.env_cells.specs.declared.updates.Update.{Update}
-use Rattle.env_cells.specs.declared.updates.Update.TheVariants.{Switch, Host, Port as PortUpdate}
+use Rattle.env_cells.specs.declared.updates.Update.TheVariants.{Switch, Host}
 use Rattle.report_text.specs.declared.line.Learnt.{Learnt}
 use Rattle.report_text.specs.declared.line.Learnt.TheVariants.{Learned}
+use Rattle.report_text.specs.declared.line.Line.TheVariants as lines
 use Rattle.switch_session.specs.declared.told.End.{End}
 use Rattle.switch_session.specs.declared.told.Heard.{Heard}
 use Rattle.switch_session.specs.declared.told.Heard.TheVariants as heard
-use Rattle.switch_session.specs.Calls.{opened}
+use Rattle.switch_session.specs.Calls.{opened, TakesOut}
 use Rattle.switch_session.specs.Parts.{is_nil, packet_out}
-use Rattle.switch_session.specs.Sessions.{ended, put}
-use Rattle.trace_record.specs.Runs.{Recorded}
+use Rattle.switch_session.specs.Sessions.{put}
 use Rattle.trace_tree.specs.declared.node.Trace.{Trace}
 use Rattle.machine_steps.specs.declared.entry.Entry.{Entry}
 use Rattle.machine_steps.specs.declared.entry.Entry.TheVariants as entries
-use Rattle.machine_steps.specs.declared.entry.Input.{Input}
 use Rattle.machine_steps.specs.declared.entry.Input.TheVariants.{Message as Whole, Bad}
 use Rattle.machine_steps.specs.declared.job.Job.{Job}
 use Rattle.machine_steps.specs.declared.reply.Reply.{Reply}
-use Rattle.machine_steps.specs.Machine.{Session, State, has_ended, is_open, is_of, session_at, state_number, this_state, with_session, with_traces, traces_of}
-use Rattle.machine_steps.specs.Steps.{switch_of, teaches, entry_of, kept_at, emptied, updated, renewed, Reaches, Updates, Opens, EndsSession, TakesMessages, Joins, HearsFeatures, Teaches, TeachesBy, HearsPacket, HearsOf, HearsMessage, HearsInput, sends, Keeps, Concludes, Commits, Decides, Steps}
+use Rattle.machine_steps.specs.declared.reply.Reply.TheVariants.{Ended, Out}
+use Rattle.machine_steps.specs.Effects.{tells_end, job_in, IsEndOf, only_moves, Hearing, Ending, Effect}
+use Rattle.machine_steps.specs.Effects.Effect.{RunsOut, Rests, Misses, Outdates, Tells, Reports, OpensSession, TurnsAway, Empties, Moves, Quiets, Ends, Advances, Renews, Accepts, Overflows, Waits, Spends, AnswersJob}
+use Rattle.machine_steps.specs.Machine.{Session, State, has_ended, is_open, is_of, session_at, state_number, this_state, with_session, with_traces, traces_of, tells}
+use Rattle.machine_steps.specs.Steps.{switch_of, teaches, entry_of, kept_at, emptied, updated, renewed, Reaches, Joins, Teaches, TeachesBy, sends, Keeps, Answers}
 use Rattle.machine_steps.specs.Sound.{IsSound}
+use Rattle.machine_steps.proofs.Effects.{effect_of}
 use Rattle.machine_steps.proofs.Sound.Aims.{aimed_so}
 use Rattle.machine_steps.proofs.Sound.Zipped.{all_in, find_append, find_passes, none_passes}
 use Rattle.machine_moves.specs.Moves.{MayBeLed}
 use Rattle.machine_moves.proofs.Found.{Together, together_some, its_connection, placed, found_beside, found_placed, found_shut, found_without, find_last}
-use Rattle.machine_moves.proofs.Following.{follows_reached, lends_nothing}
+use Rattle.machine_moves.proofs.Following.{follows_reached}
 use Rattle.machine_moves.proofs.Kept.{open_is_kept}
 use Rattle.machine_moves.specs.Told.{is_end, may_end, concerns, EndsAreTold, OthersStay}
-use Rattle.machine_moves.proofs.Heard.{ends_session, becomes}
+use Rattle.machine_moves.proofs.Heard.{ends_session, Becomes, becomes}
+
+end_told : (r : Reply) → is_end r ≡ tells_end r
+end_told (Ended end) = refl
+end_told other = refl
+
+moves_open : (h : Heard) → only_moves h ≡ true → ends_session h ≡ false
+moves_open (heard.Ended end) moves = absurd (cc)
+moves_open other moves = refl
 
 some_at : (o : Option Session) → is_some o ≡ true → (s : Session) × (o ≡ Some s)
 some_at None e = absurd (cc)
@@ -87,11 +95,6 @@ module _ (c : ℕ) (old new : State) where
       stays_made (ap (λ (n : State). n.states) r.now_is ∙ states)
       (together_open (MayBeLed new) (session_at c next) (session_at c new) (follows_reached c old next new r) ∙ ap (λ ss. is_some (find (is_of c) ss)) sessions)
 
-stays_update : (c : ℕ) (u : Update) (old : State) (reply : Reply) (new : State) → Updates u old reply new → Stays c old new
-stays_update c u old reply new (inl a) = stays_reached c old new (updated u old) refl refl a.2
-stays_update c u old reply new (inr (inl a)) = stays_same c old new (ap (λ (n : State). n.sessions) a.3)
-stays_update c u old reply new (inr (inr l)) = stays_same c old new (ap (λ (n : State). n.sessions) l.1)
-
 stays_taught : (c switch : ℕ) (k : Key) (old m : State) → Teaches switch k old m → Stays c old m
 stays_taught c switch k old m h = go (teaches switch k old) h
   where
@@ -110,12 +113,6 @@ module _ (c d : ℕ) (old : State) (reply : Reply) (new : State) where
   abbrev Faring : Type 0
   Faring = Fares c d old reply new
 
-  fares_stays : is_end reply ≡ false → Stays c old new → Faring
-  fares_stays r s = record { own = λ e o. s.open_too ∙ o ∙ sym (ap not r); others = λ o. s }
-
-  fares_same : is_end reply ≡ false → new.sessions ≡ old.sessions → Faring
-  fares_same r e = fares_stays r (stays_same c old new e)
-
   -- it is another now
   fares_placed : (t : Session) → t.connection ≡ d → is_open t ≡ not (is_end reply) → new.sessions ≡ placed t old.sessions → Faring
   fares_placed t its now are = record {
@@ -127,30 +124,9 @@ module _ (c d : ℕ) (old : State) (reply : Reply) (new : State) where
       go true e at s = ap is_some (found_placed c t old.sessions at e s.0 s.1)
       go false e at s = ap is_some (found_shut c t old.sessions at e)
 
-  fares_ended : (end : End) → EndsSession d end old reply new → Faring
-  fares_ended end (inl (none, (r, e))) = fares_same (ap is_end r) (ap (λ (n : State). n.sessions) e)
-  fares_ended end (inr (s, found, r, e)) =
-      fares_placed (ended s) (its_connection d s (find_passes (is_of d) old.sessions s found)) (sym (ap (λ a. not (is_end a)) r)) (ap (λ (n : State). n.sessions) e)
-
-  -- ---- messages
+  -- ---- a switch joins
 
   module _ (t : Session) (its : t.connection ≡ d) where
-    packet : (buffer in_port : ℕ) (frame : List ℕ) → HearsPacket t buffer in_port frame old reply new → Faring
-    packet buffer in_port frame (inl (fault, is, r, e)) = fares_same (ap is_end r) (ap (λ (n : State). n.sessions) e)
-    packet buffer in_port frame (inr (inl (k, is, big, r, e))) = fares_same (ap is_end r) (ap (λ (n : State). n.sessions) e)
-    packet buffer in_port frame (inr (inr (inl (k, m, is, small, h, many, r, e)))) =
-        fares_stays (ap is_end r) (stays_along c old new m (stays_taught c (switch_of t) k old m h) (ap (λ (n : State). n.sessions) e) (ap (λ (n : State). n.states) e))
-    packet buffer in_port frame (inr (inr (inr (k, m, is, small, h, few, r, e)))) =
-        fares_stays (ap is_end r) (stays_along c old new m (stays_taught c (switch_of t) k old m h) (ap (λ (n : State). n.sessions) e) (ap (λ (n : State). n.states) e))
-
-    port : (p : ℕ) (up : Bool) → Updates (PortUpdate (switch_of t) p up) old reply new → Faring
-    port p up h = fares_stays (unended h) (stays_update c (PortUpdate (switch_of t) p up) old reply new h)
-      where
-        unended : Updates (PortUpdate (switch_of t) p up) old reply new → is_end reply ≡ false
-        unended (inl (free, r, a)) = ap is_end r
-        unended (inr (inl (kind, refused, r, e))) = ap is_end r
-        unended (inr (inr (r, e))) = ap is_end r
-
     -- the switch is known now, and the session accepted
     module _ (opened_now : is_open t ≡ true) (dpid : ℕ) (ports : List Port) (j : Joins t dpid ports old new) where
       abbrev next : State
@@ -180,40 +156,10 @@ module _ (c d : ℕ) (old : State) (reply : Reply) (new : State) where
             ∙ ap is_some (found_beside c t old.sessions (λ e. o (sym its ∙ e))));
       }
 
-    features : is_open t ≡ true → (dpid : ℕ) (ports : List Port) → HearsFeatures t dpid ports old reply new → Faring
-    features o dpid ports (inl (served, r, e)) = fares_placed (ended t) its (sym (ap (λ a. not (is_end a)) r)) (ap (λ (n : State). n.sessions) e)
-    features o dpid ports (inr (inl (unserved, full, r, e))) = fares_placed (ended t) its (sym (ap (λ a. not (is_end a)) r)) (ap (λ (n : State). n.sessions) e)
-    features o dpid ports (inr (inr (unserved, free, r, j))) = joins o dpid ports j (ap is_end r)
-
-    by_heard : (x : Message) (v : Heard) → is_open t ≡ not (ends_session v) → HearsOf x t v old reply new → Faring
-    by_heard x heard.Passed o (r, e) = fares_placed t its (o ∙ sym (ap (λ a. not (is_end a)) r)) (ap (λ (n : State). n.sessions) e)
-    by_heard x (heard.Features dpid ports) o h = features o dpid ports h
-    by_heard x (heard.PacketIn buffer in_port frame) o h = packet buffer in_port frame h
-    by_heard x (heard.Port p up) o h = port p up h
-    by_heard x (heard.Acknowledged true) o (r, e) = fares_placed t its (o ∙ sym (ap (λ a. not (is_end a)) r)) (ap (λ (n : State). n.sessions) e)
-    by_heard x (heard.Acknowledged false) o (r, e) = fares_placed t its (o ∙ sym (ap (λ a. not (is_end a)) r)) (ap (λ (n : State). n.sessions) e)
-    by_heard x (heard.Refused kind code true) o (r, e) = fares_placed t its (o ∙ sym (ap (λ a. not (is_end a)) r)) (ap (λ (n : State). n.sessions) e)
-    by_heard x (heard.Refused kind code false) o (r, e) = fares_placed t its (o ∙ sym (ap (λ a. not (is_end a)) r)) (ap (λ (n : State). n.sessions) e)
-    by_heard x (heard.Ended end) o (r, e) = fares_placed t its (o ∙ sym (ap (λ a. not (is_end a)) r)) (ap (λ (n : State). n.sessions) e)
-
-  message : (x : Message) → HearsMessage d x old reply new → Faring
-  message x h =
-      let s = h.session in
-      let passed = find_passes (is_of d) old.sessions s h.there in
-      let b = becomes s (and_parts (s.connection == d) (is_open s) passed).1 x.xid x.body h.heard h.behind h.hears in
-      ⊎_elim (λ f. by_heard h.behind (b.connection ∙ its_connection d s passed) x h.heard b.open_now f) (λ l. fares_same (ap is_end l.1.0) (ap (λ (n : State). n.sessions) l.1.1)) h.does
-
-  input : (i : Input) → HearsInput d i old reply new → Faring
-  input (Bad place bad) h = fares_ended _ h
-  input (Whole x) (inl (none, (r, e))) = fares_same (ap is_end r) (ap (λ (n : State). n.sessions) e)
-  input (Whole x) (inr (inl h)) = message x h
-  input (Whole x) (inr (inr h)) = fares_same (ap is_end h.lacks.0) (ap (λ (n : State). n.sessions) h.lacks.1)
-
   -- ---- messages are taken out
 
-  takes : IsSound old → TakesMessages d old reply new → (is_end reply ≡ false) × Faring
-  takes h (inl (none, r, e)) = (ap is_end r, fares_same (ap is_end r) (ap (λ (n : State). n.sessions) e))
-  takes h (inr (inl (s, t, bytes, found, out, r, e))) = (ap is_end r, go (is_open s) refl e)
+  takes : IsSound old → (s t : Session) (bytes : List ℕ) → kept_at d old ≡ Some s → TakesOut s bytes t → reply ≡ Out bytes → new ≡ emptied (is_open s) t old → Faring
+  takes h s t bytes found out r e = go (is_open s) refl e
     where
       its : s.connection ≡ d
       its = eqb-true s.connection d (find_passes (λ (x : Session). x.connection == d) old.sessions s found)
@@ -232,7 +178,6 @@ module _ (c d : ℕ) (old : State) (reply : Reply) (new : State) where
             absurd (cc));
         others = λ n. stays_kept c old new (ap (session_at c) f ∙ found_without c t.connection old.sessions (λ e. n (sym at ∙ e)));
       }
-  takes h (inr (inr (r, e))) = (ap is_end r, fares_same (ap is_end r) (ap (λ (n : State). n.sessions) e))
 
 -- ---- answers
 
@@ -254,14 +199,13 @@ module _ (c : ℕ) (old : State) (reply : Reply) (new : State) (j : Job) where
       (ap (λ (y : Session). is_open y) heads.now_is ∙ ap (λ q. not (has_ended q)) a.phase ∙ o ∙ sym (ap not u)) (are ∙ ap (λ (n : State). n.sessions) e)
   kept other r s k its o u e are = fares_placed c j.connection old reply new s its (o ∙ sym (ap not u)) (are ∙ ap (λ (n : State). n.sessions) e)
 
-  concludes : (items : List Item) (cells : List (Cell × Value)) (o : Outcome) → Concludes j items cells o old reply new → (is_end reply ≡ false) × Fares c j.connection old reply new
-  concludes items cells SpentRun (r, e) = (ap is_end r, fares_same c j.connection old reply new (ap is_end r) (ap (λ (n : State). n.sessions) e))
-  concludes items cells (Decided d) a =
+  answers : (items : List Item) (cells : List (Cell × Value)) (d : Decision) → Answers j items cells d old reply new → Fares c j.connection old reply new
+  answers items cells d a =
       let s = a.session in
       let passed = find_passes (is_of j.connection) old.sessions s a.there in
       let sent = sent_alike j d s in
-      let u = ap is_end a.replies in
-      (u, kept a.learns _ (sends j d s) a.kept (sent.0 ∙ its_connection j.connection s passed) (sent.1 ∙ (and_parts (s.connection == j.connection) (is_open s) passed).1) u a.keeps (ap (λ (n : State). n.sessions) a.now_is))
+      kept a.learns _ (sends j d s) a.kept (sent.0 ∙ its_connection j.connection s passed) (sent.1 ∙ (and_parts (s.connection == j.connection) (is_open s) passed).1) (ap is_end a.replies) a.keeps
+      (ap (λ (n : State). n.sessions) a.now_is)
 
 -- ---- all entries
 
@@ -273,11 +217,18 @@ module _ (c : ℕ) (old : State) (entry : Entry) (reply : Reply) (new : State) w
   abbrev Telling : Type 0
   Telling = IsTold c old entry reply new
 
-  told_stays : may_end c entry ≡ false → Stays c old new → Telling
-  told_stays f s = record { open_too = λ o. s.open_too ∙ o ∙ sym (ap (λ b. not (b && is_end reply)) f); as_it_was = λ n q. s.as_it_was n }
+  told_stays : (may_end c entry && is_end reply) ≡ false → Stays c old new → Telling
+  told_stays f s = record { open_too = λ o. s.open_too ∙ o ∙ sym (ap not f); as_it_was = λ n q. s.as_it_was n }
 
-  told_same : may_end c entry ≡ false → new.sessions ≡ old.sessions → Telling
-  told_same f e = told_stays f (stays_same c old new e)
+  -- the reply tells no end
+  unended : tells_end reply ≡ false → is_end reply ≡ false
+  unended f = end_told reply ∙ f
+
+  told_open : tells_end reply ≡ false → Stays c old new → Telling
+  told_open f s = told_stays (and_right (may_end c entry) (is_end reply) (unended f)) s
+
+  told_same : tells_end reply ≡ false → new.sessions ≡ old.sessions → Telling
+  told_same f e = told_open f (stays_same c old new e)
 
   -- of the connection d
   told_by : (d : ℕ) → (may_end c entry && is_end reply) ≡ ((d == c) && is_end reply) → concerns c entry old ≡ (d == c) → Fares c d old reply new → Telling
@@ -292,15 +243,15 @@ module _ (c : ℕ) (old : State) (entry : Entry) (reply : Reply) (new : State) w
 
   -- of the job j
   told_job : (number : ℕ) (j : Job) → Contains old.jobs j → j.number ≡ number → may_end c entry ≡ false
-      → concerns c entry old ≡ list_any (λ (i : Job). i.number == number && i.connection == c) old.jobs → (is_end reply ≡ false) × Fares c j.connection old reply new → Telling
-  told_job number j there is no_end mine f = record {
+      → concerns c entry old ≡ list_any (λ (i : Job). i.number == number && i.connection == c) old.jobs → is_end reply ≡ false → Fares c j.connection old reply new → Telling
+  told_job number j there is no_end mine open_now f = record {
     open_too = λ o. go (j.connection == c) refl o ∙ sym (ap (λ b. not (b && is_end reply)) no_end);
-    as_it_was = λ n q. (f.1.others (λ e. beside (sym mine ∙ q) e)).as_it_was n;
+    as_it_was = λ n q. (f.others (λ e. beside (sym mine ∙ q) e)).as_it_was n;
   }
     where
       go : (b : Bool) → (j.connection == c) ≡ b → is_some (session_at c old) ≡ true → is_some (session_at c new) ≡ true
-      go true e o = f.1.own (eqb-true j.connection c e) o ∙ ap not f.0
-      go false e o = (f.1.others (eqb-false j.connection c e)).open_too ∙ o
+      go true e o = f.own (eqb-true j.connection c e) o ∙ ap not open_now
+      go false e o = (f.others (eqb-false j.connection c e)).open_too ∙ o
 
       beside : list_any (λ (i : Job). i.number == number && i.connection == c) old.jobs ≡ false → j.connection ≢ c
       beside none e =
@@ -311,10 +262,10 @@ module _ (c : ℕ) (old : State) (entry : Entry) (reply : Reply) (new : State) w
 abbrev fresh : ℕ → State → Session
 fresh d old = opened d old.settings.capacity
 
-opens : (c d : ℕ) (old : State) (reply : Reply) (new : State) → Opens d old reply new → IsTold c old (entries.Open d) reply new
-opens c d old reply new (inl (was, (r, e))) = told_same c old (entries.Open d) reply new refl (ap (λ (n : State). n.sessions) e)
-opens c d old reply new (inr (inl (new_one, full, r, e))) = told_same c old (entries.Open d) reply new refl (ap (λ (n : State). n.sessions) e)
-opens c d old reply new (inr (inr (inl (new_one, few, r, e)))) = record {
+-- a session is opened
+opens : (c d : ℕ) (old : State) (reply : Reply) (new : State)
+    → new ≡ tells (lines.Open d) (record old { opened = set.insert old.opened d; sessions = old.sessions ++ opened d old.settings.capacity ∷ [] }) → IsTold c old (entries.Open d) reply new
+opens c d old reply new e = record {
   open_too = λ o. (let s = some_at (session_at c old) o in ap is_some (ap (session_at c) e ∙ find_append (is_of c) old.sessions (fresh d old ∷ []) s.0 s.1));
   as_it_was = λ n q. ap (session_at c) e ∙ go q (session_at c old) refl;
 }
@@ -322,45 +273,85 @@ opens c d old reply new (inr (inr (inl (new_one, few, r, e)))) = record {
     go : (d == c) ≡ false → (o : Option Session) → session_at c old ≡ o → find (is_of c) (old.sessions ++ fresh d old ∷ []) ≡ session_at c old
     go q None f = find_last (is_of c) old.sessions (fresh d old) f ∙ ap (λ b. cond (b && true) (Some (fresh d old)) None) q ∙ sym f
     go q (Some s) f = find_append (is_of c) old.sessions (fresh d old ∷ []) s f ∙ sym f
-opens c d old reply new (inr (inr (inr (r, e)))) = told_same c old (entries.Open d) reply new refl (ap (λ (n : State). n.sessions) e)
 
-commits : (c number : ℕ) (run : Recorded) (old : State) (reply : Reply) (new : State) → Commits number run old reply new → IsTold c old (entries.Commit number run) reply new
-commits c number run old reply new (inl (none_such, r, e)) = told_same c old (entries.Commit number run) reply new refl (ap (λ (n : State). n.sessions) e)
-commits c number run old reply new (inr (inl (j, is, other, r, e))) = told_same c old (entries.Commit number run) reply new refl (ap (λ (n : State). n.sessions) e)
-commits c number run old reply new (inr (inr (inl (j, cell, recorded, current, is, n, stale, r, e)))) =
-    told_same c old (entries.Commit number run) reply new refl (ap (λ (n : State). n.sessions) e)
-commits c number run old reply new (inr (inr (inr (inl (j, is, n, fresh, a))))) =
-    told_job c old (entries.Commit number run) reply new number j is.there is.number refl refl (concludes c old reply new j run.items run.cells run.outcome a)
-commits c number run old reply new (inr (inr (inr (inr (r, e))))) = told_same c old (entries.Commit number run) reply new refl (ap (λ (n : State). n.sessions) e)
+-- ---- which connection and job an entry is of
 
-decides : (c number : ℕ) (old : State) (reply : Reply) (new : State) → Decides number old reply new → IsTold c old (entries.Decide number) reply new
-decides c number old reply new (inl (none_such, r, e)) = told_same c old (entries.Decide number) reply new refl (ap (λ (n : State). n.sessions) e)
-decides c number old reply new (inr (inl (j, is, a))) = told_job c old (entries.Decide number) reply new number j is.there is.number refl refl (concludes c old reply new j _ _ _ a)
-decides c number old reply new (inr (inr (r, e))) = told_same c old (entries.Decide number) reply new refl (ap (λ (n : State). n.sessions) e)
+end_of : (c : ℕ) (old : State) (d : ℕ) (entry : Entry) → IsEndOf d entry → (may_end c entry ≡ (d == c)) × (concerns c entry old ≡ (d == c))
+end_of c old d (entries.Gone k fault) e = (ap (λ n. n == c) e, ap (λ n. n == c) e)
+end_of c old d (entries.Heard k (Bad place bad)) e = (ap (λ n. n == c) e, ap (λ n. n == c) e)
+end_of c old d (entries.Heard k (Whole x)) e = absurd e
+end_of c old d other e = absurd e
 
-is_told : (c : ℕ) (old : State) (entry : Entry) (reply : Reply) (new : State) → IsSound old → Steps old entry reply new → IsTold c old entry reply new
-is_told c old (entries.Open d) reply new h s = opens c d old reply new s
-is_told c old (entries.Heard d i) reply new h s = told_by c old (entries.Heard d i) reply new d refl refl (input c d old reply new i s)
-is_told c old (entries.Gone d fault) reply new h s = told_by c old (entries.Gone d fault) reply new d refl refl (fares_ended c d old reply new _ s)
-is_told c old (entries.Change u) reply new h s = told_stays c old (entries.Change u) reply new refl (stays_update c u old reply new s)
-is_told c old (entries.NewPolicy p) reply new h (inl (r, a)) = told_stays c old (entries.NewPolicy p) reply new refl (stays_reached c old new (renewed p old) refl refl a)
-is_told c old (entries.NewPolicy p) reply new h (inr (r, e)) = told_same c old (entries.NewPolicy p) reply new refl (ap (λ (n : State). n.sessions) e)
-is_told c old (entries.ReadCell cell) reply new h (r, e) = told_same c old (entries.ReadCell cell) reply new refl (ap (λ (n : State). n.sessions) e)
-is_told c old entries.ReadPolicy reply new h s = told_same c old entries.ReadPolicy reply new refl (ap (λ (n : State). n.sessions) (lends_nothing old reply new s))
-is_told c old (entries.ReadRules switch) reply new h (inl (rules, put, r, e)) = told_same c old (entries.ReadRules switch) reply new refl (ap (λ (n : State). n.sessions) e)
-is_told c old (entries.ReadRules switch) reply new h (inr (r, e)) = told_same c old (entries.ReadRules switch) reply new refl (ap (λ (n : State). n.sessions) e)
-is_told c old entries.OpenJobs reply new h (r, e) = told_same c old entries.OpenJobs reply new refl (ap (λ (n : State). n.sessions) e)
-is_told c old (entries.Commit number run) reply new h s = commits c number run old reply new s
-is_told c old (entries.Decide number) reply new h s = decides c number old reply new s
-is_told c old (entries.TakeOut d) reply new h s =
-    let t = takes c d old reply new h s in told_by c old (entries.TakeOut d) reply new d (sym (and_right (d == c) (is_end reply) t.0)) refl t.1
-is_told c old entries.TakeReport reply new h (inl (r, e)) = told_same c old entries.TakeReport reply new refl (ap (λ (n : State). n.sessions) e)
-is_told c old entries.TakeReport reply new h (inr (r, e)) = told_same c old entries.TakeReport reply new refl (ap (λ (n : State). n.sessions) e)
-is_told c old (entries.Note note) reply new h (inl (r, e)) = told_same c old (entries.Note note) reply new refl (ap (λ (n : State). n.sessions) e)
-is_told c old (entries.Note note) reply new h (inr (r, e)) = told_same c old (entries.Note note) reply new refl (ap (λ (n : State). n.sessions) e)
+job_entry : (c : ℕ) (old : State) (entry : Entry) (number : ℕ) → job_in entry ≡ Some number
+    → (may_end c entry ≡ false) × (concerns c entry old ≡ list_any (λ (i : Job). i.number == number && i.connection == c) old.jobs)
+job_entry c old (entries.Commit k run) number e = (refl, ap (λ n. list_any (λ (i : Job). i.number == n && i.connection == c) old.jobs) (same_Some k number e))
+job_entry c old (entries.Decide k) number e = (refl, ap (λ n. list_any (λ (i : Job). i.number == n && i.connection == c) old.jobs) (same_Some k number e))
+job_entry c old other number e = absurd (none-some number e)
+
+-- ---- by the effect
+
+module _ (c : ℕ) (old : State) (entry : Entry) (reply : Reply) (new : State) where
+  module _ (h : Heard) (t : Session) (from : Hearing old entry h t) where
+    passed : is_of from.connection from.session ≡ true
+    passed = find_passes (is_of from.connection) old.sessions from.session from.there
+
+    made : Becomes from.session h t
+    made = becomes from.session (and_parts (from.session.connection == from.connection) (is_open from.session) passed).1 from.message.xid from.message.body h t from.hears
+
+    its : t.connection ≡ from.connection
+    its = made.connection ∙ its_connection from.connection from.session passed
+
+    told_heard : Fares c from.connection old reply new → IsTold c old entry reply new
+    told_heard f = told_by c old entry reply new from.connection (ap (λ x. may_end c x && is_end reply) from.is) (ap (λ x. concerns c x old) from.is) f
+
+    -- the session is another
+    told_placed : (u : Session) → u.connection ≡ t.connection → is_open u ≡ not (is_end reply) → new.sessions ≡ placed u old.sessions → IsTold c old entry reply new
+    told_placed u same now are = told_heard (fares_placed c from.connection old reply new u (same ∙ its) now are)
+
+  ends : (t : Session) (end : End) → Ending old entry t → reply ≡ Ended end → new.sessions ≡ placed t old.sessions → IsTold c old entry reply new
+  ends t end (inl (d, s, is, found, same)) r are =
+      let by = end_of c old d entry is in
+      told_by c old entry reply new d (ap (λ b. b && is_end reply) by.0) by.1
+      (fares_placed c d old reply new t (ap (λ (y : Session). y.connection) same ∙ its_connection d s (find_passes (is_of d) old.sessions s found)) (ap is_open same ∙ sym (ap (λ a. not (is_end a)) r)) are)
+  ends t end (inr (inl (u, dpid, ports, from, same))) r are =
+      told_placed (heard.Features dpid ports) u from t (ap (λ (y : Session). y.connection) same) (ap is_open same ∙ sym (ap (λ a. not (is_end a)) r)) are
+  ends t end (inr (inr (last, from))) r are = told_placed (heard.Ended last) t from t refl ((made (heard.Ended last) t from).open_now ∙ sym (ap (λ a. not (is_end a)) r)) are
+
+  is_told : IsSound old → Effect old entry reply new → IsTold c old entry reply new
+  is_told sound (RunsOut (r, e)) = told_same c old entry reply new (ap tells_end r) (ap (λ (n : State). n.sessions) e)
+  is_told sound (Rests p e) = told_same c old entry reply new p.1 (ap (λ (n : State). n.sessions) e)
+  is_told sound (Misses number is r e) = told_same c old entry reply new (ap tells_end r) (ap (λ (n : State). n.sessions) e)
+  is_told sound (Outdates number is differs r more e) = told_same c old entry reply new (ap tells_end r) (ap (λ (n : State). n.sessions) e)
+  is_told sound (Tells p more e) = told_same c old entry reply new p.1 (ap (λ (n : State). n.sessions) e)
+  is_told sound (Reports is r e) = told_same c old entry reply new (ap tells_end r) (ap (λ (n : State). n.sessions) e)
+  is_told sound (OpensSession d is new_one few r e) = subst (λ x. IsTold c old x reply new) (sym is) (opens c d old reply new e)
+  is_told sound (TurnsAway d is new_one full r e) =
+      told_stays c old entry reply new (ap (λ x. may_end c x && is_end reply) is) (stays_same c old new (ap (λ (n : State). n.sessions) e))
+  is_told sound (Empties d s t bytes is found out r e) =
+      told_by c old entry reply new d (ap (λ x. may_end c x && is_end reply) is ∙ sym (and_right (d == c) (is_end reply) (ap is_end r))) (ap (λ x. concerns c x old) is)
+      (takes c d old reply new sound s t bytes found out r e)
+  is_told sound (Moves h t from still p more e) =
+      told_placed h t from t refl ((made h t from).open_now ∙ ap not (moves_open h still) ∙ sym (ap not (unended c old entry reply new p.1))) (ap (λ (n : State). n.sessions) e)
+  is_told sound (Quiets kind code t from p e) =
+      let h = heard.Refused kind code true in
+      told_placed h t from t refl ((made h t from).open_now ∙ sym (ap not (unended c old entry reply new p.1))) (ap (λ (n : State). n.sessions) e)
+  is_told sound (Ends t end ending r more e) = ends t end ending r (ap (λ (n : State). n.sessions) e)
+  is_told sound (Advances u may free r a) = told_open c old entry reply new (ap tells_end r) (stays_reached c old new (updated u old) refl refl a)
+  is_told sound (Renews p is r a) = told_open c old entry reply new (ap tells_end r) (stays_reached c old new (renewed p old) refl refl a)
+  is_told sound (Accepts t dpid ports from r j) =
+      let h = heard.Features dpid ports in
+      told_heard h t from (joins c from.connection old reply new t (its h t from) (made h t from).open_now dpid ports j (ap is_end r))
+  is_told sound (Overflows t buffer frame k m p many r e) =
+      told_open c old entry reply new (ap tells_end r) (stays_along c old new m (stays_taught c (switch_of t) k old m p.teaches) (ap (λ (n : State). n.sessions) e) (ap (λ (n : State). n.states) e))
+  is_told sound (Waits t buffer frame k m p few r e) =
+      told_open c old entry reply new (ap tells_end r) (stays_along c old new m (stays_taught c (switch_of t) k old m p.teaches) (ap (λ (n : State). n.sessions) e) (ap (λ (n : State). n.states) e))
+  is_told sound (Spends j run r e) = told_same c old entry reply new (ap tells_end r) (ap (λ (n : State). n.sessions) e)
+  is_told sound (AnswersJob j items cells d run a) =
+      let by = job_entry c old entry run.number run.is in
+      told_job c old entry reply new run.number j run.there run.of_number by.0 by.1 (ap is_end a.replies) (answers c old reply new j items cells d a)
 
 pub ends_are_told : EndsAreTold
-ends_are_told old entry reply new h steps c s found = (is_told c old entry reply new h steps).open_too (ap is_some found)
+ends_are_told old entry reply new h steps c s found = (is_told c old entry reply new h (effect_of old reply new entry steps)).open_too (ap is_some found)
 
 pub others_stay : OthersStay
-others_stay old entry reply new h steps same c beside = (is_told c old entry reply new h steps).as_it_was same beside
+others_stay old entry reply new h steps same c beside = (is_told c old entry reply new h (effect_of old reply new entry steps)).as_it_was same beside

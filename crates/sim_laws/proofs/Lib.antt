@@ -1,7 +1,6 @@
 mod Agreed
 mod Changes
 mod History
-mod Lines
 mod MirrorActs
 mod MirrorCalls
 mod MirrorDeeds

@@ -1,5 +1,5 @@
 -- The report is what was taken, and the lines that weren't taken yet.
-use Rattle.std.proofs.Common.{◌≡◌, List, [], ◌∷◌, ◌++◌, append-nil, sym, ap, ◌∙◌, inl, inr}
+use Rattle.std.proofs.Common.{◌≡◌, List, [], ◌∷◌, ◌++◌, append-nil, sym, ap, ◌∙◌, inl, inr, ⊎_elim}
 use Rattle.std.specs.Prelude.{length, drop}
 use Rattle.std.specs.List.{flat_map}
 use Rattle.std.proofs.lemmas.Grind.{flat_map-append}
@@ -13,12 +13,12 @@ use Rattle.machine_steps.specs.declared.reply.Reply.{Reply}
 use Rattle.machine_steps.specs.Histories.{report_of, said}
 use Rattle.machine_steps.specs.Machine.{State}
 use Rattle.machine_steps.specs.Steps.{Steps}
+use Rattle.machine_steps.proofs.Changes.{changes}
 use Rattle.sim_steps.specs.Agreeing.{taken_report, taken_text}
 use Rattle.sim_steps.specs.Benches.{Bench, opening_bench}
 use Rattle.sim_steps.specs.Deeds.{Deed, Event, Does, Runs, turns_of, entry_in, note_of}
 use Rattle.sim_steps.specs.Deeds.Deed.{Enters, Calls}
 use Rattle.sim_laws.specs.Laws.{ReportLaw}
-use Rattle.sim_laws.proofs.Lines.{extends}
 
 -- the lines that an entry gives stand behind those that were there
 text_behind : (old new more : List Line) → new ≡ old ++ more → flat_map spelled old ++ flat_map spelled (drop (length old) new) ≡ flat_map spelled new
@@ -38,7 +38,7 @@ entry_text old entries.TakeReport reply new (inl (r, e)) =
 entry_text old entries.TakeReport reply new (inr (r, e)) =
     append-nil (flat_map spelled old.lines)
     ∙ sym (ap (λ s. taken_text (Enters entries.TakeReport s) ++ flat_map spelled new.lines) r ∙ ap (λ (n : State). flat_map spelled n.lines) e)
-entry_text old other reply new steps = let x = extends old reply new other steps in text_behind old.lines new.lines x.more x.are
+entry_text old other reply new steps = ⊎_elim (λ e. absurd (cc)) (λ x. text_behind old.lines new.lines x.more x.are) (changes old other reply new steps).lines
 
 deed_text : (a : Bench) (deed : Deed) (b : Bench) → Does deed a b
     → flat_map spelled a.machine.lines ++ flat_map spelled (said a.machine (entry_in deed) b.machine) ≡ taken_text deed ++ flat_map spelled b.machine.lines

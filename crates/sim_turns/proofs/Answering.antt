@@ -1,26 +1,20 @@
 -- Turns that answer a packet: which packets wait behind each, and what they leave of the sessions.
 use Rattle.std.proofs.Common.{◌≡◌, ℕ, Bool, false, List, [], ◌∷◌, refl, sym, ap, ◌∙◌, subst, inl, inr}
-use Rattle.std.specs.Prelude.{◌==◌, ◌&&◌, ◌||◌, not, filter}
+use Rattle.std.specs.Prelude.{◌==◌, ◌&&◌, ◌||◌}
 use Rattle.std.specs.List.{AllByRecursion, list_any}
 use Rattle.std.proofs.lemmas.Bool.{and_left, and_right, ne_eqb}
-use Rattle.maple_base.specs.declared.cells.Cell.{Cell}
-use Rattle.maple_base.specs.declared.cells.Value.{Value}
-use Rattle.maple_base.specs.declared.decision.Outcome.{Outcome}
-use Rattle.maple_base.specs.declared.decision.Outcome.TheVariants.{Decided, Spent as SpentRun}
-use Rattle.maple_base.specs.declared.items.Item.{Item}
-use Rattle.report_text.specs.declared.line.Learnt.{Learnt}
-use Rattle.report_text.specs.declared.line.Learnt.TheVariants.{Learned}
-use Rattle.trace_record.specs.Runs.{Recorded}
-use Rattle.trace_tree.specs.declared.node.Trace.{Trace}
+use Rattle.of10_codec.specs.declared.message.Message.{Message}
 use Rattle.machine_steps.specs.declared.entry.Entry.{Entry}
 use Rattle.machine_steps.specs.declared.entry.Entry.TheVariants as entries
+use Rattle.machine_steps.specs.declared.entry.Input.TheVariants.{Message as Whole}
 use Rattle.machine_steps.specs.declared.job.Job.{Job}
 use Rattle.machine_steps.specs.declared.reply.Reply.{Reply}
-use Rattle.machine_steps.specs.declared.reply.Reply.TheVariants.{NoMemory, Policy as PolicyLent}
 use Rattle.machine_steps.specs.Admitting.{Admits}
 use Rattle.machine_steps.specs.Histories.{Leads, Turn}
-use Rattle.machine_steps.specs.Machine.{Session, State, session_at}
-use Rattle.machine_steps.specs.Steps.{Commits, Concludes, Keeps, LendsPolicy, Steps}
+use Rattle.machine_steps.specs.Machine.{State, session_at}
+use Rattle.machine_steps.specs.Steps.{Steps}
+use Rattle.machine_steps.proofs.Changes.{JobsBy, changes}
+use Rattle.machine_steps.proofs.Changes.JobsBy.{Left, AreMany, Added}
 use Rattle.machine_steps.proofs.Sound.Zipped.{all_filter}
 use Rattle.machine_moves.specs.Told.{concerns, is_end, may_end}
 use Rattle.sim_jobs.specs.Works.{AnswersWhole, IsOfAnswer}
@@ -35,40 +29,20 @@ use Rattle.sim_channels.proofs.Kept.{kept_entry}
 abbrev pub AllBy : ℕ → State → Type 0
 AllBy c m = AllByRecursion (λ (j : Job). j.connection ≡ c) m.jobs
 
-module _ (c : ℕ) (old : State) (h : AllBy c old) (reply : Reply) (new : State) where
-  same : new.jobs ≡ old.jobs → AllBy c new
-  same e = subst (AllByRecursion (λ (j : Job). j.connection ≡ c)) (sym e) h
+abbrev IsBy : ℕ → Job → Type 0
+IsBy c j = j.connection ≡ c
 
-  fewer : (p : Job → Bool) → new.jobs ≡ filter p old.jobs → AllBy c new
-  fewer p e = subst (AllByRecursion (λ (j : Job). j.connection ≡ c)) (sym e) (all_filter (λ (j : Job). j.connection ≡ c) p old.jobs h)
+not_heard : (entry : Entry) → IsOfAnswer entry → (d : ℕ) (x : Message) → entry ≡ entries.Heard d (Whole x) → ⊥
+not_heard entry kind d x is = subst IsOfAnswer is kind
 
-  kept : (l : Learnt) (j : Job) (r : Trace) (s : Session) (k : State) → Keeps l j r s old k → k.jobs ≡ old.jobs
-  kept Learned j r s k (t, heads, e) = ap (λ (n : State). n.jobs) e
-  kept other j r s k e = ap (λ (n : State). n.jobs) e
-
-  concludes : (j : Job) (items : List Item) (cells : List (Cell × Value)) (o : Outcome) → Concludes j items cells o old reply new → AllBy c new
-  concludes j items cells SpentRun (r, e) = fewer (λ (i : Job). not (i.number == j.number)) (ap (λ (n : State). n.jobs) e)
-  concludes j items cells (Decided d) a =
-      let p : Job → Bool = λ (i : Job). not (i.number == j.number) in
-      fewer p (ap (λ (n : State). n.jobs) a.now_is ∙ ap (filter p) (kept a.learns j _ _ a.kept a.keeps))
-
-  commits : (number : ℕ) (run : Recorded) → Commits number run old reply new → AllBy c new
-  commits number run (inl (none_such, r, e)) = same (ap (λ (n : State). n.jobs) e)
-  commits number run (inr (inl (j, is, other, r, e))) = same (ap (λ (n : State). n.jobs) e)
-  commits number run (inr (inr (inl (j, cell, recorded, current, is, n, stale, r, e)))) = same (ap (λ (n : State). n.jobs) e)
-  commits number run (inr (inr (inr (inl (j, is, n, fresh, a))))) = concludes j run.items run.cells run.outcome a
-  commits number run (inr (inr (inr (inr (r, e))))) = same (ap (λ (n : State). n.jobs) e)
-
-  lends : (r : Reply) → LendsPolicy old r new → new ≡ old
-  lends (PolicyLent number lent) e = e.2
-  lends NoMemory e = e
-  lends other e = absurd e
-
-  answers : (entry : Entry) → IsOfAnswer entry → Steps old entry reply new → AllBy c new
-  answers entries.ReadPolicy is d = same (ap (λ (n : State). n.jobs) (lends reply d))
-  answers (entries.ReadCell cell) is (r, e) = same (ap (λ (n : State). n.jobs) e)
-  answers (entries.Commit job run) is d = commits job run d
-  answers other is d = absurd is
+answers : (c : ℕ) (old : State) → AllBy c old → (reply : Reply) (new : State) (entry : Entry) → IsOfAnswer entry → Steps old entry reply new → AllBy c new
+answers c old h reply new entry kind steps = go (changes old entry reply new steps).jobs
+  where
+    go : JobsBy old entry reply new → AllBy c new
+    go (Left untold count (inl e)) = subst (AllByRecursion (IsBy c)) (sym e) h
+    go (Left untold count (inr (p, e))) = subst (AllByRecursion (IsBy c)) (sym e) (all_filter (IsBy c) p old.jobs h)
+    go (AreMany r count many e) = subst (AllByRecursion (IsBy c)) (sym e) h
+    go (Added x t j from r its number count e) = absurd (not_heard entry kind from.connection from.message from.is)
 
 -- such a turn is of no other connection
 none_of : (c d job : ℕ) → (d ≡ c → ⊥) → (js : List Job) → AllByRecursion (λ (j : Job). j.connection ≡ c) js
