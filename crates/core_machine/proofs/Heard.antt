@@ -15,19 +15,20 @@ use Rattle.switch_session.specs.declared.part.UnderWay.{UnderWay}
 use Rattle.switch_session.specs.declared.part.Part.TheVariants.{Clearing}
 use Rattle.switch_session.specs.declared.told.Phase.{Phase}
 use Rattle.switch_session.specs.declared.told.Phase.TheVariants.{Second}
-use Rattle.switch_session.specs.declared.told.End.{End}
-use Rattle.switch_session.specs.declared.told.End.TheVariants.{Version, ClearRefused, Early, Xids}
 use Rattle.update_plan.specs.Batches.{no_rules}
 use Rattle.switch_session.specs.declared.told.Heard.{Heard}
 use Rattle.switch_session.specs.declared.told.Heard.TheVariants as heard
 use Rattle.switch_session.specs.Lists.{Lists}
 use Rattle.maple_base.specs.RuleLists.{Rules}
-use Rattle.switch_session.specs.Parts.{Update, version_refusal}
-use Rattle.switch_session.specs.Sessions.{leaves, next_starts, onward, clears_behind, breaks_off, ended, put}
-use Rattle.switch_session.specs.Calls.{Answer, Passes, Lacks, HearsHello, HearsEcho, HearsFeatures, HearsPacket, HearsPort, HearsReply, HearsError, HearsBody, CanBeHeard, Hears, is_awaited, acknowledged_by, is_live as is_live_phase}
+use Rattle.switch_session.specs.Parts.{Update}
+use Rattle.switch_session.specs.Sessions.{leaves, next_starts, onward, clears_behind, breaks_off}
+use Rattle.switch_session.specs.Calls.{Answer, CanBeHeard, Hears, is_awaited, acknowledged_by, is_live as is_live_phase}
 use Rattle.machine_steps.specs.Machine.{Session, is_live, is_open, has_ended}
 use Rattle.machine_parts.specs.Sessions.{due}
+use Rattle.machine_steps.specs.Messages.{Makes}
+use Rattle.machine_steps.specs.Messages.Makes.{PassesOver, RefusesVersion, Greets, Echoes, IsNamed, BringsPacket, BringsPort, ComesEarly, LacksNumbers, Acknowledges, RefusesClearing, BreaksOff, IsRefused}
 use Rattle.machine_steps.specs.Steps.{is_spared}
+use Rattle.machine_steps.proofs.Messages.{made_by, batch_live}
 
 -- ---- what stays of a session
 
@@ -51,9 +52,6 @@ Quieted s t = IsAlike s.connection s.dpid (is_open s) s.ready true t
 pub record IsOver (s t : Session) : Type 0 where
   pub connection : t.connection ≡ s.connection
   pub over : is_open t ≡ false
-
-same_alike : (s t : Session) → t ≡ s → Alike s t
-same_alike s t e = subst (Alike s) (sym e) (record { connection = refl; dpid = refl; opened = refl; ready = refl; quiet = refl })
 
 leaves_alike : (lists : Lists) (parts : List Part) (s : Session) → Alike s (leaves lists parts s)
 leaves_alike lists [] s = record { connection = refl; dpid = refl; opened = refl; ready = refl; quiet = refl }
@@ -103,87 +101,31 @@ abbrev pub Made : Body → Answer → Session → Session → Type 0
 Made b (Ok h) s t = MadeOf b h s t
 Made b (Err e) s t = t ≡ s
 
-to : (b : Body) (h : Heard) (s t : Session) (a : Answer) → a ≡ Ok h → MadeOf b h s t → Made b a s t
-to b h s t a e m = subst (λ (x : Answer). Made b x s t) (sym e) m
+stands : (s : Session) → Alike s s
+stands s = record { connection = refl; dpid = refl; opened = refl; ready = refl; quiet = refl }
 
-passed : (b : Body) (s t : Session) (a : Answer) → Passes s a t → Made b a s t
-passed b s t a (e, k) = to b heard.Passed s t a e (same_alike s t k)
+made_acknowledged : (b : Body) (s t : Session) (ready : Bool) → s.ready ≡ ready → Readied s t → MadeOf b (heard.Acknowledged (not ready)) s t
+made_acknowledged b s t true r k = (k, r)
+made_acknowledged b s t false r k = (k, r)
 
-lacked : (b : Body) (s t : Session) (a : Answer) → Lacks s a t → Made b a s t
-lacked b s t (Ok h) (e, k) = absurd (cc)
-lacked b s t (Err x) (e, k) = k
-
-over : (b : Body) (end : End) (s u t : Session) (a : Answer) → u.connection ≡ s.connection → a ≡ Ok (heard.Ended end) → t ≡ ended u → Made b a s t
-over b end s u t a c e k = to b (heard.Ended end) s t a e (record { connection = ap (λ (x : Session). x.connection) k ∙ c; over = ap is_open k })
-
-made_hello : (xid version : ℕ) (b : Body) (s t : Session) (a : Answer) → HearsHello xid version s a t → Made b a s t
-made_hello xid v b s t a (inl (first, none', inl (e, k))) = over b Version s (put (version_refusal xid) s) t a refl e k
-made_hello xid v b s t a (inl (first, none', inr l)) = lacked b s t a l
-made_hello xid v b s t a (inr (inl (first, some', e, k))) =
-    to b heard.Passed s t a e (subst (Alike s) (sym k) (record { connection = refl; dpid = refl; opened = sym (ap (λ (p : Phase). not (has_ended p)) first); ready = refl; quiet = refl }))
-made_hello xid v b s t a (inr (inr (inl (first, some', l)))) = lacked b s t a l
-made_hello xid v b s t a (inr (inr (inr (later, p)))) = passed b s t a p
-
-made_echo : (xid : ℕ) (bytes : List ℕ) (b : Body) (s t : Session) (a : Answer) → HearsEcho xid bytes s a t → Made b a s t
-made_echo xid bytes b s t a (inl (there, e, k)) =
-    to b heard.Passed s t a e (subst (Alike s) (sym k) (record { connection = refl; dpid = refl; opened = refl; ready = refl; quiet = refl }))
-made_echo xid bytes b s t a (inr (inl (there, l))) = lacked b s t a l
-made_echo xid bytes b s t a (inr (inr (gone, p))) = passed b s t a p
-
-made_features : (dpid : ℕ) (ports : List Port) (b : Body) (s t : Session) (a : Answer) → b ≡ body.FeaturesReply dpid ports → HearsFeatures dpid ports s a t → Made b a s t
-made_features dpid ports b s t a is (inl (second, e, k)) = to b (heard.Features dpid ports) s t a e (second, k, is)
-made_features dpid ports b s t a is (inr (inl (second, l))) = lacked b s t a l
-made_features dpid ports b s t a is (inr (inr (later, p))) = passed b s t a p
-
-made_packet : (buffer in_port : ℕ) (frame : List ℕ) (b : Body) (s t : Session) (a : Answer) → IsPacket buffer in_port frame b → HearsPacket buffer in_port frame s a t → Made b a s t
-made_packet buffer in_port frame b s t a is (inl (live, e, k)) = to b (heard.PacketIn buffer in_port frame) s t a e (k, is)
-made_packet buffer in_port frame b s t a is (inr (inl (live, l))) = lacked b s t a l
-made_packet buffer in_port frame b s t a is (inr (inr (early, p))) = passed b s t a p
-
-made_port : (reason : ℕ) (port : Port) (b : Body) (s t : Session) (a : Answer) → HearsPort reason port s a t → Made b a s t
-made_port reason port b s t a (inl (live, in_range, e, k)) =
-    to b (heard.Port port.number (port.up && not (reason == 1))) s t a e (k, ap is_live_phase live)
-made_port reason port b s t a (inr (inl (live, out, p))) = passed b s t a p
-made_port reason port b s t a (inr (inr (early, p))) = passed b s t a p
-
-made_acknowledged : (b : Body) (s t : Session) (a : Answer) (ready : Bool) → s.ready ≡ ready → a ≡ Ok (heard.Acknowledged (not ready)) → Readied s t → Made b a s t
-made_acknowledged b s t a true r e k = to b (heard.Acknowledged false) s t a e (k, r)
-made_acknowledged b s t a false r e k = to b (heard.Acknowledged true) s t a e (k, r)
-
-made_reply : (xid : ℕ) (b : Body) (s t : Session) (a : Answer) → HearsReply xid s a t → Made b a s t
-made_reply xid b s t a (inl (other, p)) = passed b s t a p
-made_reply xid b s t a (inr (inl (awaited, early, e, k))) = over b (Early xid) s s t a refl e k
-made_reply xid b s t a (inr (inr (inl (replies, late, e, k)))) = over b Xids s s t a refl e k
-made_reply xid b s t a (inr (inr (inr (replies, free, e, k)))) =
-    made_acknowledged b s t a s.ready refl e (subst (Readied s) (sym k) (acknowledged_alike xid s.under_way s replies.0))
-
-first_of_three : (a b c : Bool) → a && b && c ≡ true → a ≡ true
-first_of_three true b c h = refl
-first_of_three false b c h = absurd (cc)
-
-made_error : (xid kind code : ℕ) (bytes : List ℕ) (b : Body) (s t : Session) (a : Answer) → b ≡ body.Error kind code bytes → HearsError xid kind code s a t → Made b a s t
-made_error xid kind code bytes b s t a is (inl (gone, p)) = passed b s t a p
-made_error xid kind code bytes b s t a is (inr (inl (batch, clearing, e, k))) = over b ClearRefused s s t a refl e k
-made_error xid kind code bytes b s t a is (inr (inr (inl (change, loud, e, k)))) =
-    to b (heard.Refused kind code true) s t a e
-    (subst (Quieted s) (sym k) (broken_alike s), loud, first_of_three (is_live s) (nat_le 1 xid) (nat_le xid s.taken) change.0)
-made_error xid kind code bytes b s t a is (inr (inr (inr (inl (change, quiet, e, k))))) =
-    to b (heard.Refused kind code false) s t a e (k, ap (λ (x : Body). is_spared x (heard.Refused kind code false)) is)
-made_error xid kind code bytes b s t a is (inr (inr (inr (inr (there, other, e, k))))) =
-    to b (heard.Refused kind code false) s t a e (k, ap (λ (x : Body). is_spared x (heard.Refused kind code false)) is)
-
-made_body : (xid : ℕ) (b : Body) (s t : Session) (a : Answer) → HearsBody xid b s a t → Made b a s t
-made_body xid (body.Hello version) s t a h = made_hello xid version _ s t a h
-made_body xid (body.Error kind code bytes) s t a h = made_error xid kind code bytes _ s t a refl h
-made_body xid (body.EchoRequest bytes) s t a h = made_echo xid bytes _ s t a h
-made_body xid (body.FeaturesReply dpid ports) s t a h = made_features dpid ports _ s t a refl h
-made_body xid (body.PacketIn buffer total in_port reason bytes) s t a h = made_packet buffer in_port bytes _ s t a (record { total = total; reason = reason; is = refl }) h
-made_body xid (body.PortStatus reason port) s t a h = made_port reason port _ s t a h
-made_body xid body.BarrierReply s t a h = made_reply xid _ s t a h
-made_body xid b s t a h = passed b s t a h
+makes : {xid : ℕ} {b : Body} {s : Session} {h : Heard} {t : Session} → Makes xid b s h t → MadeOf b h s t
+makes {xid} {b} {s} (PassesOver may) = stands s
+makes {xid} {b} {s} (RefusesVersion is first) = record { connection = refl; over = refl }
+makes {xid} {b} {s} (Greets is first) = record { connection = refl; dpid = refl; opened = sym (ap (λ (p : Phase). not (has_ended p)) first); ready = refl; quiet = refl }
+makes {xid} {b} {s} (Echoes is other) = record { connection = refl; dpid = refl; opened = refl; ready = refl; quiet = refl }
+makes {xid} {b} {s} (IsNamed is second) = (second, refl, is)
+makes {xid} {b} {s} (BringsPacket {buffer} {total} {in_port} {reason} {bytes} is live) = (refl, record { total = total; reason = reason; is = is })
+makes {xid} {b} {s} (BringsPort is live) = (refl, ap is_live_phase live)
+makes {xid} {b} {s} (ComesEarly is awaited early) = record { connection = refl; over = refl }
+makes {xid} {b} {s} (LacksNumbers is to over) = record { connection = refl; over = refl }
+makes {xid} {b} {s} (Acknowledges is to within) = made_acknowledged b s (acknowledged_by s.under_way s) s.ready refl (acknowledged_alike xid s.under_way s to.0)
+makes {xid} {b} {s} (RefusesClearing is batch clearing) = record { connection = refl; over = refl }
+makes {xid} {b} {s} (BreaksOff is change loud) = (broken_alike s, loud, batch_live xid s change.0)
+makes {xid} {b} {s} (IsRefused {kind} {code} {bytes} is why) = (refl, ap (λ (x : Body). is_spared x (heard.Refused kind code false)) is)
 
 pub made : (m : Message) (s t : Session) (a : Answer) → Hears m s a t → Made m.body a s t
-made m s t a h = made_body m.xid m.body s t a h
+made m s t (Ok h) hears = makes (made_by m.xid s (Ok h) t m.body hears)
+made m s t (Err e) hears = made_by m.xid s (Err e) t m.body hears
 
 -- ---- the lines that are due
 

@@ -15,9 +15,7 @@ use Rattle.env_cells.specs.declared.updates.Update.TheVariants.{Switch, Host}
 use Rattle.env_cells.specs.Changes.{applied}
 use Rattle.topo_paths.specs.Scenes.{cell_in}
 use Rattle.report_text.specs.declared.line.Line.{Line}
-use Rattle.switch_session.specs.declared.told.End.{End}
-use Rattle.switch_session.specs.declared.told.End.TheVariants as ends
-use Rattle.switch_session.specs.Sessions.{ended}
+use Rattle.switch_session.specs.Calls.{TakesOut}
 use Rattle.switch_traces.specs.Traces.{Learnings, those}
 use Rattle.trace_tree.specs.Stands.{of_leaf}
 use Rattle.tree_prune.specs.Current.{same_value, are_current, is_current}
@@ -26,12 +24,13 @@ use Rattle.machine_steps.specs.declared.reply.Reply.{Reply}
 use Rattle.machine_steps.specs.declared.reply.Reply.TheVariants.{Job as JobOpened}
 use Rattle.machine_steps.specs.declared.job.Job.{Job}
 use Rattle.machine_steps.specs.Machine.{Session, State, policy_number, is_open, with_session, traces_in, traces_of, put_traces}
-use Rattle.machine_steps.specs.Steps.{switch_of, closes, updated, Reaches, Updates, Joins, HearsFeatures, HearsPacket, Teaches, TeachesBy, entry_of, teaches, item_of, job_of, EndsSession, TakesMessages, emptied, Opens}
+use Rattle.machine_steps.specs.Effects.{shuts}
+use Rattle.machine_steps.specs.Steps.{updated, Reaches, Joins, Teaches, TeachesBy, entry_of, teaches, item_of, opens_job, kept_at, emptied}
 use Rattle.machine_steps.specs.Sound.{IsCurrent, AreLearned, IsSound}
 use Rattle.machine_steps.proofs.Sound.Kept.{traces_kept, traces_own}
 use Rattle.machine_steps.proofs.Sound.Zipped.{all_weaker}
 use Rattle.machine_history.proofs.Filters.{filter_all}
-use Rattle.machine_history.proofs.Quiet.{NoneTurns, turns_same, turns_then, turns_filter, turns_push, turns_put, turns_with, turns_aims}
+use Rattle.machine_history.proofs.Quiet.{NoneTurns, turns_same, turns_then, turns_filter, turns_put, turns_with, turns_aims}
 
 -- each open job was open before, or is the one that the reply tells of
 abbrev pub JobsFrom : State → Reply → State → Type 0
@@ -89,14 +88,10 @@ module _ (same : SameIsEqual) (old : State) (h : IsSound old) (reply : Reply) wh
       rests_idle (record (with_session t old) { lines = told }) refl refl refl refl (turns_with old.sessions p s t found at quiet) (λ j c. inl c)
 
   -- and is closed with its jobs
-  pub rests_closed : (p : Session → Bool) (s t : Session) (end : End) (told : List Line) → find p old.sessions ≡ Some s → t.connection ≡ s.connection → t.quiet ≡ s.quiet
-      → Rests old reply (record (closes t end old) { lines = told })
-  rests_closed p s t end told found at quiet =
-      rests_idle (record (closes t end old) { lines = told }) refl refl refl refl (turns_with old.sessions p s t found at quiet) (λ j c. inl (in_filter (λ (i : Job). not (i.connection == t.connection)) old.jobs j c).0)
-
-  pub rests_end : (c : ℕ) (end : End) (new : State) → EndsSession c end old reply new → Rests old reply new
-  rests_end c end new (inl (found, e)) = rests_same new e.1
-  rests_end c end new (inr (s, found, r, e)) = subst (Rests old reply) (sym e) (rests_closed _ s (ended s) end _ found refl refl)
+  pub rests_closed : (p : Session → Bool) (s t : Session) (told : List Line) → find p old.sessions ≡ Some s → t.connection ≡ s.connection → t.quiet ≡ s.quiet
+      → Rests old reply (record (shuts t old) { lines = told })
+  rests_closed p s t told found at quiet =
+      rests_idle (record (shuts t old) { lines = told }) refl refl refl refl (turns_with old.sessions p s t found at quiet) (λ j c. inl (in_filter (λ (i : Job). not (i.connection == t.connection)) old.jobs j c).0)
 
   -- ---- updates
 
@@ -109,11 +104,6 @@ module _ (same : SameIsEqual) (old : State) (h : IsSound old) (reply : Reply) wh
         count = refl;
         jobs = λ j c. inl c;
       })
-
-  pub rests_updates : (u : Update) (new : State) → Updates u old reply new → Rests old reply new
-  rests_updates u new (inl a) = rests_reached u new a.2
-  rests_updates u new (inr (inl a)) = subst (Rests old reply) (sym a.3) (rests_told _)
-  rests_updates u new (inr (inr a)) = rests_same new a.1
 
   -- a session joins: it was not quiet
   module _ (p : Session → Bool) (s t : Session) (found : find p old.sessions ≡ Some s) (at : t.connection ≡ s.connection) (quiet : t.quiet ≡ s.quiet) (loud : s.quiet ≡ false) where
@@ -132,14 +122,9 @@ module _ (same : SameIsEqual) (old : State) (h : IsSound old) (reply : Reply) wh
           jobs = λ i c. inl c;
         })
 
-    pub rests_features : (dpid : ℕ) (ports : List Port) (new : State) → HearsFeatures t dpid ports old reply new → Rests old reply new
-    rests_features dpid ports new (inl (served, r, e)) = subst (Rests old reply) (sym e) (rests_closed p s (ended t) (ends.Twice dpid) _ found at quiet)
-    rests_features dpid ports new (inr (inl (unserved, full, r, e))) = subst (Rests old reply) (sym e) (rests_closed p s (ended t) ends.Full _ found at quiet)
-    rests_features dpid ports new (inr (inr (unserved, free, r, j))) = rests_joins dpid ports new j
-
   -- ---- packets
 
-  rests_taught : (switch : ℕ) (k : Key) (taught : State) → Teaches switch k old taught → Rests old reply taught
+  pub rests_taught : (switch : ℕ) (k : Key) (taught : State) → Teaches switch k old taught → Rests old reply taught
   rests_taught switch k taught h = go (teaches switch k old) h
     where
       go : (b : Bool) → TeachesBy b (Host k.dl_src (entry_of switch k)) old taught → Rests old reply taught
@@ -147,37 +132,21 @@ module _ (same : SameIsEqual) (old : State) (h : IsSound old) (reply : Reply) wh
       go true (inr a) = rests_same taught a.1
       go false e = rests_same taught e
 
-  pub rests_packet : (s : Session) (buffer in_port : ℕ) (frame : List ℕ) (new : State) → HearsPacket s buffer in_port frame old reply new → Rests old reply new
-  rests_packet s buffer in_port frame new (inl (fault, is, r, e)) = subst (Rests old reply) (sym e) (rests_told _)
-  rests_packet s buffer in_port frame new (inr (inl (k, is, big, r, e))) = subst (Rests old reply) (sym e) (rests_told _)
-  rests_packet s buffer in_port frame new (inr (inr (inl (k, taught, is, small, t, many, r, e)))) =
-      let a = rests_taught (switch_of s) k taught t in
-      subst (Rests old reply) (sym e) (record { policy = a.policy; traces = a.traces; quiet = a.quiet; count = a.count; jobs = a.jobs })
-  rests_packet s buffer in_port frame new (inr (inr (inr (k, taught, is, small, t, few, r, e)))) =
-      let a = rests_taught (switch_of s) k taught t in
-      let j = job_of s buffer frame k taught in
-      subst (Rests old reply) (sym e)
-      (record {
-        policy = a.policy;
-        traces = a.traces;
-        quiet = a.quiet;
-        count = a.count;
-        jobs = λ i c. ⊎_elim (a.jobs i) (λ f. inr (r ∙ ap (λ x. JobOpened (item_of x)) f)) (Contains-push_cases taught.jobs j i c);
-      })
+  -- one more waits
+  pub rests_waits : (m : State) (j : Job) → Rests old reply m → reply ≡ JobOpened (item_of j) → Rests old reply (opens_job j m)
+  rests_waits m j a r = record {
+    policy = a.policy;
+    traces = a.traces;
+    quiet = a.quiet;
+    count = a.count;
+    jobs = λ i c. ⊎_elim (a.jobs i) (λ f. inr (r ∙ ap (λ x. JobOpened (item_of x)) f)) (Contains-push_cases m.jobs j i c);
+  }
 
   -- ---- connections
 
-  pub rests_opens : (c : ℕ) (new : State) → Opens c old reply new → Rests old reply new
-  rests_opens c new (inl (was, e)) = rests_same new e.1
-  rests_opens c new (inr (inl (fresh, full, r, e))) = subst (Rests old reply) (sym e) (rests_idle _ refl refl refl refl (turns_same old.sessions) (λ j d. inl d))
-  rests_opens c new (inr (inr (inl (fresh, few, r, e)))) = subst (Rests old reply) (sym e) (rests_idle _ refl refl refl refl (turns_push old.sessions _ refl) (λ j d. inl d))
-  rests_opens c new (inr (inr (inr e))) = rests_same new e.1
-
-  pub rests_takes : (c : ℕ) (new : State) → TakesMessages c old reply new → Rests old reply new
-  rests_takes c new (inl (found, r, e)) = rests_same new e
-  rests_takes c new (inr (inl (s, t, bytes, found, out, r, e))) = go (is_open s) (subst (λ x. new ≡ emptied (is_open s) x old) out.now_is e)
+  pub rests_takes : (c : ℕ) (s t : Session) (bytes : List ℕ) (new : State) → kept_at c old ≡ Some s → TakesOut s bytes t → new ≡ emptied (is_open s) t old → Rests old reply new
+  rests_takes c s t bytes new found out e = go (is_open s) (subst (λ x. new ≡ emptied (is_open s) x old) out.now_is e)
     where
       go : (b : Bool) → new ≡ emptied b (record s { outbox = []; taken = s.used }) old → Rests old reply new
       go true f = subst (Rests old reply) (sym f) (rests_with _ s (record s { outbox = []; taken = s.used }) old.lines found refl refl)
       go false f = subst (Rests old reply) (sym f) (rests_idle _ refl refl refl refl (turns_filter (λ (x : Session). not (x.connection == s.connection)) old.sessions) (λ j d. inl d))
-  rests_takes c new (inr (inr e)) = rests_same new e.1

@@ -8,9 +8,8 @@ use Rattle.env_cells.specs.declared.updates.Update.TheVariants.{Host}
 use Rattle.report_text.specs.declared.line.Line.TheVariants as lines
 use Rattle.switch_traces.specs.Traces.{Learnings}
 use Rattle.machine_steps.specs.declared.reply.Reply.{Reply}
-use Rattle.machine_steps.specs.declared.reply.Reply.TheVariants.{NoMemory, Policy as PolicyLent}
 use Rattle.machine_steps.specs.Machine.{Session, State, has_ended, is_live, is_of, session_at, state_number, traces_in, tells}
-use Rattle.machine_steps.specs.Steps.{switch_of, HeadsFor, AimsBy, AimsOne, AimsAll, Reaches, gone, updated, Updates, Lacks, Teaches, TeachesBy, teaches, entry_of, LendsPolicy}
+use Rattle.machine_steps.specs.Steps.{switch_of, HeadsFor, AimsBy, AimsOne, AimsAll, Reaches, gone, updated, Updates, Lacks, Teaches, TeachesBy, teaches, entry_of}
 use Rattle.machine_steps.proofs.Sound.Zipped.{zip_weaker}
 use Rattle.machine_steps.proofs.Sound.Aims.{aimed_so}
 use Rattle.machine_steps.proofs.Sound.Reached.{aims_zip}
@@ -76,11 +75,3 @@ follows_taught c switch k old taught h = go (teaches switch k old) h
     go true (inl a) = follows_reached c old (updated (Host k.dl_src (entry_of switch k)) old) taught a.1
     go true (inr a) = follows_same c old taught (ap (λ (n : State). n.sessions) a.1)
     go false e = follows_same c old taught (ap (λ (n : State). n.sessions) e)
-
--- ---- nothing changes
-
--- where the policy is lent
-pub lends_nothing : (old : State) (r : Reply) (new : State) → LendsPolicy old r new → new ≡ old
-lends_nothing old (PolicyLent number lent) new e = e.2
-lends_nothing old NoMemory new e = e
-lends_nothing old other new e = absurd e

@@ -3,27 +3,36 @@ use Rattle.std.proofs.Common.{◌≡◌, ◌⊎◌, ℕ, Bool, true, false, cond
 use Rattle.std.specs.Prelude.{◌==◌, ◌&&◌, Option, Some, None}
 use Rattle.std.proofs.lemmas.Bool.{cases_eq, eqb-true}
 use Rattle.std.proofs.lemmas.Option.{none-some}
+use Rattle.maple_base.specs.declared.decision.Outcome.TheVariants.{Decided}
 use Rattle.of10_codec.specs.declared.message.Message.{Message}
-use Rattle.switch_session.specs.declared.told.End.{End}
 use Rattle.switch_session.specs.Calls.{opened}
 use Rattle.switch_session.specs.Sessions.{ended}
-use Rattle.trace_record.specs.Runs.{Recorded}
 use Rattle.machine_steps.specs.declared.entry.Entry.{Entry}
 use Rattle.machine_steps.specs.declared.entry.Entry.TheVariants as entries
-use Rattle.machine_steps.specs.declared.entry.Input.TheVariants.{Message as Whole, Bad}
+use Rattle.machine_steps.specs.declared.entry.Input.TheVariants.{Message as Whole}
 use Rattle.machine_steps.specs.declared.reply.Reply.{Reply}
-use Rattle.machine_steps.specs.Machine.{Session, State, is_of, session_at, was_opened}
-use Rattle.machine_steps.specs.Steps.{Lacks, Opens, EndsSession, HearsInput, Commits, Decides, Steps, renewed}
+use Rattle.machine_steps.specs.Machine.{Session, State, is_open, is_of, session_at, was_opened}
+use Rattle.machine_steps.specs.Effects.{Effect}
+use Rattle.machine_steps.specs.Effects.Effect.{RunsOut, Rests, Misses, Outdates, Tells, Reports, OpensSession, TurnsAway, Empties, Moves, Quiets, Ends, Advances, Renews, Accepts, Overflows, Waits, Spends, AnswersJob}
+use Rattle.machine_steps.specs.Steps.{Lacks, Opens, HearsInput, Steps, updated, renewed}
 use Rattle.machine_steps.specs.Sound.{IsSound}
+use Rattle.machine_steps.proofs.Effects.{effect_of}
 use Rattle.machine_steps.proofs.Sound.Zipped.{find_append, find_passes}
 use Rattle.machine_moves.specs.Moves.{PutsAndIsLed, MovesBy, HearsOne, HearsBy, StaysOpen}
 use Rattle.machine_moves.specs.MoveLaws.{IsOpened, SessionsMove, SessionsOpen}
 use Rattle.machine_moves.proofs.Concluding.{concludes_moves}
-use Rattle.machine_moves.proofs.Found.{find_last, its_connection}
-use Rattle.machine_moves.proofs.Following.{Follows, follows_kept, follows_same, follows_reached, follows_update, lends_nothing}
+use Rattle.machine_moves.proofs.Found.{placed, find_last, its_connection}
+use Rattle.machine_moves.proofs.Following.{Follows, follows_kept, follows_same, follows_reached}
 use Rattle.machine_moves.proofs.MoveHearing.{heard_moves}
 use Rattle.machine_moves.proofs.Kept.{takes_moves}
 use Rattle.machine_moves.proofs.Turning.{Turns, Turned, only_led, turned_follows, turned_shut, follows_placed, hears_either}
+
+-- it opens no connection, and no message comes or is taken out
+abbrev IsOther : Entry → Type 0
+IsOther (entries.Open d) = ⊥
+IsOther (entries.Heard d (Whole x)) = ⊥
+IsOther (entries.TakeOut d) = ⊥
+IsOther entry = Unit {0}
 
 module _ (N : Session → Type 0) (c : ℕ) (old : State) (reply : Reply) (new : State) where
   abbrev Moved : Type 0
@@ -39,25 +48,35 @@ module _ (N : Session → Type 0) (c : ℕ) (old : State) (reply : Reply) (new :
   same e = stands (ap (λ (n : State). n.sessions) e)
 
   -- the session of a connection ends
-  ends : (d : ℕ) (end : End) → EndsSession d end old reply new → Moved
-  ends d end (inl (none, p)) = same p.1
-  ends d end (inr (s, found, r, e)) =
-      let its = its_connection d s (find_passes (is_of d) old.sessions s found) in
-      let are = ap (λ (n : State). n.sessions) e in
-      ⊎_elim (λ f. turned_shut N c old new (PutsAndIsLed new) (ended s) (its ∙ f) refl are) (λ o. follows (follows_placed c (ended s) old new (λ f. o (sym its ∙ f)) are)) (cases_eq d c)
+  shut : (d : ℕ) (s t : Session) → session_at d old ≡ Some s → t ≡ ended s → new.sessions ≡ placed t old.sessions → Moved
+  shut d s t found over are =
+      let its = ap (λ (y : Session). y.connection) over ∙ its_connection d s (find_passes (is_of d) old.sessions s found) in
+      ⊎_elim (λ f. turned_shut N c old new (PutsAndIsLed new) t (its ∙ f) (ap is_open over) are) (λ o. follows (follows_placed c t old new (λ f. o (sym its ∙ f)) are)) (cases_eq d c)
 
   module _ (h : IsSound old) where
-    commits : (number : ℕ) (run : Recorded) → Commits number run old reply new → Lacks old reply new ⊎ Moved
-    commits number run (inl (none_such, r, e)) = inr (same e)
-    commits number run (inr (inl (j, is, other, r, e))) = inr (stands (ap (λ (n : State). n.sessions) e))
-    commits number run (inr (inr (inl (j, cell, recorded, current, is, n, stale, r, e)))) = inr (stands (ap (λ (n : State). n.sessions) e))
-    commits number run (inr (inr (inr (inl (j, is, n, fresh, a))))) = inr (concludes_moves N old h c j is.there reply new run.items run.cells run.outcome a)
-    commits number run (inr (inr (inr (inr l)))) = inl l
-
-    decides : (number : ℕ) → Decides number old reply new → Lacks old reply new ⊎ Moved
-    decides number (inl (none_such, r, e)) = inr (same e)
-    decides number (inr (inl (j, is, a))) = inr (concludes_moves N old h c j is.there reply new _ _ _ a)
-    decides number (inr (inr l)) = inl l
+    -- any other entry, by its effect
+    by_effect : (entry : Entry) → IsOther entry → Effect old entry reply new → Lacks old reply new ⊎ Moved
+    by_effect entry other (RunsOut l) = inl l
+    by_effect entry other (Rests p e) = inr (same e)
+    by_effect entry other (Misses number is r e) = inr (same e)
+    by_effect entry other (Outdates number is differs r more e) = inr (stands (ap (λ (n : State). n.sessions) e))
+    by_effect entry other (Tells p more e) = inr (stands (ap (λ (n : State). n.sessions) e))
+    by_effect entry other (Reports is r e) = inr (stands (ap (λ (n : State). n.sessions) e))
+    by_effect entry other (OpensSession d is new_one few r e) = absurd (subst IsOther is other)
+    by_effect entry other (TurnsAway d is new_one full r e) = absurd (subst IsOther is other)
+    by_effect entry other (Empties d s t bytes is found out r e) = absurd (subst IsOther is other)
+    by_effect entry other (Moves x t from still p more e) = absurd (subst IsOther from.is other)
+    by_effect entry other (Quiets kind code t from p e) = absurd (subst IsOther from.is other)
+    by_effect entry other (Ends t end (inl (d, s, is, found, over)) r more e) = inr (shut d s t found over (ap (λ (n : State). n.sessions) e))
+    by_effect entry other (Ends t end (inr (inl (u, dpid, ports, from, over))) r more e) = absurd (subst IsOther from.is other)
+    by_effect entry other (Ends t end (inr (inr (last, from))) r more e) = absurd (subst IsOther from.is other)
+    by_effect entry other (Advances u may free r a) = inr (follows (follows_reached c old (updated u old) new a))
+    by_effect entry other (Renews p is r a) = inr (follows (follows_reached c old (renewed p old) new a))
+    by_effect entry other (Accepts t dpid ports from r j) = absurd (subst IsOther from.is other)
+    by_effect entry other (Overflows t buffer frame k m p many r e) = absurd (subst IsOther p.hearing.is other)
+    by_effect entry other (Waits t buffer frame k m p few r e) = absurd (subst IsOther p.hearing.is other)
+    by_effect entry other (Spends j run r e) = inr (stands (ap (λ (n : State). n.sessions) e))
+    by_effect entry other (AnswersJob j items cells d run a) = inr (concludes_moves N old h c j run.there reply new items cells (Decided d) a)
 
     hears : (d : ℕ) (x : Message) → HearsInput d (Whole x) old reply new → Lacks old reply new ⊎ Turned N c old new (HearsBy (d == c) x new)
     hears d x (inl (none, p)) = inr (hears_either N c d x old new unheard (λ o. follows_same c old new (ap (λ (n : State). n.sessions) p.1)))
@@ -103,23 +122,8 @@ Turn c old entry reply new = Lacks old reply new ⊎ Turned (IsOpened c old entr
 turn : (c : ℕ) (old : State) (entry : Entry) (reply : Reply) (new : State) → IsSound old → Steps old entry reply new → Turn c old entry reply new
 turn c old (entries.Open d) reply new h s = opens c d old reply new s
 turn c old (entries.Heard d (Whole x)) reply new h s = hears (IsOpened c old (entries.Heard d (Whole x)) reply) c old reply new h d x s
-turn c old (entries.Heard d (Bad place bad)) reply new h s = inr (ends (IsOpened c old (entries.Heard d (Bad place bad)) reply) c old reply new d _ s)
-turn c old (entries.Gone d fault) reply new h s = inr (ends (IsOpened c old (entries.Gone d fault) reply) c old reply new d _ s)
-turn c old (entries.Change u) reply new h s = ⊎_elim (λ l. inl l) (λ f. inr (follows (IsOpened c old (entries.Change u) reply) c old reply new f)) (follows_update c u old reply new s)
-turn c old (entries.NewPolicy p) reply new h (inl (r, a)) = inr (follows (IsOpened c old (entries.NewPolicy p) reply) c old reply new (follows_reached c old (renewed p old) new a))
-turn c old (entries.NewPolicy p) reply new h (inr l) = inl l
-turn c old (entries.ReadCell cell) reply new h (r, e) = inr (same (IsOpened c old (entries.ReadCell cell) reply) c old reply new e)
-turn c old entries.ReadPolicy reply new h s = inr (same (IsOpened c old entries.ReadPolicy reply) c old reply new (lends_nothing old reply new s))
-turn c old (entries.ReadRules switch) reply new h (inl (rules, put, r, e)) = inr (stands (IsOpened c old (entries.ReadRules switch) reply) c old reply new (ap (λ (n : State). n.sessions) e))
-turn c old (entries.ReadRules switch) reply new h (inr l) = inl l
-turn c old entries.OpenJobs reply new h (r, e) = inr (same (IsOpened c old entries.OpenJobs reply) c old reply new e)
-turn c old (entries.Commit number run) reply new h s = commits (IsOpened c old (entries.Commit number run) reply) c old reply new h number run s
-turn c old (entries.Decide number) reply new h s = decides (IsOpened c old (entries.Decide number) reply) c old reply new h number s
 turn c old (entries.TakeOut d) reply new h s = takes_moves (IsOpened c old (entries.TakeOut d) reply) c d old h reply new s
-turn c old entries.TakeReport reply new h (inl (r, e)) = inr (stands (IsOpened c old entries.TakeReport reply) c old reply new (ap (λ (n : State). n.sessions) e))
-turn c old entries.TakeReport reply new h (inr l) = inl l
-turn c old (entries.Note note) reply new h (inl (r, e)) = inr (stands (IsOpened c old (entries.Note note) reply) c old reply new (ap (λ (n : State). n.sessions) e))
-turn c old (entries.Note note) reply new h (inr l) = inl l
+turn c old other reply new h s = by_effect (IsOpened c old other reply) c old reply new h other tt (effect_of old reply new other s)
 
 pub sessions_move : SessionsMove
 sessions_move old entry reply new h admits steps c s found = ⊎_elim (λ l. inl l) (λ t. inr (go (session_at c new) refl (subst (λ o. Turns (IsOpened c old entry reply) (MovesBy c entry new) o (session_at c new)) found t))) (turn c old entry reply new h steps)

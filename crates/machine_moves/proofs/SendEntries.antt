@@ -1,6 +1,7 @@
 -- What each entry does to sessions and jobs keeps it so that all that is sent can be offered.
 use Rattle.std.proofs.Common.{◌≡◌, ℕ, ◌^◌, ◌<◌, ◌≤◌, Bool, true, false, List, [], ◌∷◌, ◌++◌, refl, sym, ap, ◌∙◌, subst, inl, inr}
 use Rattle.std.specs.Prelude.{◌==◌, not, find, map, if◌then◌else◌, Contains, Some}
+use Rattle.std.specs.FinSet as set
 use Rattle.std.specs.List.{AllByRecursion}
 use Rattle.std.proofs.lemmas.Bool.{cond_both}
 use Rattle.std.proofs.lemmas.Option.{same_Some}
@@ -13,28 +14,28 @@ use Rattle.maple_base.specs.declared.decision.Outcome.TheVariants.{Decided, Spen
 use Rattle.maple_base.specs.declared.items.Item.{Item}
 use Rattle.maple_base.specs.Decisions.{actions_at}
 use Rattle.maple_base.specs.RuleLists.{Rules}
-use Rattle.env_cells.specs.declared.updates.Update.{Update}
+use Rattle.maple_base.specs.declared.key.Key.{Key}
 use Rattle.env_cells.specs.declared.updates.Update.TheVariants.{Host}
 use Rattle.report_text.specs.declared.line.Learnt.{Learnt}
 use Rattle.report_text.specs.declared.line.Learnt.TheVariants.{Learned}
-use Rattle.switch_session.specs.declared.told.End.{End}
-use Rattle.switch_session.specs.declared.told.End.TheVariants as ends
+use Rattle.report_text.specs.declared.line.Line.TheVariants as lines
 use Rattle.switch_session.specs.declared.told.Phase.TheVariants as phases
-use Rattle.switch_session.specs.Calls.{opened}
+use Rattle.switch_session.specs.Calls.{opened, TakesOut}
 use Rattle.switch_session.specs.Parts.{is_nil, packet_out}
-use Rattle.switch_session.specs.Sessions.{ended, put}
+use Rattle.switch_session.specs.Sessions.{put}
 use Rattle.switch_traces.specs.Lists.{AreRulesOf}
 use Rattle.machine_steps.specs.declared.job.Job.{Job}
 use Rattle.machine_steps.specs.declared.reply.Reply.{Reply}
-use Rattle.machine_steps.specs.Machine.{Session, State, is_live, is_open, is_of, session_at, with_session, traces_of, put_traces}
-use Rattle.machine_steps.specs.Steps.{switch_of, closes, updated, Reaches, Updates, Joins, HearsFeatures, HearsPacket, TeachesBy, entry_of, teaches, job_of, EndsSession, TakesMessages, emptied, Opens, next_trace, sends, Keeps, Concludes, close_job}
+use Rattle.machine_steps.specs.Machine.{Session, State, is_live, is_open, is_of, session_at, with_session, traces_of, put_traces, tells}
+use Rattle.machine_steps.specs.Effects.{shuts}
+use Rattle.machine_steps.specs.Steps.{updated, Reaches, Joins, Teaches, TeachesBy, entry_of, teaches, opens_job, kept_at, emptied, next_trace, sends, Keeps, Concludes, close_job}
 use Rattle.machine_steps.specs.Sound.{IsServed}
 use Rattle.machine_steps.proofs.Sound.Answering.{IsNext}
 use Rattle.machine_steps.proofs.Sound.Kept.{traces_put}
 use Rattle.machine_steps.proofs.Sound.Zipped.{all_in, all_push, all_filter, find_all}
 use Rattle.machine_moves.proofs.Current.{answer_offered}
 use Rattle.machine_moves.proofs.Parts.{CanBeSent}
-use Rattle.machine_moves.proofs.SendSessions.{LowerLaws, Sendable, Sends, opened_sends, put_sends, ended_sends, emptied_sends, heads_sends, aims_all, accepts_sends}
+use Rattle.machine_moves.proofs.SendSessions.{LowerLaws, Sendable, Sends, opened_sends, put_sends, emptied_sends, heads_sends, aims_all, accepts_sends}
 
 -- sessions and jobs, of switches with room for so many rules: a job's buffer has 32 bits
 pub record Offer (n : ℕ) (ss : List Session) (js : List Job) : Type 0 where
@@ -54,10 +55,10 @@ module _ (laws : LowerLaws) (n : ℕ) (room : n ≤ 65535) where
   pub with_offers : (m : State) (t : Session) → Offers n m → Sends n t → Offers n (with_session t m)
   with_offers m t o f = record { sessions = all_with t f m.sessions o.sessions; buffers = o.buffers }
 
-  pub closes_offers : (m : State) (t : Session) (end : End) → Offers n m → Sends n t → Offers n (closes t end m)
-  closes_offers m t end o f = record { sessions = all_with t f m.sessions o.sessions; buffers = all_filter (λ (j : Job). j.buffer < 2 ^ 32) (λ (j : Job). not (j.connection == t.connection)) m.jobs o.buffers }
+  pub shuts_offers : (m : State) (t : Session) → Offers n m → Sends n t → Offers n (shuts t m)
+  shuts_offers m t o f = record { sessions = all_with t f m.sessions o.sessions; buffers = all_filter (λ (j : Job). j.buffer < 2 ^ 32) (λ (j : Job). not (j.connection == t.connection)) m.jobs o.buffers }
 
-  found_sends : (m : State) (p : Session → Bool) (s : Session) → Offers n m → find p m.sessions ≡ Some s → Sends n s
+  pub found_sends : (m : State) (p : Session → Bool) (s : Session) → Offers n m → find p m.sessions ≡ Some s → Sends n s
   found_sends m p s o found = find_all (Sends n) p m.sessions s o.sessions found
 
   -- ---- a state is reached
@@ -68,66 +69,43 @@ module _ (laws : LowerLaws) (n : ℕ) (room : n ≤ 65535) where
       (record { sessions = aims_all laws n room next.learned next.sessions r.sessions (subst (λ (x : State). Sendable n x.learned) r.now_is can) o.sessions r.aims; buffers = o.buffers })
 
   module _ (old : State) (o : Offers n old) (reply : Reply) (new : State) where
-    same : new ≡ old → Offers n new
-    same e = subst (Offers n) (sym e) o
-
-    pub updates_offers : Sendable n new.learned → (u : Update) → Updates u old reply new → Offers n new
-    updates_offers can u (inl a) = reaches_offers old (updated u old) new a.2 can o
-    updates_offers can u (inr (inl a)) = subst (Offers n) (sym a.3) o
-    updates_offers can u (inr (inr l)) = same l.1
-
     -- ---- connections
 
-    pub opens_offers : (c : ℕ) → old.settings.capacity ≡ n → Opens c old reply new → Offers n new
-    opens_offers c capacity (inl (was, e)) = same e.1
-    opens_offers c capacity (inr (inl (fresh, full, r, e))) = subst (Offers n) (sym e) o
-    opens_offers c capacity (inr (inr (inl (fresh, few, r, e)))) =
+    pub opens_offers : (c : ℕ) → old.settings.capacity ≡ n
+        → new ≡ tells (lines.Open c) (record old { opened = set.insert old.opened c; sessions = old.sessions ++ opened c old.settings.capacity ∷ [] }) → Offers n new
+    opens_offers c capacity e =
         subst (Offers n) (sym e)
         (record { sessions = all_push (Sends n) old.sessions _ o.sessions (subst (λ k. Sends n (opened c k)) (sym capacity) (opened_sends laws n room c)); buffers = o.buffers })
-    opens_offers c capacity (inr (inr (inr l))) = same l.1
 
-    pub ends_offers : (c : ℕ) (end : End) → EndsSession c end old reply new → Offers n new
-    ends_offers c end (inl (found, e)) = same e.1
-    ends_offers c end (inr (s, found, r, e)) = subst (Offers n) (sym e) (closes_offers old (ended s) end o (ended_sends laws n room s (found_sends old (is_of c) s o found)))
-
-    pub takes_offers : (c : ℕ) → TakesMessages c old reply new → Offers n new
-    takes_offers c (inl (found, r, e)) = same e
-    takes_offers c (inr (inl (s, t, bytes, found, out, r, e))) =
+    pub takes_offers : (c : ℕ) (s t : Session) (bytes : List ℕ) → kept_at c old ≡ Some s → TakesOut s bytes t → new ≡ emptied (is_open s) t old → Offers n new
+    takes_offers c s t bytes found out e =
         subst (Offers n) (sym e) (go (is_open s) (subst (Sends n) (sym out.now_is) (emptied_sends laws n room s (found_sends old (λ (x : Session). x.connection == c) s o found))))
       where
         go : (b : Bool) → Sends n t → Offers n (emptied b t old)
         go true f = with_offers old t o f
         go false f = record { sessions = all_filter (Sends n) (λ (x : Session). not (x.connection == t.connection)) old.sessions o.sessions; buffers = o.buffers }
-    takes_offers c (inr (inr l)) = same l.1
 
     -- ---- the switch's features
 
-    joins_offers : (can : Sendable n new.learned) (t : Session) (dpid : ℕ) (ports : List Port) → t.phase ≡ phases.Second → Sends n t → Joins t dpid ports old new → Offers n new
+    pub joins_offers : (can : Sendable n new.learned) (t : Session) (dpid : ℕ) (ports : List Port) → t.phase ≡ phases.Second → Sends n t → Joins t dpid ports old new → Offers n new
     joins_offers can t dpid ports second f j =
         let now : Sendable n j.reached.learned = subst (λ (x : State). Sendable n x.learned) j.now_is can in
         let reached = reaches_offers old _ j.reached j.reaches now (with_offers old t o f) in
         subst (Offers n) (sym j.now_is) (with_offers j.reached j.accepted reached (accepts_sends laws n room t j.rules j.accepted second f (now dpid j.rules j.are_rules) j.accepts))
 
-    pub features_offers : (can : Sendable n new.learned) (t : Session) (dpid : ℕ) (ports : List Port) → t.phase ≡ phases.Second → Sends n t → HearsFeatures t dpid ports old reply new → Offers n new
-    features_offers can t dpid ports second f (inl (served, r, e)) = subst (Offers n) (sym e) (closes_offers old (ended t) (ends.Twice dpid) o (ended_sends laws n room t f))
-    features_offers can t dpid ports second f (inr (inl (unserved, full, r, e))) = subst (Offers n) (sym e) (closes_offers old (ended t) ends.Full o (ended_sends laws n room t f))
-    features_offers can t dpid ports second f (inr (inr (unserved, free, r, j))) = joins_offers can t dpid ports second f j
-
     -- ---- a packet
 
-    taught_offers : (b : Bool) (u : Update) (taught : State) → Sendable n taught.learned → TeachesBy b u old taught → Offers n taught
-    taught_offers true u taught can (inl t) = reaches_offers old (updated u old) taught t.1 can o
-    taught_offers true u taught can (inr t) = subst (Offers n) (sym t.1) o
-    taught_offers false u taught can e = subst (Offers n) (sym e) o
+    pub taught_offers : (switch : ℕ) (k : Key) (taught : State) → Sendable n taught.learned → Teaches switch k old taught → Offers n taught
+    taught_offers switch k taught can h = go (teaches switch k old) h
+      where
+        go : (b : Bool) → TeachesBy b (Host k.dl_src (entry_of switch k)) old taught → Offers n taught
+        go true (inl t) = reaches_offers old (updated (Host k.dl_src (entry_of switch k)) old) taught t.1 can o
+        go true (inr t) = subst (Offers n) (sym t.1) o
+        go false e = subst (Offers n) (sym e) o
 
-    pub packet_offers : (can : Sendable n new.learned) (s : Session) (buffer in_port : ℕ) (frame : List ℕ) → buffer < 2 ^ 32 → HearsPacket s buffer in_port frame old reply new → Offers n new
-    packet_offers can s buffer in_port frame of_word (inl (fault, is, r, e)) = subst (Offers n) (sym e) o
-    packet_offers can s buffer in_port frame of_word (inr (inl (k, is, big, r, e))) = subst (Offers n) (sym e) o
-    packet_offers can s buffer in_port frame of_word (inr (inr (inl (k, taught, is, small, t, many, r, e)))) =
-        subst (Offers n) (sym e) (taught_offers (teaches (switch_of s) k old) (Host k.dl_src (entry_of (switch_of s) k)) taught (subst (λ (x : State). Sendable n x.learned) e can) t)
-    packet_offers can s buffer in_port frame of_word (inr (inr (inr (k, taught, is, small, t, few, r, e)))) =
-        let a = taught_offers (teaches (switch_of s) k old) (Host k.dl_src (entry_of (switch_of s) k)) taught (subst (λ (x : State). Sendable n x.learned) e can) t in
-        subst (Offers n) (sym e) (record { sessions = a.sessions; buffers = all_push (λ (j : Job). j.buffer < 2 ^ 32) taught.jobs (job_of s buffer frame k taught) a.buffers of_word })
+    -- one more waits
+    pub waits_offers : (taught : State) (j : Job) → j.buffer < 2 ^ 32 → Offers n taught → new ≡ opens_job j taught → Offers n new
+    waits_offers taught j low a e = subst (Offers n) (sym e) (record { sessions = a.sessions; buffers = all_push (λ (j : Job). j.buffer < 2 ^ 32) taught.jobs j a.buffers low })
 
     -- ---- an answer
 

@@ -1,12 +1,11 @@
 -- What a session makes of a message can be offered.
-use Rattle.std.proofs.Common.{◌≡◌, ℕ, ◌^◌, ◌<◌, ◌≤◌, true, false, List, length, drop, sym, ap, subst, ⊎_elim, arith, length-drop}
+use Rattle.std.proofs.Common.{◌≡◌, ℕ, ◌^◌, ◌<◌, ◌≤◌, true, List, length, drop, ap, subst, arith, length-drop}
 use Rattle.std.specs.Prelude.{◌==◌, Some}
 use Rattle.std.proofs.lemmas.Bool.{and_parts}
 use Rattle.maple_base.specs.NetworkOrder.{number_at}
 use Rattle.of10_codec.specs.declared.message.Message.{Message}
 use Rattle.of10_codec.specs.declared.message.Body.{Body}
 use Rattle.of10_codec.specs.declared.message.Body.TheVariants as body
-use Rattle.env_cells.specs.declared.updates.Update.TheVariants.{Port as PortUpdate}
 use Rattle.switch_session.specs.declared.told.Heard.{Heard}
 use Rattle.switch_session.specs.declared.told.Heard.TheVariants as heard
 use Rattle.switch_session.specs.declared.told.Phase.TheVariants as phases
@@ -14,22 +13,23 @@ use Rattle.switch_session.specs.Calls.{CanBeHeard}
 use Rattle.switch_session.specs.Kept.{is_busy}
 use Rattle.switch_session.specs.Parts.{features_request, version_refusal, echo_reply}
 use Rattle.switch_session.specs.Sessions.{ended, put}
-use Rattle.machine_steps.specs.declared.reply.Reply.{Reply}
+use Rattle.machine_steps.specs.declared.entry.Entry.{Entry}
+use Rattle.machine_steps.specs.Admitting.{Admits}
+use Rattle.machine_steps.specs.Effects.{Hearing}
 use Rattle.machine_steps.specs.Machine.{Session, State, is_open, is_of, session_at}
 use Rattle.machine_steps.specs.Messages.{Makes}
 use Rattle.machine_steps.specs.Messages.Makes.{PassesOver, RefusesVersion, Greets, Echoes, IsNamed, BringsPacket, BringsPort, ComesEarly, LacksNumbers, Acknowledges, RefusesClearing, BreaksOff, IsRefused}
-use Rattle.machine_steps.specs.Steps.{switch_of, HearsMessage, HearsOf}
 use Rattle.machine_steps.specs.Sound.{IsInOrder, IsSound}
 use Rattle.machine_steps.proofs.Messages.{made_of, batch_live}
 use Rattle.machine_steps.proofs.Sound.Keys.{number_below}
 use Rattle.machine_steps.proofs.Sound.Moves.{awaited_live}
 use Rattle.machine_steps.proofs.Sound.Zipped.{find_all, find_passes}
-use Rattle.machine_moves.proofs.SendEntries.{Offers, with_offers, closes_offers, updates_offers, features_offers, packet_offers}
+use Rattle.machine_moves.proofs.SendEntries.{Offers}
 use Rattle.machine_moves.proofs.Offers.{request_offered, refusal_offered, echo_offered}
-use Rattle.machine_moves.proofs.SendSessions.{LowerLaws, Sendable, Sends, put_sends, ended_sends, breaks_sends, acknowledged_now_sends}
+use Rattle.machine_moves.proofs.SendSessions.{LowerLaws, Sends, put_sends, ended_sends, breaks_sends, acknowledged_now_sends}
 
 -- what is told of a message: the features of a session that waits for them, and a packet with a buffer of 32 bits
-abbrev Tells : Heard → Session → Type 0
+abbrev pub Tells : Heard → Session → Type 0
 Tells (heard.Features dpid ports) t = t.phase ≡ phases.Second
 Tells (heard.PacketIn buffer in_port frame) t = buffer < 2 ^ 32
 Tells x t = Unit {0}
@@ -94,21 +94,11 @@ module _ (laws : LowerLaws) (n : ℕ) (room : n ≤ 65535) (old : State) (sound 
     by_made (BreaksOff is change loud) = (breaks_sends laws n room s f (batch_live xid s change.0), tt)
     by_made (IsRefused is why) = (f, tt)
 
--- what the machine does with that
-module _ (laws : LowerLaws) (n : ℕ) (room : n ≤ 65535) (old : State) (o : Offers n old) (reply : Reply) (new : State) (can : Sendable n new.learned) where
-  by_heard : (m : Message) (x : Heard) (t : Session) → Sends n t × Tells x t → HearsOf m t x old reply new → Offers n new
-  by_heard m heard.Passed t f d = subst (Offers n) (sym d.1) (with_offers laws n room old t o f.0)
-  by_heard m (heard.Features dpid ports) t f d = features_offers laws n room old o reply new can t dpid ports f.1 f.0 d
-  by_heard m (heard.PacketIn buffer in_port frame) t f d = packet_offers laws n room old o reply new can t buffer in_port frame f.1 d
-  by_heard m (heard.Port p up) t f d = updates_offers laws n room old o reply new can (PortUpdate (switch_of t) p up) d
-  by_heard m (heard.Acknowledged true) t f d = subst (Offers n) (sym d.1) (with_offers laws n room old t o f.0)
-  by_heard m (heard.Acknowledged false) t f d = subst (Offers n) (sym d.1) (with_offers laws n room old t o f.0)
-  by_heard m (heard.Refused kind code true) t f d = subst (Offers n) (sym d.1) (with_offers laws n room old t o f.0)
-  by_heard m (heard.Refused kind code false) t f d = subst (Offers n) (sym d.1) (with_offers laws n room old t o f.0)
-  by_heard m (heard.Ended end) t f d = subst (Offers n) (sym d.1) (closes_offers laws n room old t end o f.0)
-
-  pub heard_offers : (c : ℕ) (m : Message) → IsSound old → CanBeHeard m → HearsMessage c m old reply new → Offers n new
-  heard_offers c m sound can_be r =
-      ⊎_elim
-      (λ d. by_heard m r.heard r.behind (by_made laws n room old sound c r.session r.there (find_all (Sends n) (is_of c) old.sessions r.session o.sessions r.there) m.xid m.body can_be (made_of m.xid r.session r.heard r.behind m.body r.hears)) d)
-      (λ l. subst (Offers n) (sym l.1.1) o) r.does
+-- what a message makes of its session
+pub heard_sends : (laws : LowerLaws) (n : ℕ) → n ≤ 65535 → (old : State) → IsSound old → Offers n old → (entry : Entry) → Admits old entry → (x : Heard) (t : Session) → Hearing old entry x t
+    → Sends n t × Tells x t
+heard_sends laws n room old sound o entry a x t from =
+    let s = from.session in
+    let m = from.message in
+    by_made laws n room old sound from.connection s from.there (find_all (Sends n) (is_of from.connection) old.sessions s o.sessions from.there) m.xid m.body (subst (Admits old) from.is a)
+    (made_of m.xid s x t m.body from.hears)

@@ -1,24 +1,28 @@
 -- Along each legal history all that is sent can be offered.
-use Rattle.std.proofs.Common.{◌≡◌, ℕ, ◌≤◌, List, [], ◌∷◌, refl, sym, ap, ◌∙◌, subst, inl, inr}
+use Rattle.std.proofs.Common.{◌≡◌, ℕ, ◌≤◌, true, List, [], ◌∷◌, refl, sym, ap, ◌∙◌, subst, inl, inr}
+use Rattle.std.specs.Prelude.{None}
 use Rattle.std.specs.List.{AllByRecursion}
+use Rattle.std.proofs.lemmas.Option.{none-some}
 use Rattle.maple_base.specs.declared.decision.Settings.{Settings}
 use Rattle.policy_meaning.specs.Readings.{outcome_in, items_of, cells_of}
 use Rattle.policy_meaning.specs.Meaning.{meaning}
 use Rattle.topo_paths.specs.Scenes.{cell_in}
+use Rattle.switch_session.specs.declared.told.Heard.{Heard}
+use Rattle.switch_session.specs.declared.told.Heard.TheVariants as heard
 use Rattle.trace_record.specs.Runs.{Recorded}
 use Rattle.machine_steps.specs.declared.entry.Entry.{Entry}
 use Rattle.machine_steps.specs.declared.entry.Entry.TheVariants as entries
-use Rattle.machine_steps.specs.declared.entry.Input.{Input}
-use Rattle.machine_steps.specs.declared.entry.Input.TheVariants.{Message as Whole, Bad}
 use Rattle.machine_steps.specs.declared.reply.Reply.{Reply}
-use Rattle.machine_steps.specs.declared.reply.Reply.TheVariants.{NoMemory, Policy as PolicyLent}
-use Rattle.machine_steps.specs.Admitting.{Admits, IsHeard, IsOfHistory}
+use Rattle.machine_steps.specs.Admitting.{Admits, IsOfHistory}
+use Rattle.machine_steps.specs.Effects.{job_in, Hearing, Ending, Effect}
+use Rattle.machine_steps.specs.Effects.Effect.{RunsOut, Rests, Misses, Outdates, Tells as TellsLines, Reports, OpensSession, TurnsAway, Empties, Moves, Quiets, Ends, Advances, Renews, Accepts, Overflows, Waits, Spends, AnswersJob}
 use Rattle.machine_steps.specs.Histories.{Turn, Leads}
 use Rattle.machine_steps.specs.Laws.{OpensSound, KeepsSound}
-use Rattle.machine_steps.specs.Machine.{Session, State, opening, in_force}
+use Rattle.machine_steps.specs.Machine.{Session, State, is_of, opening, in_force}
 use Rattle.machine_steps.specs.Running.{IsRunNow, CurrentRunsAreNow}
 use Rattle.machine_steps.specs.Sound.{IsServed, IsSound}
-use Rattle.machine_steps.specs.Steps.{renewed, asked_now, HearsInput, Commits, Decides, LendsPolicy, Steps}
+use Rattle.machine_steps.specs.Steps.{switch_of, updated, renewed, job_of, asked_now, Commits, Decides, Steps}
+use Rattle.machine_steps.proofs.Effects.{effect_of}
 use Rattle.machine_steps.proofs.Later.{is_later}
 use Rattle.machine_steps.proofs.Running.{current_next}
 use Rattle.machine_steps.proofs.Sound.Deciding.{asked_next}
@@ -26,9 +30,9 @@ use Rattle.machine_steps.proofs.Sound.Kept.{RunningLaws}
 use Rattle.machine_steps.proofs.Sound.Zipped.{all_in, all_weaker}
 use Rattle.machine_moves.specs.Sends.{CanBeOffered, SendsLaw}
 use Rattle.machine_moves.proofs.Current.{sound_sendable}
-use Rattle.machine_moves.proofs.SendEntries.{Offers, updates_offers, reaches_offers, opens_offers, ends_offers, takes_offers, concludes_offers}
-use Rattle.machine_moves.proofs.SendHearing.{heard_offers}
-use Rattle.machine_moves.proofs.SendSessions.{LowerLaws, Sendable, Sends}
+use Rattle.machine_moves.proofs.SendEntries.{Offers, with_offers, shuts_offers, found_sends, reaches_offers, opens_offers, takes_offers, joins_offers, taught_offers, waits_offers, concludes_offers}
+use Rattle.machine_moves.proofs.SendHearing.{Tells, heard_sends}
+use Rattle.machine_moves.proofs.SendSessions.{LowerLaws, Sendable, Sends, ended_sends}
 
 -- what the machine's crates prove
 pub record MachineLaws : Type 0 where
@@ -60,38 +64,45 @@ module _ (laws : LowerLaws) (machine : MachineLaws) (n : ℕ) (room : n ≤ 6553
         (outcome_in (meaning (in_force old).body old.settings.budget j.switch) j.key (cell_in old.scene)) (asked_next machine.running old h.links j served.valid) concludes
     decides_offers number (inr (inr l)) = subst (Offers n) (sym l.1) o
 
-    input_offers : (c : ℕ) (input : Input) → IsHeard input → HearsInput c input old reply new → Offers n new
-    input_offers c (Bad place bad) a d = ends_offers laws n room old o reply new c _ d
-    input_offers c (Whole m) a (inl (found, e)) = subst (Offers n) (sym e.1) o
-    input_offers c (Whole m) a (inr (inl r)) = heard_offers laws n room old o reply new can c m h a r
-    input_offers c (Whole m) a (inr (inr r)) = subst (Offers n) (sym r.lacks.1) o
+    -- ---- by the effect
 
-    lends_offers : (r : Reply) → LendsPolicy old r new → Offers n new
-    lends_offers (PolicyLent number lent) e = subst (Offers n) (sym e.2) o
-    lends_offers NoMemory e = subst (Offers n) (sym e) o
-    lends_offers other e = absurd e
+    module _ (entry : Entry) (a : Admits old entry) where
+      hears : (x : Heard) (t : Session) → Hearing old entry x t → Sends n t × Tells x t
+      hears x t from = heard_sends laws n room old h o entry a x t from
 
-    -- ---- each entry
+      shut : (t : Session) → Ending old entry t → Sends n t
+      shut t (inl (c, s, is, found, same)) = subst (Sends n) (sym same) (ended_sends laws n room s (found_sends laws n room old (is_of c) s o found))
+      shut t (inr (inl (u, dpid, ports, from, same))) = subst (Sends n) (sym same) (ended_sends laws n room u (hears (heard.Features dpid ports) u from).0)
+      shut t (inr (inr (end, from))) = (hears (heard.Ended end) t from).0
+
+      by_effect : old.settings.capacity ≡ n → job_in entry ≡ None → Effect old entry reply new → Offers n new
+      by_effect same free (RunsOut l) = subst (Offers n) (sym l.1) o
+      by_effect same free (Rests p e) = subst (Offers n) (sym e) o
+      by_effect same free (Misses number is r e) = subst (Offers n) (sym e) o
+      by_effect same free (Outdates number is differs r more e) = subst (Offers n) (sym e) o
+      by_effect same free (TellsLines p more e) = subst (Offers n) (sym e) o
+      by_effect same free (Reports is r e) = subst (Offers n) (sym e) o
+      by_effect same free (OpensSession c is fresh few r e) = opens_offers laws n room old o reply new c same e
+      by_effect same free (TurnsAway c is fresh full r e) = subst (Offers n) (sym e) o
+      by_effect same free (Empties c s t bytes is found out r e) = takes_offers laws n room old o reply new c s t bytes found out e
+      by_effect same free (Moves x t from still p more e) = subst (Offers n) (sym e) (with_offers laws n room old t o (hears x t from).0)
+      by_effect same free (Quiets kind code t from p e) = subst (Offers n) (sym e) (with_offers laws n room old t o (hears (heard.Refused kind code true) t from).0)
+      by_effect same free (Ends t end ending r more e) = subst (Offers n) (sym e) (shuts_offers laws n room old t o (shut t ending))
+      by_effect same free (Advances u may allowed r b) = reaches_offers laws n room old (updated u old) new b can o
+      by_effect same free (Renews p is r b) = reaches_offers laws n room old (renewed p old) new b can o
+      by_effect same free (Accepts t dpid ports from r j) = (let f = hears (heard.Features dpid ports) t from in joins_offers laws n room old o reply new can t dpid ports f.1 f.0 j)
+      by_effect same free (Overflows t buffer frame k m p many r e) =
+          subst (Offers n) (sym e) (taught_offers laws n room old o reply new (switch_of t) k m (subst (λ (x : State). Sendable n x.learned) e can) p.teaches)
+      by_effect same free (Waits t buffer frame k m p few r e) =
+          waits_offers laws n room old o reply new m (job_of t buffer frame k m) (hears (heard.PacketIn buffer p.in_port frame) t p.hearing).1
+          (taught_offers laws n room old o reply new (switch_of t) k m (subst (λ (x : State). Sendable n x.learned) e can) p.teaches) e
+      by_effect same free (Spends j run r e) = absurd (none-some run.number (sym free ∙ run.is))
+      by_effect same free (AnswersJob j items cells d run b) = absurd (none-some run.number (sym free ∙ run.is))
 
     entry_offers : old.settings.capacity ≡ n → (entry : Entry) → Admits old entry → Steps old entry reply new → Offers n new
-    entry_offers same (entries.Open c) a d = opens_offers laws n room old o reply new c same d
-    entry_offers same (entries.Heard c input) a d = input_offers c input a d
-    entry_offers same (entries.Gone c fault) a d = ends_offers laws n room old o reply new c _ d
-    entry_offers same (entries.Change u) a d = updates_offers laws n room old o reply new can u d
-    entry_offers same (entries.NewPolicy p) a (inl d) = reaches_offers laws n room old (renewed p old) new d.1 can o
-    entry_offers same (entries.NewPolicy p) a (inr l) = subst (Offers n) (sym l.1) o
-    entry_offers same (entries.ReadCell c) a d = subst (Offers n) (sym d.1) o
-    entry_offers same entries.ReadPolicy a d = lends_offers reply d
-    entry_offers same (entries.ReadRules switch) a (inl d) = subst (Offers n) (sym d.3) o
-    entry_offers same (entries.ReadRules switch) a (inr l) = subst (Offers n) (sym l.1) o
-    entry_offers same entries.OpenJobs a d = subst (Offers n) (sym d.1) o
     entry_offers same (entries.Commit number run) a d = commits_offers number run a d
     entry_offers same (entries.Decide number) a d = decides_offers number d
-    entry_offers same (entries.TakeOut c) a d = takes_offers laws n room old o reply new c d
-    entry_offers same entries.TakeReport a (inl d) = subst (Offers n) (sym d.1) o
-    entry_offers same entries.TakeReport a (inr l) = subst (Offers n) (sym l.1) o
-    entry_offers same (entries.Note note) a (inl d) = subst (Offers n) (sym d.1) o
-    entry_offers same (entries.Note note) a (inr l) = subst (Offers n) (sym l.1) o
+    entry_offers same other a d = by_effect other a same refl (effect_of old reply new other d)
 
   -- ---- along a history
 

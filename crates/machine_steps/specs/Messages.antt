@@ -18,6 +18,7 @@ MayPass xid body.BarrierReply s = is_awaited xid s.under_way ≡ false
 MayPass xid (body.Error kind code bytes) s = s.phase ≡ phases.Ended
 MayPass xid message s = Unit {0}
 
+-- the number and the body of a message, the session, what is told, and the session from then on
 pub data Makes (xid : ℕ) (b : Body) (s : Session) : Heard → Session → Type 0 where
   PassesOver : MayPass xid b s → Makes xid b s heard.Passed s
   -- a HELLO of version 0, or of another

@@ -5,7 +5,6 @@ use Rattle.std.proofs.lemmas.Bool.{and_parts, eqb-true}
 use Rattle.maple_base.specs.declared.cells.Port.{Port}
 use Rattle.of10_codec.specs.declared.message.Message.{Message}
 use Rattle.of10_codec.specs.declared.message.Body.{Body}
-use Rattle.of10_codec.specs.declared.message.Body.TheVariants as body
 use Rattle.env_cells.specs.declared.updates.Update.{Update}
 use Rattle.env_cells.specs.declared.updates.Update.TheVariants.{Port as PortUpdate}
 use Rattle.report_text.specs.declared.line.Line.{Line}
