@@ -7,11 +7,9 @@ ghost use Rattle.machine_cases.specs.Entries.{IsPlain};
 use crate::connection_entries::heard;
 use case_text::{Stop, Words};
 use machine_steps::Entry;
+use maple_base::openflow::NO_BUFFER;
 use script_text::{Command, PacketSpec, frame_of, read_line};
 use std::alloc::Global;
-
-// A buffer's number that says that there is none (OpenFlow 1.0, 5.4.1).
-const NO_BUFFER: u32 = 0xffff_ffff;
 
 /// A packet at a port of the switch of a connection.
 #[derive(Drop)]

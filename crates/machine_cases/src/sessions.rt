@@ -4,6 +4,7 @@ use crate::lists::session_list;
 use crate::messages::{message_of, push_bytes, push_list};
 use case_text::{Stop, Subject, Words};
 use case_values::actions_of;
+use maple_base::openflow::NO_BUFFER;
 use maple_base::{Actions, NoMemory};
 use std::alloc::{AllocError, Global};
 use switch_session::{Phase, Session};
@@ -135,7 +136,7 @@ fn answer(alloc: Global, session: &mut Session, mut words: Words<'_>) -> Result<
 fn answer_longest(alloc: Global, session: &mut Session) -> Result<(), Stop> {
     let frame = Vec::from_elem(alloc, 7u8, MOST_BYTES)?;
     let actions = Actions::new(&[1, 2, 3, 4, 5, 6, 7, 8, 9, 10, 11, 12, 13, 14, 15, 16]);
-    put(session, 0xffff_ffff, 3, actions, &frame)
+    put(session, NO_BUFFER, 3, actions, &frame)
 }
 
 fn put(

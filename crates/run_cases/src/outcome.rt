@@ -17,9 +17,9 @@ pub struct Outcome {
 }
 
 impl Outcome {
-    /// The text that was written; empty where it is none.
+    /// The text that was written; `no text` where its bytes are none.
     pub fn text(&self) -> &str {
-        str::from_utf8(self.sink.bytes()).unwrap_or("")
+        str::from_utf8(self.sink.bytes()).unwrap_or("no text")
     }
 
     /// Appends the status, and what stands in the text where `wanted` has `@`. Where the text isn't as

@@ -4,7 +4,7 @@ ghost use Rattle.std.specs.Prelude.{None};
 use device_port::Device;
 use maple_base::{Bytes, NoMemory, Settings, Words};
 use maple_io::{Got, MemSink, Source};
-use maple_top::{Status, maple, program_device, push_idle};
+use maple_top::{DEVICES, Status, maple, program_device, push_idle};
 use policy_text::read_policy;
 use report_text::ScriptRefusal;
 use sim_driver::{SimEnd, run_sim};
@@ -33,7 +33,9 @@ fn stops_at_an_endless_input(rt: HostRuntime) -> Result<(), Fail> {
     let alloc = rt.alloc();
     let words = sim_alone(alloc)?;
     let mut devices: Vec<Box<dyn Device + Send>> = Vec::new(alloc);
-    push_idle(&mut devices, Box::new(alloc, program_device(alloc, 1))?)?;
+    for place in 1..=DEVICES {
+        push_idle(&mut devices, Box::new(alloc, program_device(alloc, place))?)?;
+    }
     let mut sink = MemSink::new(Vec::new(alloc));
     let status = maple(&(), alloc, &words, &mut Endless, &mut sink, &mut devices);
     assert_eq!(&rt; status, Status::TooLong);

@@ -28,8 +28,8 @@ pub struct Writing {
 pub fn push_written(to: Writing, message: &MessageRef<'_>, out: &mut String) -> Result<(), Stop> {
     match to.form {
         Form::Lent => push_lent(to.alloc, message, out),
-        Form::Own => push_own(to.alloc, message, message.encoded_len(), out),
-        Form::Grown => push_own(to.alloc, message, 0, out),
+        Form::Own => push_own(to.alloc, message, true, out),
+        Form::Grown => push_own(to.alloc, message, false, out),
     }
 }
 
@@ -82,16 +82,17 @@ fn push_lent(alloc: Global, message: &MessageRef<'_>, out: &mut String) -> Resul
 fn push_own(
     alloc: Global,
     message: &MessageRef<'_>,
-    room: u128,
+    has_room: bool,
     out: &mut String,
 ) -> Result<(), Stop> {
     if !may_be_written(&message.body) {
         return Err(Stop::Unread);
     }
-    let mut bytes = seven(alloc, room)?;
     let own = message.to_message(alloc)?;
+    let room = if has_room { own.encoded_len() } else { 0 };
+    let mut bytes = seven(alloc, room)?;
     let answer = encode(&own, &mut bytes);
-    push_answer(answer, &bytes, room > 0, out)
+    push_answer(answer, &bytes, has_room, out)
 }
 
 // What was answered, and what stands then: all bytes where just these had room.
