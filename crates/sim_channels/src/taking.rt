@@ -27,7 +27,8 @@ impl Driver {
                 self.channels[at].to = Block::new(bytes, messages);
                 Ok(())
             }
-            _ => Err(NoMemory),
+            Reply::NoMemory => Err(NoMemory),
+            _ => unreachable!(),
         }
     }
 }

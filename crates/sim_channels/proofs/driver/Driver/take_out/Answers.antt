@@ -38,6 +38,3 @@ returns-in-Out c =
     (c.requires.offered k c.requires.plugged.there c.requires.plugged.plugged)
     (ap (λ (x : Channel). record x { to = c.new.result }) same ∙ ap (λ ms. record k { to = ms }) messages)
     (subst (λ n. Steps old.core (TakeOut n) (Out c.in-Out.bytes) mid.core) c.connection_of-connection.ensures c.in-Out.ensures.step)
-
-pub returns : goal.returns
-returns c = tt
