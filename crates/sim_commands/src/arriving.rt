@@ -126,7 +126,8 @@ fn tell(driver: &mut Driver, note: Note) -> Result<(), NoMemory>
 {
     match driver.enter(Entry::Note(note)) {
         Reply::Done => Ok(()),
-        _ => Err(NoMemory),
+        Reply::NoMemory => Err(NoMemory),
+        _ => unreachable!(),
     }
 }
 

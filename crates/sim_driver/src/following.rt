@@ -44,6 +44,7 @@ fn write_report<O: Sink>(driver: &mut Driver, out: &mut O) -> Result<(), PutStop
 {
     match driver.enter(Entry::TakeReport) {
         Reply::Lines(text) => put_all(out, text.items()),
-        _ => Err(PutStop::NoMemory),
+        Reply::NoMemory => Err(PutStop::NoMemory),
+        _ => unreachable!(),
     }
 }
