@@ -29,11 +29,11 @@ impl Subject for Boxes {
 // boxed CALL / CALL ..: the answers to calls on a new device, parted in the same way.
 fn push_answers(alloc: Global, words: Words<'_>, out: &mut String) -> Result<(), Stop> {
     let mut device: Box<dyn Device + Send> = Box::new(alloc, orderly(alloc))?;
-    let mut mark = "";
+    let mut is_first = true;
     for call in words.rest().split(" / ") {
-        out.push_str(mark)?;
+        out.push_str(if is_first { "" } else { " / " })?;
         tell(alloc, &mut device, Words::new(call), out)?;
-        mark = " / ";
+        is_first = false;
     }
     Ok(())
 }

@@ -81,11 +81,11 @@ pub fn push_lines(report: &[u8], out: &mut String) -> Result<(), Stop> {
             Err(Stop::Unread)
         };
     };
-    let mut mark = " ; ";
+    let mut is_first = true;
     for line in lines.split(|byte| *byte == b'\n') {
-        out.push_str(mark)?;
+        out.push_str(if is_first { " ; " } else { " / " })?;
         push_ascii(line, out)?;
-        mark = " / ";
+        is_first = false;
     }
     Ok(())
 }
