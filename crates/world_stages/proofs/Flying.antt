@@ -131,8 +131,8 @@ module _ (first barrier : ℕ) (changes : List TableMod) (quiet : Bool) (done : 
             };
           }
 
-  error : (m : Message) → RefusesChange s l k m → Message
-  error m d = message m.xid (Error d.kind d.code d.bytes)
+  abbrev refusal : (m : Message) → RefusesChange s l k m → Message
+  refusal m d = message m.xid (Error d.kind d.code d.bytes)
 
   flies_refusing : (m : Message) → RefusesChange s l k m → FliesOn first barrier changes quiet done s l k
   flies_refusing m d = go (takes_due m d.takes)
@@ -145,13 +145,13 @@ module _ (first barrier : ℕ) (changes : List TableMod) (quiet : Bool) (done : 
           heard = h.heard;
           unheard = h.unheard ++ m ∷ [];
           due = t.ahead ++ t.behind;
-          errors = h.errors ++ error m d ∷ [];
+          errors = h.errors ++ refusal m d ∷ [];
           above = h.above;
           numbers = h.numbers;
           once = once_refused h.carried h.heard h.unheard (changes_from first changes) m t.ahead t.behind (once_taken m t);
           asked = h.asked;
           noisy = h.noisy;
-          told = AllZip-push IsErrorOf h.unheard h.errors m (error m d) h.told (record { kind = d.kind; code = d.code; bytes = d.bytes; is = refl });
+          told = AllZip-push IsErrorOf h.unheard h.errors m (refusal m d) h.told (record { kind = d.kind; code = d.code; bytes = d.bytes; is = refl });
           way = inl (t.line, d.back ∙ ap₂ (λ (xs ys : List Message). xs ++ ys) t.back (refusal_signal m t d.kind d.code d.bytes));
         };
       }

@@ -78,11 +78,11 @@ module _ (first barrier : ℕ) (changes : List TableMod) (quiet : Bool) (done : 
 
 -- ---- the changes that were carried out
 
-or_delete : Option TableMod → TableMod
+abbrev or_delete : Option TableMod → TableMod
 or_delete (Some change) = change
 or_delete None = DeleteAll
 
-asked_by : Message → TableMod
+abbrev asked_by : Message → TableMod
 asked_by m = or_delete (change_of m.body)
 
 asked_are : (done : List TableMod) (carried : List Message) → AllZip Asks done carried → map asked_by carried ≡ done
