@@ -25,7 +25,7 @@ use Rattle.machine_steps.specs.Steps.{Opens, Steps}
 use Rattle.world_steps.specs.Runs.{Event, Runs}
 use Rattle.world_steps.specs.Worlds.{EntersWorld, Goes, HearsLink, Link, LinkDoes, LinksBehind, OpensLink, World, WorldStep, at_link, heard_from, lacks_memory, link_at, messages_for, opening_world, sent_to}
 use Rattle.world_steps.specs.Worlds.WorldStep.{Enters, Acts}
-use Rattle.world_right.specs.Laws.{EveryRunIsRight}
+use Rattle.world_right.specs.Laws.{EveryRunIsRight, SessionsArePlaced}
 use Rattle.world_right.proofs.Links.{changed_there, is_of_connection, others_there}
 use Rattle.world_right.proofs.Moved.{came, moved, newcomer}
 use Rattle.world_model.specs.declared.moves.Move.{Move}
@@ -240,8 +240,15 @@ module _ (w : World) (kept : IsKept w) where
 
 -- ---- the run is right
 
-pub is_right : EveryRunIsRight → (w : World) → IsReached w → IsRightRun w
-is_right right w r = record { policy = r.policy; settings = r.settings; events = r.events; run = r.run; right = right r.policy r.settings r.events w r.run }
+pub is_right : EveryRunIsRight → SessionsArePlaced → (w : World) → IsReached w → IsRightRun w
+is_right right placed w r = record {
+  policy = r.policy;
+  settings = r.settings;
+  events = r.events;
+  run = r.run;
+  right = right r.policy r.settings r.events w r.run;
+  placed = placed r.policy r.settings r.events w r.run;
+}
 
 -- ---- ahead of the first entry
 

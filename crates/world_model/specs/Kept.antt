@@ -4,11 +4,12 @@ use Rattle.std.specs.List.{slice_get}
 use Rattle.maple_base.specs.declared.decision.Settings.{Settings}
 use Rattle.policy_lang.specs.declared.Policy.{Policy}
 use Rattle.of10_codec.specs.declared.message.Message.{Message}
-use Rattle.machine_steps.specs.Machine.{State, opening, was_opened}
+use Rattle.machine_steps.specs.Machine.{Session, State, opening, session_at, was_opened}
 use Rattle.world_steps.specs.Right.{IsRight}
-use Rattle.world_steps.specs.Runs.{Event, IsWorldRun}
+use Rattle.world_steps.specs.Runs.{Event, IsWorldRun, turns_of}
 use Rattle.world_steps.specs.Worlds.{IsFirstFrom, Link, World, link_at}
 use Rattle.world_places.specs.Places.{BeginsWith}
+use Rattle.world_right.specs.Laws.{HasPlace}
 use Rattle.world_model.specs.Places.{AreOthers}
 
 -- a machine ahead of its first entry
@@ -17,13 +18,14 @@ pub record IsOpening (machine : State) : Type 0 where
   pub settings : Settings
   pub now_is : machine ≡ opening policy settings
 
--- a run leads to the world, and it is right
+-- a run leads to the world; it is right, and each open session of the machine has a link, and is in a stage with it, by the marks that this run left
 pub record IsRightRun (w : World) : Type 0 where
   pub policy : Policy
   pub settings : Settings
   pub events : List Event
   pub run : IsWorldRun policy settings events w
   pub right : IsRight events
+  pub placed : (c : ℕ) (s : Session) → session_at c w.machine ≡ Some s → HasPlace c (turns_of events) w s
 
 -- a run leads to the world
 pub record IsReached (w : World) : Type 0 where

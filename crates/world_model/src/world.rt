@@ -49,7 +49,7 @@ impl World {
         World { core, places }
     }
 
-    /// A run led to the world, and it is right.
+    /// A run led to the world; it is right, and each open session is in a stage with its link.
     pub fn law(&self)
         ensures { IsRightRun self.now }
     {

@@ -27,7 +27,7 @@ waiting u s = record s { prepared = None; next = Some u }
 -- no stage goes by the update that waits
 module _ (part : UnderWay) (s : Session) (l : Link) (u : Update) where
   clearing_waits : (Before : List Rule → Type 0) → IsClearing Before part s l → IsClearing Before part (waiting u s) l
-  clearing_waits Before h = record { clears = h.clears; first = h.first; numbers = h.numbers; done = h.done; flight = h.flight; table = h.table; cleared = h.cleared }
+  clearing_waits Before h = record { clears = h.clears; first = h.first; numbers = h.numbers; done = h.done; flight = h.flight; table = h.table; before = h.before; cleared = h.cleared }
 
   goes_waiting : (quiet : Bool) (parts : List Part) → GoesOn quiet parts part s → GoesOn quiet parts part (waiting u s)
   goes_waiting false parts g = g

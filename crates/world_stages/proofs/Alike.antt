@@ -45,6 +45,7 @@ module _ (agree : FlightsAgree) (s : Session) (l : Link) (outbox : List Message)
       done = c.done;
       flight = flies c.first part.barrier _ false c.done c.flight;
       table = c.table;
+      before = c.before;
       cleared = c.cleared;
     }
 

@@ -26,10 +26,6 @@ change_is_flow_mod (Add r) = refl
 change_is_flow_mod (DeleteStrict of priority) = refl
 change_is_flow_mod DeleteAll = refl
 
--- two changes of one body are the same
-pub same_change : (c d : TableMod) → change_body c ≡ change_body d → c ≡ d
-same_change c d e = let f = ap change_of e in let g = change_is_read c in let h = change_is_read d in cc
-
 pub flow_mod_no_barrier : (b : Body) → is_flow_mod b ≡ true → is_barrier b ≡ false
 flow_mod_no_barrier (FlowMod of cookie command idle hard priority buffer out_port flags actions) h = refl
 flow_mod_no_barrier b h = absurd (cc)

@@ -28,7 +28,7 @@ module _ (laws : StepLaws) (Before : List Rule → Type 0) (keeps : (old new : L
       carried c =
           let moves = subst (λ change. IsPermutation (effect change l.switch.table) k.switch.table) (sym (is_delete c.change c.among)) c.table in
           let empty : k.switch.table ≡ [] = none_left k.switch.table moves in
-          record { clears = h.clears; first = h.first; numbers = h.numbers; done = c.change ∷ h.done; flight = c.flight; table = inr empty; cleared = λ d. empty }
+          record { clears = h.clears; first = h.first; numbers = h.numbers; done = c.change ∷ h.done; flight = c.flight; table = inr empty; before = λ e. absurd (cc); cleared = λ d. empty }
 
       still : StaysOrLoses l.switch.table k.switch.table → l.switch.table ≡ [] → k.switch.table ≡ []
       still stays e = empty_stays k.switch.table (subst (λ table. StaysOrLoses table k.switch.table) e stays)
@@ -41,5 +41,6 @@ module _ (laws : StepLaws) (Before : List Rule → Type 0) (keeps : (old new : L
         done = h.done;
         flight = f.flight;
         table = ⊎_elim (λ b. inl (keeps l.switch.table k.switch.table f.table b)) (λ e. inr (still f.table e)) h.table;
+        before = λ e. keeps l.switch.table k.switch.table f.table (h.before e);
         cleared = λ d. still f.table (h.cleared d);
       }

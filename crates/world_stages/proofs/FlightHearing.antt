@@ -1,18 +1,19 @@
 -- What hearing a message does to what is under way.
-use Rattle.std.proofs.Common.{◌≡◌, ◌⊎◌, ℕ, Bool, true, false, List, [], ◌∷◌, ◌++◌, drop, refl, sym, ap, ◌∙◌, subst, inl, inr}
-use Rattle.std.specs.Prelude.{Contains}
-use Rattle.std.specs.List.{AllByRecursion}
+use Rattle.std.proofs.Common.{◌≡◌, ◌⊎◌, ℕ, Bool, true, false, List, [], ◌∷◌, ◌++◌, drop, refl, sym, ap, ◌∙◌, subst, inl, inr, true≢false, arith}
+use Rattle.std.specs.List.{AllByRecursion, AllZip}
+use Rattle.std.specs.List.Sorted.{IsPermutation}
+use Rattle.std.proofs.lemmas.List.{append-nil}
 use Rattle.maple_base.specs.declared.decision.TableMod.{TableMod}
 use Rattle.of10_codec.specs.declared.message.Message.{Message}
 use Rattle.of10_codec.specs.declared.message.Body.TheVariants.{BarrierReply}
-use Rattle.switch_session.specs.Parts.{change_message}
+use Rattle.switch_session.specs.Parts.{changes_from}
 use Rattle.device_port.specs.Switches.{message}
 use Rattle.machine_steps.specs.Machine.{Session}
 use Rattle.world_steps.specs.Worlds.{Link}
-use Rattle.update_plan.proofs.Members.{none_in}
-use Rattle.world_stages.specs.Flights.{line_of, back_of, is_signal, signals, IsRefusalIn, IsOnItsWay, IsAccountedFor, IsInFlight}
+use Rattle.world_stages.specs.Flights.{line_of, back_of, is_signal, signals, IsErrorOf, IsOnItsWay, IsInFlight}
 use Rattle.world_stages.specs.FlightLaws.{heard, OthersAreHeard, ClearIsSilent, HearsRefusal, HearsReplyOf, SignalsAreHeard}
 use Rattle.world_stages.proofs.Lists.{filter_takes, filter_passes_over}
+use Rattle.world_stages.proofs.Once.{IsChangeOf, unheard_changes, once_heard, all_carried}
 
 -- what comes back behind the first message
 behind_first : (l : Link) (m : Message) (later : List Message) → back_of l ≡ m ∷ later → back_of (heard l) ≡ later
@@ -33,50 +34,56 @@ clear_is_silent s l m later clear e = go (is_signal m) refl
     go false other = refl
 
 module _ (first barrier : ℕ) (changes : List TableMod) (quiet : Bool) (done : List TableMod) (s : Session) (l : Link) (m : Message) (h : IsInFlight first barrier changes quiet done (line_of s l) (back_of l)) where
-  -- the first of the errors is heard
-  refusal_heard : (errors : List Message) → IsRefusalIn first barrier m → AllByRecursion (IsRefusalIn first barrier) errors
+  -- the first of the errors is heard, which is that of the first change whose error comes back
+  refusal_heard : (u : Message) (unheard errors : List Message) → h.unheard ≡ u ∷ unheard → IsErrorOf u m → AllZip IsErrorOf unheard errors
       → IsOnItsWay barrier h.due errors (line_of s (heard l)) (back_of (heard l)) → HearsRefusal first barrier changes done s l m
-  refusal_heard errors one rest way = record {
-    refusal = one;
-    flight = record {
-      due = h.due;
-      errors = errors;
-      above = h.above;
-      changing = h.changing;
-      refusals = rest;
-      way = way;
-      each = λ change c. inr (inr (inr refl));
-    };
-  }
+  refusal_heard u unheard errors is one told way =
+      let changes_are = subst (AllByRecursion (IsChangeOf first barrier changes)) is (unheard_changes first barrier changes quiet done (line_of s l) (back_of l) h) in
+      let same = ap (λ (x : Message). x.xid) one.is in
+      record {
+        refusal = record { kind = one.kind; code = one.code; bytes = one.bytes; is = (cc); from = (let from = changes_are.0.from in omega arith); below = (let below = changes_are.0.below in omega arith) };
+        flight = record {
+          carried = h.carried;
+          heard = u ∷ h.heard;
+          unheard = unheard;
+          due = h.due;
+          errors = errors;
+          above = h.above;
+          numbers = h.numbers;
+          once = once_heard h.carried h.heard unheard (changes_from first changes) u h.due
+              (subst (λ (us : List Message). IsPermutation (h.carried ++ (h.heard ++ (us ++ h.due))) (changes_from first changes)) is h.once);
+          asked = h.asked;
+          noisy = λ e. absurd (true≢false e);
+          told = told;
+          way = way;
+        };
+      }
 
   -- the reply to the barrier is, where none is due and no error comes back
-  all_done : h.due ≡ [] → h.errors ≡ [] → quiet ≡ false → (change : TableMod) → IsAccountedFor quiet done h.due h.errors change → Contains done change
-  all_done none silent loud change (inl c) = c
-  all_done none silent loud change (inr (inl d)) = absurd (none_in (change_message d.xid change) (subst (λ (ms : List Message). Contains ms (change_message d.xid change)) none d.among))
-  all_done none silent loud change (inr (inr (inl some))) = absurd (some silent)
-  all_done none silent loud change (inr (inr (inr e))) = absurd (cc)
+  all_done : h.due ≡ [] → h.unheard ≡ [] → quiet ≡ false → IsPermutation done changes
+  all_done none silent loud =
+      let rest : h.heard ++ (h.unheard ++ h.due) ≡ [] = rw (h.noisy loud, silent, none) refl in
+      let whole : h.carried ++ (h.heard ++ (h.unheard ++ h.due)) ≡ h.carried = ap (λ (ms : List Message). h.carried ++ ms) rest ∙ append-nil h.carried in
+      all_carried first changes done h.carried h.asked (subst (λ (ms : List Message). IsPermutation ms (changes_from first changes)) whole h.once)
 
   -- the first signal is the first error, or else the reply
   signal_heard : signals (back_of l) ≡ m ∷ signals (back_of (heard l)) → HearsRefusal first barrier changes done s l m ⊎ HearsReplyOf barrier changes quiet done s l m
-  signal_heard e = go h.errors refl h.way
+  signal_heard e = go h.unheard h.errors refl refl h.told h.way
     where
-      refusals : (xs : List Message) → h.errors ≡ xs → AllByRecursion (IsRefusalIn first barrier) xs
-      refusals xs g = subst (AllByRecursion (IsRefusalIn first barrier)) g h.refusals
-
-      go : (xs : List Message) → h.errors ≡ xs → IsOnItsWay barrier h.due h.errors (line_of s l) (back_of l)
+      go : (us xs : List Message) → h.unheard ≡ us → h.errors ≡ xs → AllZip IsErrorOf us xs → IsOnItsWay barrier h.due h.errors (line_of s l) (back_of l)
           → HearsRefusal first barrier changes done s l m ⊎ HearsReplyOf barrier changes quiet done s l m
-      go [] g (inl w) = let x = w.1 in absurd (cc)
-      go (x ∷ xs) g (inl w) =
+      go [] [] f g told (inl w) = let x = w.1 in absurd (cc)
+      go (u ∷ us) (x ∷ xs) f g told (inl w) =
           let y = w.1 in
-          let all = refusals (x ∷ xs) g in
-          inl (refusal_heard xs (subst (IsRefusalIn first barrier) (cc) all.0) all.1 (inl (w.0, (cc))))
-      go [] g (inr w) =
+          inl (refusal_heard u us xs f (subst (IsErrorOf u) (cc) told.0) told.1 (inl (w.0, (cc))))
+      go [] [] f g told (inr w) =
           let y : signals (back_of l) ≡ message barrier BarrierReply ∷ [] = w.2 ∙ ap (λ (ms : List Message). ms ++ message barrier BarrierReply ∷ []) g in
-          inr (record { reply = (cc); clear = record { line = w.1; back = (cc) }; all = λ loud change c. all_done w.0 g loud change (h.each change c) })
-      go (x ∷ xs) g (inr w) =
+          inr (record { reply = (cc); clear = record { line = w.1; back = (cc) }; all = all_done w.0 f })
+      go (u ∷ us) (x ∷ xs) f g told (inr w) =
           let y : signals (back_of l) ≡ x ∷ (xs ++ message barrier BarrierReply ∷ []) = w.2 ∙ ap (λ (ms : List Message). ms ++ message barrier BarrierReply ∷ []) g in
-          let all = refusals (x ∷ xs) g in
-          inl (refusal_heard xs (subst (IsRefusalIn first barrier) (cc) all.0) all.1 (inr (w.0, w.1, (cc))))
+          inl (refusal_heard u us xs f (subst (IsErrorOf u) (cc) told.0) told.1 (inr (w.0, w.1, (cc))))
+      go [] (x ∷ xs) f g told w = absurd told
+      go (u ∷ us) [] f g told w = absurd told
 
 pub signals_are_heard : SignalsAreHeard
 signals_are_heard first barrier changes quiet done s l m later h e signal =

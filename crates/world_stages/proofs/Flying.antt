@@ -1,19 +1,20 @@
 -- What a step of the switch does to a part of an update that is in flight, and where none is.
 use Rattle.std.proofs.Common.{◌≡◌, ◌⊎◌, ℕ, Bool, true, List, [], ◌∷◌, ◌++◌, append_assoc, refl, sym, ap, ap₂, ◌∙◌, subst, inl, inr, arith}
-use Rattle.std.specs.Prelude.{Contains}
 use Rattle.std.specs.List.{AllByRecursion}
+use Rattle.std.specs.List.Sorted.{IsPermutation}
+use Rattle.std.proofs.lemmas.List.Elements.{AllZip-push}
 use Rattle.maple_base.specs.declared.decision.TableMod.{TableMod}
 use Rattle.of10_codec.specs.declared.message.Message.{Message}
 use Rattle.of10_codec.specs.declared.message.Body.TheVariants.{Error, BarrierReply}
-use Rattle.switch_session.specs.Parts.{change_message, change_body, barrier_request}
+use Rattle.switch_session.specs.Parts.{change_body, changes_from, barrier_request}
 use Rattle.device_port.specs.Switches.{is_barrier, is_flow_mod, message}
 use Rattle.machine_steps.specs.Machine.{Session}
 use Rattle.world_steps.specs.Worlds.{Link}
-use Rattle.world_stages.specs.Flights.{line_of, back_of, is_signal, controls, signals, IsChangeOf, IsRefusalIn, IsOnItsWay, IsDue, IsAccountedFor, IsInFlight}
+use Rattle.world_stages.specs.Flights.{line_of, back_of, is_signal, controls, signals, IsErrorOf, IsOnItsWay, IsInFlight}
 use Rattle.world_stages.specs.FlightLaws.{StaysClear, StepsStayClear, CarriesOut, FliesOn, StepsFlyOn, FlightsAgree}
-use Rattle.update_plan.proofs.Members.{here, there}
-use Rattle.world_stages.proofs.Lists.{filter_takes, all_right, all_append, all_without, some_there, ahead_of_last, contains_without}
-use Rattle.world_stages.proofs.Bodies.{change_is_flow_mod, same_change, flow_mod_no_barrier, carries_out, error_signal}
+use Rattle.world_stages.proofs.Lists.{filter_takes, all_right, some_there, ahead_of_last}
+use Rattle.world_stages.proofs.Bodies.{change_is_flow_mod, flow_mod_no_barrier, carries_out, error_signal}
+use Rattle.world_stages.proofs.Once.{IsChangeOf, due_changes, once_carried, once_refused}
 use Rattle.world_stages.proofs.Dealing.{TakesChange, CarriesChange, RefusesChange, AnswersFirst, Deals, deals}
 use Rattle.world_stages.proofs.Dealing.Deals.{idles, carries, refuses, answers}
 
@@ -37,13 +38,18 @@ on_its_way barrier due errors line back line' back' e f (inr w) = inr (w.0, e �
 
 pub flights_agree : FlightsAgree
 flights_agree first barrier changes quiet done line back line' back' e f h = record {
+  carried = h.carried;
+  heard = h.heard;
+  unheard = h.unheard;
   due = h.due;
   errors = h.errors;
   above = h.above;
-  changing = h.changing;
-  refusals = h.refusals;
+  numbers = h.numbers;
+  once = h.once;
+  asked = h.asked;
+  noisy = h.noisy;
+  told = h.told;
   way = on_its_way barrier h.due h.errors line back line' back' e f h.way;
-  each = h.each;
 }
 
 barrier_apart : (barrier : ℕ) (m : Message) → is_flow_mod m.body ≡ true → m ≡ barrier_request barrier → ⊥
@@ -85,33 +91,13 @@ module _ (first barrier : ℕ) (changes : List TableMod) (quiet : Bool) (done : 
       go (inr w) = absurd (some_there d.ahead m d.behind (sym d.was ∙ w.1))
 
   module _ (m : Message) (t : TakesDue m) where
-    all_due : AllByRecursion (IsChangeOf first barrier changes) (t.ahead ++ m ∷ t.behind)
-    all_due = subst (AllByRecursion (IsChangeOf first barrier changes)) t.due h.changing
-
     one_due : IsChangeOf first barrier changes m
-    one_due = (all_right (IsChangeOf first barrier changes) t.ahead (m ∷ t.behind) all_due).0
+    one_due =
+        let all = subst (AllByRecursion (IsChangeOf first barrier changes)) t.due (due_changes first barrier changes quiet done (line_of s l) (back_of l) h) in
+        (all_right (IsChangeOf first barrier changes) t.ahead (m ∷ t.behind) all).0
 
-    others_due : AllByRecursion (IsChangeOf first barrier changes) (t.ahead ++ t.behind)
-    others_due = all_without (IsChangeOf first barrier changes) t.ahead m t.behind all_due
-
-    still_due : (change : TableMod) → IsDue change h.due → (change ≡ one_due.change) ⊎ IsDue change (t.ahead ++ t.behind)
-    still_due change d = go (contains_without t.ahead m t.behind (change_message d.xid change) (subst (λ (ms : List Message). Contains ms (change_message d.xid change)) t.due d.among))
-      where
-        go : (m ≡ change_message d.xid change) ⊎ Contains (t.ahead ++ t.behind) (change_message d.xid change) → (change ≡ one_due.change) ⊎ IsDue change (t.ahead ++ t.behind)
-        go (inl e) = inl (same_change change one_due.change (ap (λ (x : Message). x.body) (sym e ∙ one_due.is)))
-        go (inr c) = inr (record { xid = d.xid; among = c })
-
-    accounted_carrying : (change : TableMod) → IsAccountedFor quiet done h.due h.errors change → IsAccountedFor quiet (one_due.change ∷ done) (t.ahead ++ t.behind) h.errors change
-    accounted_carrying change (inl c) = inl (there one_due.change done change c)
-    accounted_carrying change (inr (inl d)) = go (still_due change d)
-      where
-        go : (change ≡ one_due.change) ⊎ IsDue change (t.ahead ++ t.behind) → IsAccountedFor quiet (one_due.change ∷ done) (t.ahead ++ t.behind) h.errors change
-        go (inl e) = inl (subst (Contains (one_due.change ∷ done)) (sym e) (here one_due.change done))
-        go (inr f) = inr (inl f)
-    accounted_carrying change (inr (inr e)) = inr (inr e)
-
-    refusal : (kind code : ℕ) (bytes : List ℕ) → IsRefusalIn first barrier (message m.xid (Error kind code bytes))
-    refusal kind code bytes = record { kind = kind; code = code; bytes = bytes; is = refl; from = one_due.from; below = one_due.below }
+    once_taken : IsPermutation (h.carried ++ (h.heard ++ (h.unheard ++ (t.ahead ++ m ∷ t.behind)))) (changes_from first changes)
+    once_taken = subst (λ (due : List Message). IsPermutation (h.carried ++ (h.heard ++ (h.unheard ++ due))) (changes_from first changes)) t.due h.once
 
     refusal_signal : (kind code : ℕ) (bytes : List ℕ) → signals (message m.xid (Error kind code bytes) ∷ []) ≡ message m.xid (Error kind code bytes) ∷ []
     refusal_signal kind code bytes =
@@ -130,15 +116,23 @@ module _ (first barrier : ℕ) (changes : List TableMod) (quiet : Bool) (done : 
             among = one.among;
             table = carries_out m.body one.change l.switch.table k.switch.table (ap (λ (x : Message). x.body) one.is) d.leads;
             flight = record {
+              carried = m ∷ h.carried;
+              heard = h.heard;
+              unheard = h.unheard;
               due = t.ahead ++ t.behind;
               errors = h.errors;
               above = h.above;
-              changing = others_due m t;
-              refusals = h.refusals;
+              numbers = h.numbers;
+              once = once_carried h.carried h.heard h.unheard (changes_from first changes) m t.ahead t.behind (once_taken m t);
+              asked = (ap (λ (x : Message). x.body) one.is, h.asked);
+              noisy = h.noisy;
+              told = h.told;
               way = inl (t.line, d.back ∙ t.back);
-              each = λ change c. accounted_carrying m t change (h.each change c);
             };
           }
+
+  abbrev refusal : (m : Message) → RefusesChange s l k m → Message
+  refusal m d = message m.xid (Error d.kind d.code d.bytes)
 
   flies_refusing : (m : Message) → RefusesChange s l k m → FliesOn first barrier changes quiet done s l k
   flies_refusing m d = go (takes_due m d.takes)
@@ -147,13 +141,18 @@ module _ (first barrier : ℕ) (changes : List TableMod) (quiet : Bool) (done : 
       go t = record {
         table = d.table;
         flight = record {
+          carried = h.carried;
+          heard = h.heard;
+          unheard = h.unheard ++ m ∷ [];
           due = t.ahead ++ t.behind;
-          errors = h.errors ++ message m.xid (Error d.kind d.code d.bytes) ∷ [];
+          errors = h.errors ++ refusal m d ∷ [];
           above = h.above;
-          changing = others_due m t;
-          refusals = all_append (IsRefusalIn first barrier) h.errors (message m.xid (Error d.kind d.code d.bytes) ∷ []) h.refusals (refusal m t d.kind d.code d.bytes, tt);
+          numbers = h.numbers;
+          once = once_refused h.carried h.heard h.unheard (changes_from first changes) m t.ahead t.behind (once_taken m t);
+          asked = h.asked;
+          noisy = h.noisy;
+          told = AllZip-push IsErrorOf h.unheard h.errors m (refusal m d) h.told (record { kind = d.kind; code = d.code; bytes = d.bytes; is = refl });
           way = inl (t.line, d.back ∙ ap₂ (λ (xs ys : List Message). xs ++ ys) t.back (refusal_signal m t d.kind d.code d.bytes));
-          each = λ change c. inr (inr (inl (some_there h.errors (message m.xid (Error d.kind d.code d.bytes)) [])));
         };
       }
 
@@ -161,19 +160,24 @@ module _ (first barrier : ℕ) (changes : List TableMod) (quiet : Bool) (done : 
   flies_answering m d = record {
     table = d.table;
     flight = record {
+      carried = h.carried;
+      heard = h.heard;
+      unheard = h.unheard;
       due = h.due;
       errors = h.errors;
       above = h.above;
-      changing = h.changing;
-      refusals = h.refusals;
+      numbers = h.numbers;
+      once = h.once;
+      asked = h.asked;
+      noisy = h.noisy;
+      told = h.told;
       way = go h.way;
-      each = h.each;
     };
   }
     where
       go : IsOnItsWay barrier h.due h.errors (line_of s l) (back_of l) → IsOnItsWay barrier h.due h.errors (line_of s k) (back_of k)
       go (inl w) =
-          let t = due_none first barrier changes h.due m (controls (line_of s k)) h.changing d.barrier (sym d.was ∙ w.0) in
+          let t = due_none first barrier changes h.due m (controls (line_of s k)) (due_changes first barrier changes quiet done (line_of s l) (back_of l) h) d.barrier (sym d.was ∙ w.0) in
           inr (t.0, t.2, d.back ∙ ap₂ (λ (ms : List Message) (n : ℕ). ms ++ message n BarrierReply ∷ []) w.1 (ap (λ (x : Message). x.xid) t.1))
       go (inr w) = absurd (some_there [] m (controls (line_of s k)) (sym d.was ∙ w.1))
 

@@ -54,6 +54,7 @@ clearing_departs departs Before lists parts s l clear before = record {
   done = [];
   flight = (departs lists Clearing parts false s l clear).flight;
   table = inl before;
+  before = λ e. before;
   cleared = λ c. absurd (none_in DeleteAll c);
 }
 

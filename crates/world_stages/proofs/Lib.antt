@@ -17,6 +17,7 @@ mod Leaving
 mod Lists
 mod Moved
 mod Numbers
+mod Once
 mod Onward
 mod Premises
 mod Sending

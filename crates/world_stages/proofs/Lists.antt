@@ -1,10 +1,9 @@
 -- What passes a test in a list, what holds of all, and what stands ahead of the last.
-use Rattle.std.proofs.Common.{◌≡◌, ◌⊎◌, Bool, true, false, cond, List, [], ◌∷◌, ◌++◌, refl, sym, ap, ◌∙◌, subst, inl, inr, ⊎_elim}
-use Rattle.std.specs.Prelude.{Contains, filter}
+use Rattle.std.proofs.Common.{◌≡◌, Bool, true, false, cond, List, [], ◌∷◌, ◌++◌, refl, sym, ap, ◌∙◌, subst}
+use Rattle.std.specs.Prelude.{filter}
 use Rattle.std.specs.List.{AllByRecursion}
 use Rattle.std.proofs.lemmas.List.{append-nil}
-use Rattle.std.proofs.lemmas.List.Elements.{filter-append, Contains-append_cases, Contains-append_left, Contains-append_right}
-use Rattle.update_plan.proofs.Members.{in_cons}
+use Rattle.std.proofs.lemmas.List.Elements.{filter-append}
 
 module _ {X : Type 0} where
   -- ---- tests
@@ -52,10 +51,6 @@ module _ {X : Type 0} where
   all_weaker P Q weaker [] h = tt
   all_weaker P Q weaker (x ∷ xs) h = (weaker x h.0, all_weaker P Q weaker xs h.1)
 
-  -- without one among others
-  pub all_without : (P : X → Type 0) (xs : List X) (x : X) (ys : List X) → AllByRecursion P (xs ++ x ∷ ys) → AllByRecursion P (xs ++ ys)
-  all_without P xs x ys h = all_append P xs ys (all_left P xs (x ∷ ys) h) (all_right P xs (x ∷ ys) h).1
-
   -- ---- one among others
 
   pub some_there : (xs : List X) (x : X) (ys : List X) → xs ++ x ∷ ys ≡ [] → ⊥
@@ -69,11 +64,6 @@ module _ {X : Type 0} where
   ahead_of_last [] x ys (z ∷ zs) last apart e = (zs, (cc), (cc))
   ahead_of_last (a ∷ xs) x ys [] last apart e = absurd (some_there xs x ys (cc))
   ahead_of_last (a ∷ xs) x ys (z ∷ zs) last apart e = let t = ahead_of_last xs x ys zs last apart (cc) in let f = t.1 in (t.0, (cc), t.2)
-
-  pub contains_without : (xs : List X) (x : X) (ys : List X) (y : X) → Contains (xs ++ x ∷ ys) y → (x ≡ y) ⊎ Contains (xs ++ ys) y
-  contains_without xs x ys y c =
-      ⊎_elim (λ d. inr (Contains-append_left xs ys y d)) (λ d. ⊎_elim (λ e. inl e) (λ f. inr (Contains-append_right xs ys y f)) (in_cons x ys y d))
-      (Contains-append_cases xs (x ∷ ys) y c)
 
 -- ---- what holds of all that pass a test
 

@@ -2,7 +2,7 @@
 use Rattle.std.proofs.Common.{◌≡◌, ◌⊎◌, ℕ, Bool, true, false, List, [], ◌∷◌, ◌++◌, Option, Some, None, refl, sym, ap, subst, inl, inr}
 use Rattle.std.specs.Prelude.{IfSome, if◌then◌else◌}
 use Rattle.std.specs.List.Sorted.{IsPermutation}
-use Rattle.std.proofs.lemmas.List.Sorted.{IsPermutation-refl}
+use Rattle.std.proofs.lemmas.List.Sorted.{Contains-permutation, IsPermutation-refl, IsPermutation-sym}
 use Rattle.maple_base.specs.declared.decision.Rule.{Rule}
 use Rattle.maple_base.specs.declared.decision.TableMod.{TableMod}
 use Rattle.maple_base.specs.declared.decision.TableMod.TheVariants.{DeleteAll}
@@ -160,7 +160,9 @@ module _ (known : AreKnown) (signals : SignalsAreHeard) (keep : HearingKeeps) (p
   none_to_come e last clear = subst (λ ps. GoesOnward part s (onward part.lists ps (answered s)) (heard l)) (sym e) (last_leads known part s (heard l) (answered_now clear) last)
 
   emptied : (Before : List Rule → Type 0) → IsClearing Before part s l → IsClear s (heard l) × (l.switch.table ≡ [])
-  emptied Before c = let reply = answers c.first (DeleteAll ∷ []) false c.done c.flight in (reply.clear, c.cleared (reply.all refl DeleteAll (here DeleteAll [])))
+  emptied Before c =
+      let reply = answers c.first (DeleteAll ∷ []) false c.done c.flight in
+      (reply.clear, c.cleared (Contains-permutation (DeleteAll ∷ []) c.done DeleteAll (IsPermutation-sym c.done (DeleteAll ∷ []) (reply.all refl)) (here DeleteAll [])))
 
   behind_first_clearing : IsFirstClearing part s l → GoesOnward part s (acknowledged part.lists s) (heard l)
   behind_first_clearing h = none_to_come h.to_come (record {

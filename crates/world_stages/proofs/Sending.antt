@@ -1,9 +1,9 @@
 -- What a session's sending does to what is under way.
-use Rattle.std.proofs.Common.{◌≡◌, ℕ, ◌+◌, ◌≤◌, Bool, true, List, [], ◌∷◌, ◌++◌, length, append_assoc, refl, sym, ap, ap₂, ◌∙◌, subst, inl, inr, ⊎_elim, arith}
-use Rattle.std.specs.Prelude.{Contains}
+use Rattle.std.proofs.Common.{◌≡◌, ℕ, ◌+◌, ◌≤◌, Bool, true, List, [], ◌∷◌, ◌++◌, length, append_assoc, refl, sym, ap, ap₂, ◌∙◌, subst, inl, arith}
 use Rattle.std.specs.List.{AllByRecursion}
 use Rattle.std.proofs.lemmas.List.{append-nil}
 use Rattle.std.proofs.lemmas.List.Elements.{filter-append}
+use Rattle.std.proofs.lemmas.List.Sorted.{IsPermutation-refl}
 use Rattle.maple_base.specs.declared.decision.TableMod.{TableMod}
 use Rattle.of10_codec.specs.declared.message.Message.{Message}
 use Rattle.switch_session.specs.declared.part.Part.{Part}
@@ -12,11 +12,11 @@ use Rattle.switch_session.specs.Parts.{change_message, changes_from, changes_of,
 use Rattle.switch_session.specs.Sessions.{leaves}
 use Rattle.machine_steps.specs.Machine.{Session}
 use Rattle.world_steps.specs.Worlds.{Link}
-use Rattle.update_plan.proofs.Members.{here, there, none_in, in_cons}
-use Rattle.world_stages.specs.Flights.{line_of, back_of, is_control, controls, signals, IsUpTo, IsClear, IsChangeOf}
+use Rattle.world_stages.specs.Flights.{line_of, back_of, is_control, controls, signals, IsUpTo, IsClear}
 use Rattle.world_stages.specs.FlightLaws.{OthersAreSent, AllAreTakenOut, Departs, PartsDepart}
 use Rattle.world_stages.proofs.Lists.{filter_none, filter_all, filter_end, all_append, all_weaker, passing_append}
 use Rattle.world_stages.proofs.Bodies.{change_is_flow_mod, flow_mod_control}
+use Rattle.world_stages.proofs.Once.{IsChangeOf, changes_number}
 
 -- ---- messages behind the others of the outbox
 
@@ -66,22 +66,6 @@ part_controls xid barrier changes =
     (all_append (λ (m : Message). is_control m ≡ true) (changes_from xid changes) (barrier_request barrier ∷ []) (changes_control xid changes) (refl, tt))
 
 -- with numbers ahead of its barrier's
-changes_number : (first barrier xid : ℕ) (all changes : List TableMod) → first ≤ xid → xid + length changes ≤ barrier → ((c : TableMod) → Contains changes c → Contains all c)
-    → AllByRecursion (IsChangeOf first barrier all) (changes_from xid changes)
-changes_number first barrier xid all [] from below among = tt
-changes_number first barrier xid all (c ∷ changes) from below among = (
-  record { change = c; among = among c (here c changes); is = refl; from = from; below = omega arith },
-  changes_number first barrier (xid + 1) all changes (omega arith) (omega arith) (λ d e. among d (there c changes d e)),
-)
-
--- each of them
-changes_due : (xid : ℕ) (changes : List TableMod) (c : TableMod) → Contains changes c → (n : ℕ) × Contains (changes_from xid changes) (change_message n c)
-changes_due xid [] c h = absurd (none_in c h)
-changes_due xid (d ∷ changes) c h =
-    ⊎_elim (λ e. (xid, subst (λ (z : TableMod). Contains (changes_from xid (d ∷ changes)) (change_message xid z)) e (here (change_message xid d) (changes_from (xid + 1) changes))))
-    (λ e. let t = changes_due (xid + 1) changes c e in (t.0, there (change_message xid d) (changes_from (xid + 1) changes) (change_message t.0 c) t.1))
-    (in_cons d changes c h)
-
 part_numbers : (xid barrier : ℕ) (changes : List TableMod) → xid + length changes ≤ barrier → AllByRecursion (IsUpTo barrier) (changes_from xid changes ++ barrier_request barrier ∷ [])
 part_numbers xid barrier changes below =
     all_append (IsUpTo barrier) (changes_from xid changes) (barrier_request barrier ∷ [])
@@ -99,13 +83,18 @@ module _ (lists : Lists) (part : Part) (parts : List Part) (quiet : Bool) (s : S
   departs : Departs lists part parts quiet s l
   departs = record {
     flight = record {
+      carried = [];
+      heard = [];
+      unheard = [];
       due = changes_from (s.used + 1) (changes_of part);
       errors = [];
       above = omega arith;
-      changing = changes_number (s.used + 1) (barrier_of s.used part) (s.used + 1) (changes_of part) (changes_of part) (omega arith) (omega arith) (λ c h. h);
-      refusals = tt;
+      numbers = omega arith;
+      once = IsPermutation-refl (changes_from (s.used + 1) (changes_of part));
+      asked = tt;
+      noisy = λ loud. refl;
+      told = tt;
       way = inl (part_line, clear.back);
-      each = λ c h. let t = changes_due (s.used + 1) (changes_of part) c h in inr (inl (record { xid = t.0; among = t.1 }));
     };
     numbered = λ n. record {
       taken = let le = n.taken in omega arith;

@@ -80,11 +80,11 @@ pub record HearsRefusal (first barrier : ℕ) (changes : List TableMod) (done : 
   pub refusal : IsRefusalIn first barrier m
   pub flight : IsInFlight first barrier changes true done (line_of s (heard l)) (back_of (heard l))
 
--- the reply to its barrier: nothing is under way any more, and all its changes were carried out, unless the session is quiet
+-- the reply to its barrier: nothing is under way any more, and all its changes were carried out, each once, unless the session is quiet
 pub record HearsReplyOf (barrier : ℕ) (changes : List TableMod) (quiet : Bool) (done : List TableMod) (s : Session) (l : Link) (m : Message) : Type 0 where
   pub reply : m ≡ message barrier BarrierReply
   pub clear : IsClear s (heard l)
-  pub all : quiet ≡ false → (change : TableMod) → Contains changes change → Contains done change
+  pub all : quiet ≡ false → IsPermutation done changes
 
 abbrev pub SignalsAreHeard : Type 0
 SignalsAreHeard =

@@ -1,13 +1,13 @@
 -- The messages between a session and its switch: which are under way, what comes back, and where a part of an update is among them.
-use Rattle.std.specs.Prelude.{◌≡◌, ◌≢◌, ◌⊎◌, ℕ, ◌≤◌, ◌<◌, Bool, true, false, not, ◌==◌, ◌||◌, filter, List, [], ◌∷◌, ◌++◌, Contains}
-use Rattle.std.specs.List.{AllByRecursion}
+use Rattle.std.specs.Prelude.{◌≡◌, ◌⊎◌, ℕ, ◌+◌, ◌≤◌, ◌<◌, Bool, true, false, not, ◌==◌, ◌||◌, filter, List, [], ◌∷◌, ◌++◌, length}
+use Rattle.std.specs.List.{AllByRecursion, AllZip}
 use Rattle.std.specs.List.Sorted.{IsPermutation}
 use Rattle.maple_base.specs.declared.decision.Rule.{Rule}
 use Rattle.maple_base.specs.declared.decision.TableMod.{TableMod}
 use Rattle.of10_codec.specs.declared.message.Message.{Message}
 use Rattle.of10_codec.specs.declared.message.Body.{Body}
 use Rattle.of10_codec.specs.declared.message.Body.TheVariants.{Error, BarrierReply, FeaturesReply}
-use Rattle.switch_session.specs.Parts.{change_message, barrier_request}
+use Rattle.switch_session.specs.Parts.{change_body, changes_from, barrier_request}
 use Rattle.device_port.specs.Switches.{is_barrier, is_flow_mod, message}
 use Rattle.machine_steps.specs.Machine.{Session}
 use Rattle.world_steps.specs.Worlds.{Link}
@@ -68,15 +68,7 @@ pub record IsClear (s : Session) (l : Link) : Type 0 where
 
 -- ---- a part of an update is
 
--- a change of a part whose first number and whose barrier's number are these
-pub record IsChangeOf (first barrier : ℕ) (changes : List TableMod) (m : Message) : Type 0 where
-  pub change : TableMod
-  pub among : Contains changes change
-  pub is : m ≡ change_message m.xid change
-  pub from : first ≤ m.xid
-  pub below : m.xid < barrier
-
--- the ERROR of a change of such a part
+-- the ERROR of a change of a part whose first number and whose barrier's number are these
 pub record IsRefusalIn (first barrier : ℕ) (m : Message) : Type 0 where
   pub kind : ℕ
   pub code : ℕ
@@ -91,24 +83,33 @@ IsOnItsWay barrier due errors line back =
     ((controls line ≡ due ++ barrier_request barrier ∷ []) × (signals back ≡ errors))
     ⊎ ((due ≡ []) × (controls line ≡ []) × (signals back ≡ errors ++ message barrier BarrierReply ∷ []))
 
--- the change is one of those that are due
-pub record IsDue (change : TableMod) (due : List Message) : Type 0 where
-  pub xid : ℕ
-  pub among : Contains due (change_message xid change)
+-- a message that asks for a change
+abbrev pub Asks : TableMod → Message → Type 0
+Asks change m = m.body ≡ change_body change
 
--- a change of the part was carried out, or is due, or some change was refused: an ERROR of it comes back, or was heard, and the session is quiet
-abbrev pub IsAccountedFor : Bool → List TableMod → List Message → List Message → TableMod → Type 0
-IsAccountedFor quiet done due errors change = Contains done change ⊎ (IsDue change due ⊎ ((errors ≢ []) ⊎ (quiet ≡ true)))
+-- the ERROR by which a message is refused: it has the message's number
+pub record IsErrorOf (m error : Message) : Type 0 where
+  pub kind : ℕ
+  pub code : ℕ
+  pub bytes : List ℕ
+  pub is : error ≡ message m.xid (Error kind code bytes)
 
--- a part of an update, sent with these numbers, of which these changes were carried out: its messages that are under way, and what came back
+-- a part of an update, of which these changes were carried out: its messages that are under way, and what came back. Its changes were sent with the numbers from
+-- the first up to its barrier's. Each of their messages, just once, was carried out, or was refused, or is due. Of each that was refused either the ERROR was
+-- heard, and then the session is quiet, or it comes back
 pub record IsInFlight (first barrier : ℕ) (changes : List TableMod) (quiet : Bool) (done : List TableMod) (line back : List Message) : Type 0 where
+  pub carried : List Message
+  pub heard : List Message
+  pub unheard : List Message
   pub due : List Message
   pub errors : List Message
   pub above : 1 ≤ first
-  pub changing : AllByRecursion (IsChangeOf first barrier changes) due
-  pub refusals : AllByRecursion (IsRefusalIn first barrier) errors
+  pub numbers : first + length changes ≡ barrier
+  pub once : IsPermutation (carried ++ (heard ++ (unheard ++ due))) (changes_from first changes)
+  pub asked : AllZip Asks done carried
+  pub noisy : quiet ≡ false → heard ≡ []
+  pub told : AllZip IsErrorOf unheard errors
   pub way : IsOnItsWay barrier due errors line back
-  pub each : (change : TableMod) → Contains changes change → IsAccountedFor quiet done due errors change
 
 -- ---- what a step of the switch does to its table where it carries out no change
 

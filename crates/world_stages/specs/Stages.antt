@@ -52,6 +52,7 @@ pub record IsClearing (Before : List Rule → Type 0) (part : UnderWay) (s : Ses
   pub done : List TableMod
   pub flight : IsInFlight first part.barrier (DeleteAll ∷ []) false done (line_of s l) (back_of l)
   pub table : Before l.switch.table ⊎ (l.switch.table ≡ [])
+  pub before : done ≡ [] → Before l.switch.table
   pub cleared : Contains done DeleteAll → l.switch.table ≡ []
 
 -- what is to leave behind a part, and where the session heads for; behind an error that is a clearing, and no rules

@@ -5,4 +5,4 @@ use Rattle.world_model.proofs.Keeping.{is_right}
 use Rattle.world_model.proofs.world.World.law.Goals as goal
 
 pub returns : goal.returns
-returns c = is_right c.run_laws.ensures.right c.args.self.now (subst IsReached c.self.view_is c.self.invariant.reached)
+returns c = is_right c.run_laws.ensures.right c.run_laws.ensures.placed c.args.self.now (subst IsReached c.self.view_is c.self.invariant.reached)
