@@ -9,7 +9,7 @@ use std::alloc::Global;
 use std::collections::HashMap;
 use std::marker::Model;
 
-/// What a machine told of cells, each once, in the order in which they were read.
+/// What a machine told of cells, in the order in which they were read.
 #[derive(Drop)]
 pub struct KnownCells {
     list: Vec<(Cell, Value)>,
@@ -21,13 +21,13 @@ impl Model for KnownCells {
     ghost use Rattle.std.specs.Prelude.{List};
     ghost use Rattle.maple_base.specs.declared.cells.Cell.{Cell};
     ghost use Rattle.maple_base.specs.declared.cells.Value.{Value as CellValue};
-    ghost use Rattle.sim_jobs.specs.Knowing.{IsKnown};
+    ghost use Rattle.trace_record.specs.Tables.{AreKept};
 
     ghost Value = { List (Cell × CellValue) };
 
     ghost view = { λ a. a.list.items };
 
-    ghost invariant = { λ a. IsKnown a.list.items a.table };
+    ghost invariant = { λ a. AreKept a.list.items a.table };
 }
 
 impl KnownCells {

@@ -1,5 +1,5 @@
 // The packet that waits is answered.
-ghost use Rattle.std.specs.Prelude.{◌≡◌, Err, IfOk, IfSome, IsNone, IsTrue, None, OnOk, OnErr, true};
+ghost use Rattle.std.specs.Prelude.{◌≡◌, Err, IfOk, IsTrue, None, OnOk, OnErr, is_some, true};
 ghost use Rattle.maple_base.specs.declared.cells.Cell.{Cell as CellData};
 ghost use Rattle.maple_base.specs.Kinds.{of_kind};
 ghost use Rattle.policy_meaning.specs.Cells.{Gives, given};
@@ -11,7 +11,7 @@ ghost use Rattle.topo_paths.specs.Scenes.{cell_in};
 ghost use Rattle.machine_steps.specs.Admitting.{IsOfHistory};
 ghost use Rattle.machine_steps.specs.Machine.{policy_number};
 ghost use Rattle.machine_moves.specs.Told.{IsFresh};
-ghost use Rattle.sim_jobs.specs.Knowing.{are_known, value_in};
+ghost use Rattle.sim_jobs.specs.Knowing.{asked_of, first_unknown, value_in};
 ghost use Rattle.sim_jobs.specs.declared.work.Unrecorded.TheVariants.{Unknown};
 ghost use Rattle.sim_jobs.specs.Works.{Fails, WaitsAlone, Works};
 
@@ -132,6 +132,7 @@ fn run_over(
     ensures call { IfOk result (IsOfCall policy.now number budget item.now.switch item.now.key) }
     ensures cells { IfOk result (λ run. stale_in (cell_in core.now.scene) run.cells ≡ None) }
     ensures unknown { (cell : CellData) → result ≡ Err (Unknown cell) → given cell known.now ≡ None }
+    ensures asked { (cell : CellData) → result ≡ Err (Unknown cell) → is_some (given cell (asked_of policy.now budget item.now (cell_in core.now.scene))) ≡ true }
 {
     let Ok(run) = run_with(core.alloc(), policy, number, budget, item, known) else {
         return Err(Unrecorded::NoMemory);
@@ -155,6 +156,7 @@ fn run_with(
     ensures law { IfOk result IsRun }
     ensures call { IfOk result (IsOfCall policy.now number budget item.now.switch item.now.key) }
     ensures cells { IfOk result (λ run. Gives (value_in known.now) run.cells) }
+    ensures asked { IfOk result (λ run. run.cells ≡ asked_of policy.now budget item.now (value_in known.now)) }
 {
     let mut view = NowView::new(known);
     match record(alloc, policy, number, budget, item.switch(), item.key(), &mut view) {
@@ -169,8 +171,7 @@ fn run_with(
 
 // The first cell of a run that isn't known.
 fn first_unknown(known: &KnownCells, cells: &[(Cell, Value)]) -> Option<Cell>
-    ensures new { IfSome result (λ cell. given cell known.now ≡ None) }
-    ensures known { IsNone result → are_known known.now cells.now ≡ true }
+    ensures { result ≡ first_unknown known.now cells.now }
 {
     for (cell, _) in cells {
         if known.given(cell).is_none() {
