@@ -14,11 +14,17 @@ use Rattle.maple_base.specs.declared.key.Key.{Key}
 use Rattle.maple_base.specs.Keys.{field_of}
 use Rattle.policy_meaning.specs.Asking.{Asking, Done, AsksField, AsksTest, AsksCell}
 use Rattle.policy_meaning.specs.Cells.{AreGiven, Gives, given, same_cell}
+use Rattle.policy_lang.specs.declared.Policy.{Policy}
+use Rattle.policy_lang.specs.TreeOf.{tree_of}
+use Rattle.policy_meaning.specs.Meaning.{meaning}
 use Rattle.policy_meaning.specs.Readings.{cells_of}
+use Rattle.policy_meaning.specs.Through.{through, nothing}
+use Rattle.trace_record.specs.Runs.{IsOfCall, IsRun, Recorded}
+use Rattle.machine_steps.specs.Waiting.{Waiting}
 use Rattle.tree_prune.specs.Current.{same_value, are_current}
 use Rattle.tree_prune.specs.Stale.{stale_in}
 use Rattle.tree_prune.proofs.Values.{same_equal, equal_same, none_differs}
-use Rattle.sim_jobs.specs.Knowing.{are_known, cells_in, first_unknown, value_in, value_or_blank}
+use Rattle.sim_jobs.specs.Knowing.{are_known, asked_of, cells_in, first_unknown, value_in, value_or_blank}
 use Rattle.sim_jobs.proofs.SameCells.{equality, own, same_is}
 
 
@@ -138,6 +144,16 @@ asked_too (AsksCell c by) k env known d h e = go (is_some (given c known)) refl 
         → (if b then first_unknown known (cells_of (by (value_in known c)) k (value_in known)) else Some c) ≡ Some d → is_some (given d ((c, env c) ∷ cells_of (by (env c)) k env)) ≡ true
     go true is rest e = there_behind d c (env c) (cells_of (by (env c)) k env) (rest (ap (λ v. first_unknown known (cells_of (by v) k (value_in known))) (sym (value_now env known c h is)) ∙ e))
     go false is rest e = subst (λ x. is_some (given x ((c, env c) ∷ cells_of (by (env c)) k env)) ≡ true) (same_Some c d e) (there_own c (env c) (cells_of (by (env c)) k env))
+
+-- a run asks for just the cells that its policy asks for, where they are as it was told
+pub asked_by : (policy : Policy) (number budget : ℕ) (item : Waiting) (run : Recorded) (env : Cell → Value) → IsRun run → IsOfCall policy number budget item.switch item.key run → Gives env run.cells
+    → run.cells ≡ asked_of policy budget item env
+asked_by policy number budget item run env law call gives =
+    sym (law.trace.law run.key law.trace.valid law.trace.own env gives).cells
+    ∙ ap (λ (p : Policy). cells_of (through (meaning (tree_of p.body) run.budget run.switch) nothing) run.key env) call.policy
+    ∙ ap (λ n. cells_of (through (meaning (tree_of policy.body) n run.switch) nothing) run.key env) call.budget
+    ∙ ap (λ s. cells_of (through (meaning (tree_of policy.body) budget s) nothing) run.key env) call.switch
+    ∙ ap (λ k. cells_of (through (meaning (tree_of policy.body) budget item.switch) nothing) k env) call.key
 
 -- ---- how many are known
 
