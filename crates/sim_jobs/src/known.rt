@@ -1,65 +1,80 @@
 // The cells of a machine that are known so far.
-ghost use Rattle.std.specs.Prelude.{◌≡◌, None, true};
-ghost use Rattle.std.specs.List.{list_all};
-ghost use Rattle.policy_meaning.specs.Cells.{is_of_kind};
-ghost use Rattle.tree_prune.specs.Current.{are_current};
-ghost use Rattle.topo_paths.specs.Scenes.{cell_in};
+ghost use Rattle.std.specs.Prelude.{◌≡◌, ◌++◌, ◌∷◌, [], None, OnOk, IfSome, IsTrue};
+ghost use Rattle.maple_base.specs.Kinds.{of_kind};
+ghost use Rattle.policy_meaning.specs.Cells.{given};
+ghost use Rattle.sim_jobs.specs.Knowing.{value_in};
 
-use core_machine::Core;
-use maple_base::{Cell, EnvView, Value, Witness};
+use maple_base::{Blank, Cell, EnvNow, NoMemory, Value};
+use std::alloc::Global;
+use std::collections::HashMap;
+use std::marker::Model;
 
-/// What a machine told of cells in its state now, in the order in which a run asks for them. A run that is told the
-/// same asks for the same, so that only the next cell is looked at. Where the run asks for another, the view notes
-/// which, and refuses.
+/// What a machine told of cells, in the order in which they were read.
 #[derive(Drop)]
-pub struct KnownCells<'a> {
-    // Those that the run didn't ask for yet.
-    left: &'a [(Cell, Value)],
-    machine: Witness<Core>,
-    pub asked: Option<Cell>,
-    refusals: u64,
-    ghost current: { are_current (cell_in machine.value.scene) left.now ≡ true },
-    ghost kinds: { list_all is_of_kind left.now ≡ true },
-    ghost noted: { asked ≡ None → refusals ≡ 0 },
+pub struct KnownCells {
+    list: Vec<(Cell, Value)>,
+    // The same as a table.
+    table: HashMap<Cell, Value>,
 }
 
-impl<'a> KnownCells<'a> {
-    /// The view over these cells of a machine.
-    pub fn new(core: &Core, cells: &'a [(Cell, Value)]) -> KnownCells<'a>
-        requires current { are_current (cell_in core.now.scene) cells.now ≡ true }
-        requires kinds { list_all is_of_kind cells.now ≡ true }
-        ensures cells { result.left.now ≡ cells.now }
-        ensures machine { result.machine.value ≡ core.now }
-        ensures refusals { result.refusals ≡ 0 }
+impl Model for KnownCells {
+    ghost use Rattle.std.specs.Prelude.{List};
+    ghost use Rattle.maple_base.specs.declared.cells.Cell.{Cell};
+    ghost use Rattle.maple_base.specs.declared.cells.Value.{Value as CellValue};
+    ghost use Rattle.trace_record.specs.Tables.{AreKept};
+
+    ghost Value = { List (Cell × CellValue) };
+
+    ghost view = { λ a. a.list.items };
+
+    ghost invariant = { λ a. AreKept a.list.items a.table };
+}
+
+impl KnownCells {
+    /// No cell is known.
+    pub fn new(alloc: Global) -> KnownCells
+        ensures { result ≡ [] }
     {
         KnownCells {
-            left: cells,
-            machine: Witness::of(core),
-            asked: None,
-            refusals: 0,
+            list: Vec::new(alloc),
+            table: HashMap::new(alloc),
         }
+    }
+
+    /// What is known of a cell.
+    #[tactic(auto, using(trace_record::proofs::Tables::given_kind))]
+    pub fn given(&self, cell: &Cell) -> Option<Value>
+        ensures given { result ≡ given cell.now self.now }
+        ensures kind { IfSome result (λ value. IsTrue (of_kind cell.now value)) }
+    {
+        self.table.get(cell).copied()
+    }
+
+    /// One more cell is known.
+    ///
+    /// # Errors
+    ///
+    /// `NoMemory`.
+    pub fn push(&mut self, cell: Cell, value: Value) -> Result<(), NoMemory>
+        requires new { given cell self.old ≡ None }
+        requires kind { IsTrue (of_kind cell value) }
+        ensures { OnOk result (self.new ≡ self.old ++ (cell, value) ∷ []) }
+    {
+        self.list.reserve(1)?;
+        self.table.insert(cell, value)?;
+        self.list.push_reserved((cell, value));
+        Ok(())
     }
 }
 
-impl<'a> EnvView for KnownCells<'a> {
-    // the machine's cells as they are now
-    ghost gave = { λ view cell value. value ≡ cell_in view.machine.value.scene cell };
+impl EnvNow for KnownCells {
+    // what is known, and a blank in any other cell
+    ghost has = { λ known cell. value_in known cell };
 
-    ghost refused = { λ view. view.refusals };
-
-    fn read(&mut self, cell: Cell) -> Option<Value> {
-        if let [(known, value), left @ ..] = self.left
-            && *known == cell
-        {
-            self.left = left;
-            return Some(*value);
+    fn cell(&self, cell: Cell) -> Value {
+        match self.given(&cell) {
+            Some(value) => value,
+            None => Blank.cell(cell),
         }
-        self.asked = Some(cell);
-        self.refusals = self.refusals.saturating_add(1);
-        None
-    }
-
-    fn refusals(&self) -> u64 {
-        self.refusals
     }
 }

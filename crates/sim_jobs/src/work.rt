@@ -1,8 +1,8 @@
 // The packet that waits is answered.
-ghost use Rattle.std.specs.Prelude.{◌≡◌, IfOk, IsTrue, None, OnOk, OnErr, true};
-ghost use Rattle.std.specs.List.{list_all};
+ghost use Rattle.std.specs.Prelude.{◌≡◌, Err, IfOk, IsTrue, None, OnOk, OnErr, is_some, true};
+ghost use Rattle.maple_base.specs.declared.cells.Cell.{Cell as CellData};
 ghost use Rattle.maple_base.specs.Kinds.{of_kind};
-ghost use Rattle.policy_meaning.specs.Cells.{is_of_kind};
+ghost use Rattle.policy_meaning.specs.Cells.{Gives, given};
 ghost use Rattle.policy_eval.specs.Answers.{IsBudget};
 ghost use Rattle.trace_record.specs.Runs.{IsOfCall, IsRun};
 ghost use Rattle.tree_prune.specs.Current.{are_current};
@@ -11,6 +11,8 @@ ghost use Rattle.topo_paths.specs.Scenes.{cell_in};
 ghost use Rattle.machine_steps.specs.Admitting.{IsOfHistory};
 ghost use Rattle.machine_steps.specs.Machine.{policy_number};
 ghost use Rattle.machine_moves.specs.Told.{IsFresh};
+ghost use Rattle.sim_jobs.specs.Knowing.{asked_of, first_unknown, value_in};
+ghost use Rattle.sim_jobs.specs.declared.work.Unrecorded.TheVariants.{Unknown};
 ghost use Rattle.sim_jobs.specs.Works.{Fails, WaitsAlone, Works};
 
 use crate::known::KnownCells;
@@ -19,8 +21,9 @@ use machine_moves::reply_laws;
 use machine_steps::{machine_laws, running_laws};
 use maple_base::{Cell, NoMemory, Value};
 use policy_lang::Policy;
+use std::alloc::Global;
 use std::sync::Arc;
-use trace_record::{RecordError, Run, record};
+use trace_record::{NowView, RecordError, Run, record};
 
 /// Answers the packet that waits: a run of the policy in force is recorded over the machine's cells,
 /// and committed. The cells are read one after the other by entries of their own, and no other entry
@@ -40,7 +43,7 @@ pub fn work(core: &mut Core, budget: u32, item: &JobItem) -> Result<(), NoMemory
 }
 
 // A run of the policy in force for the packet that waits. Where it asks for a cell that isn't known
-// yet, the cell is read, and the policy is run again.
+// yet, the cell is read, and the policy is run again: each time one cell more is known.
 #[tactic(auto, using(crate::proofs::Told::fresh_run))]
 fn recorded(core: &mut Core, budget: u32, item: &JobItem) -> Result<Run, NoMemory>
     requires alone { WaitsAlone item.now core.old }
@@ -52,13 +55,13 @@ fn recorded(core: &mut Core, budget: u32, item: &JobItem) -> Result<Run, NoMemor
     core.law();
     machine_laws();
     let (number, policy) = lent(core)?;
-    let mut cells = Vec::new(core.alloc());
+    let mut known = KnownCells::new(core.alloc());
     loop {
-        match run_over(core, &policy, number, budget, item, &cells) {
+        match run_over(core, &policy, number, budget, item, &known) {
             Ok(run) => return Ok(run),
             Err(Unrecorded::Unknown(cell)) => {
                 let value = read(core, &cell);
-                cells.push((cell, value))?;
+                known.push(cell, value)?;
             }
             Err(Unrecorded::NoMemory) => return Err(NoMemory),
         }
@@ -113,41 +116,67 @@ enum Unrecorded {
     NoMemory,
 }
 
-// A run of the policy for a packet, over the cells that are known.
+// A run of the policy for a packet, where it asks for no cell but those that are known. A run over these alone, with
+// blanks in all others, asks first for the same cells as one that is told all: so the first that isn't known is read next.
 fn run_over(
     core: &Core,
     policy: &Policy,
     number: u64,
     budget: u32,
     item: &JobItem,
-    cells: &[(Cell, Value)],
+    known: &KnownCells,
 ) -> Result<Run, Unrecorded>
     requires budget { IsBudget budget }
-    requires current { are_current (cell_in core.now.scene) cells.now ≡ true }
-    requires kinds { list_all is_of_kind cells.now ≡ true }
+    requires current { are_current (cell_in core.now.scene) known.now ≡ true }
     ensures law { IfOk result IsRun }
     ensures call { IfOk result (IsOfCall policy.now number budget item.now.switch item.now.key) }
     ensures cells { IfOk result (λ run. stale_in (cell_in core.now.scene) run.cells ≡ None) }
+    ensures unknown { (cell : CellData) → result ≡ Err (Unknown cell) → given cell known.now ≡ None }
+    ensures asked { (cell : CellData) → result ≡ Err (Unknown cell) → is_some (given cell (asked_of policy.now budget item.now (cell_in core.now.scene))) ≡ true }
 {
-    let mut view = KnownCells::new(core, cells);
-    let recorded = record(
-        core.alloc(),
-        policy,
-        number,
-        budget,
-        item.switch(),
-        item.key(),
-        &mut view,
-    );
-    match recorded {
+    let Ok(run) = run_with(core.alloc(), policy, number, budget, item, known) else {
+        return Err(Unrecorded::NoMemory);
+    };
+    match first_unknown(known, run.cells().items()) {
+        Some(cell) => Err(Unrecorded::Unknown(cell)),
+        None => Ok(run),
+    }
+}
+
+// A run of the policy for a packet, with blanks in the cells that aren't known.
+fn run_with(
+    alloc: Global,
+    policy: &Policy,
+    number: u64,
+    budget: u32,
+    item: &JobItem,
+    known: &KnownCells,
+) -> Result<Run, NoMemory>
+    requires { IsBudget budget }
+    ensures law { IfOk result IsRun }
+    ensures call { IfOk result (IsOfCall policy.now number budget item.now.switch item.now.key) }
+    ensures cells { IfOk result (λ run. Gives (value_in known.now) run.cells) }
+    ensures asked { IfOk result (λ run. run.cells ≡ asked_of policy.now budget item.now (value_in known.now)) }
+{
+    let mut view = NowView::new(known);
+    match record(alloc, policy, number, budget, item.switch(), item.key(), &mut view) {
         Ok(run) => {
             run.law();
             Ok(run)
         }
-        Err(RecordError::Unread) => match view.asked {
-            Some(cell) => Err(Unrecorded::Unknown(cell)),
-            None => unreachable!(),
-        },
-        Err(RecordError::NoMemory) => Err(Unrecorded::NoMemory),
+        Err(RecordError::NoMemory) => Err(NoMemory),
+        Err(RecordError::Unread) => unreachable!(),
     }
+}
+
+// The first cell of a run that isn't known.
+fn first_unknown(known: &KnownCells, cells: &[(Cell, Value)]) -> Option<Cell>
+    ensures { result ≡ first_unknown known.now cells.now }
+{
+    for (cell, _) in cells {
+        if known.given(cell).is_none() {
+            return Some(*cell);
+        }
+    }
+    None
 }

@@ -129,7 +129,14 @@ module _ (machine : State) (c : ℕ) (ls : List Link) where
     makes Take Done (m, first, does) = (m, record { link = l; there = there; behind = k; does = (to_of q, first, switch_of q, does, takes_link p q stays_of); now_is = goes })
     makes Take NotThere (e, none) = (same e, λ m can. let to : can.link.to ≡ to_of p = ap (λ (x : Link). x.to) (is_link can.link can.there) in let first = can.first in cc)
     makes Take (Saw seen) h = absurd h
-    makes (Process at) NoMemory e = same e
+    makes (Process at) NoMemory (e, x) = (
+      same e,
+      record {
+        message = x.message;
+        there = record { link = l; there = there; ahead = x.pends.ahead; behind = x.pends.behind; stands = x.pends.stands; place = x.pends.place; no_barrier = x.pends.no_barrier };
+        takes = x.takes;
+      },
+    )
     makes (Process at) Done (to, x) = record {
       message = x.message;
       there = record { link = l; there = there; ahead = x.pends.ahead; behind = x.pends.behind; stands = x.pends.stands; place = x.pends.place; no_barrier = x.pends.no_barrier };
@@ -158,7 +165,7 @@ module _ (machine : State) (c : ℕ) (ls : List Link) where
           let first : begins_with_barrier (switch_of p).pending ≡ true = ap (λ (x : Link). begins_with_barrier x.switch.pending) (sym (is_link can.link can.there)) ∙ ap begins_with_barrier can.first ∙ can.barrier in cc,
     )
     makes Answer (Saw seen) h = absurd h
-    makes (Look key) NoMemory e = same e
+    makes (Look key) NoMemory h = absurd h
     makes (Look key) Done h = absurd h
     makes (Look key) NotThere (e, none) = (same e, λ can. let valid = can.valid in cc)
     makes (Look key) (Saw seen) (to, x) = record { hit = x.hit; goes = record { link = l; there = there; behind = k; does = (switch_of q, x.does, acts_link p q stays_of to); now_is = goes }; tells = x.tells }

@@ -235,6 +235,8 @@ module _ (w : World) (kept : IsKept w) where
     move_kept (moves.Answer c) answers.NotThere (e, none) = stays e
     move_kept (moves.Look c key) (answers.Saw seen) p = goes_kept connections v (Acts c (Looking key p.hit)) p.goes
     move_kept (moves.Look c key) answers.NotThere (e, none) = stays e
+    move_kept (moves.Process c at) answers.NoMemory (e, lacks) = stays e
+    move_kept (moves.Look c key) answers.NoMemory h = absurd h
     move_kept move answers.NoMemory e = stays e
     move_kept move answer h = absurd h
 

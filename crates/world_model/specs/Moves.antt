@@ -17,7 +17,7 @@ use Rattle.machine_steps.specs.declared.reply.Reply.TheVariants.{Out}
 use Rattle.machine_steps.specs.Admitting.{Admits}
 use Rattle.world_steps.specs.Worlds.{Link, World, Goes, IsFirstFrom, link_at, messages_for}
 use Rattle.world_steps.specs.Worlds.WorldStep.{Enters, Acts}
-use Rattle.world_places.specs.Answers.{answers_to, refusal_to, Tells}
+use Rattle.world_places.specs.Answers.{answers_to, refusal_to, takes_memory, Tells}
 use Rattle.world_model.specs.declared.moves.Move.{Move}
 use Rattle.world_model.specs.declared.moves.Move.TheVariants as moves
 use Rattle.world_model.specs.declared.moves.Moved.{Moved}
@@ -100,6 +100,12 @@ pub record Processes (c at : ℕ) (old new : World) : Type 0 where
   pub goes : Goes old (Acts c (Processing message)) new
   pub at_place : LosesPending c at (answers_to message) old new
 
+-- memory runs out over a pending message that takes some
+pub record LacksMemory (c at : ℕ) (w : World) : Type 0 where
+  pub message : Message
+  pub there : CanProcess c at w message
+  pub takes : takes_memory message there.link.switch ≡ true
+
 pub record Refuses (c at : ℕ) (old new : World) : Type 0 where
   pub message : Message
   pub there : CanRefuse c at old message
@@ -111,8 +117,10 @@ pub record LooksUp (c : ℕ) (k : Key) (seen : Seen) (old new : World) : Type 0 
   pub goes : Goes old (Acts c (Looking k hit)) new
   pub tells : Tells hit seen
 
--- by the move and the answer. What is taken out goes on its way, and is told as done: the machine replied just the bytes of the messages that waited
+-- by the move and the answer. Memory doesn't run out where a move takes none. What is taken out goes on its way, and is told as done: the machine replied just the bytes of the messages that waited
 abbrev pub Makes : Move → Moved → World → World → Type 0
+Makes (moves.Process c at) NoMemory old new = (new ≡ old) × LacksMemory c at old
+Makes (moves.Look c k) NoMemory old new = ⊥
 Makes move NoMemory old new = new ≡ old
 Makes (moves.Machine (entries.TakeOut c)) Done old new = Goes old (Enters (entries.TakeOut c) (Out (flat_map written (messages_for c old.machine)))) new
 Makes (moves.Machine (entries.TakeOut c)) (Replied reply) old new = (reply ≡ replies.NoMemory) × Goes old (Enters (entries.TakeOut c) reply) new

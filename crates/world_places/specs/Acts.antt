@@ -7,7 +7,7 @@ use Rattle.maple_base.specs.Keys.{valid_key}
 use Rattle.of10_codec.specs.declared.message.Message.{Message}
 use Rattle.device_port.specs.Switches.{Switch, Does, StandsFree, is_barrier, is_flow_mod}
 use Rattle.device_port.specs.Switches.Step.{Take as Taking, Process as Processing, Refuse as Refusing, Answer as Answering, Look as Looking}
-use Rattle.world_places.specs.Answers.{answers_to, refusal_to, Tells}
+use Rattle.world_places.specs.Answers.{answers_to, refusal_to, takes_memory, Tells}
 use Rattle.world_places.specs.declared.acting.Act.{Act}
 use Rattle.world_places.specs.declared.acting.Act.TheVariants.{Take, Process, Refuse, Answer, Look}
 use Rattle.world_places.specs.declared.acting.Acted.{Acted}
@@ -44,6 +44,12 @@ pub record ProcessesAt (at : ℕ) (s t : Switch) : Type 0 where
   pub does : Does (Processing message) s t
   pub loses : Loses at (answers_to message s) s t
 
+-- memory runs out over the message at a place
+pub record LacksAt (at : ℕ) (s : Switch) : Type 0 where
+  pub message : Message
+  pub pends : PendsFree at s.pending message
+  pub takes : takes_memory message s ≡ true
+
 pub record RefusesAt (at : ℕ) (s t : Switch) : Type 0 where
   pub message : Message
   pub pends : PendsFree at s.pending message
@@ -60,8 +66,10 @@ pub record LooksAt (key : Key) (seen : Seen) (s t : Switch) : Type 0 where
 abbrev pub Acts : (Switch → Switch → Type 0) → Place → Place → Type 0
 Acts DoesSo old new = (to_of new ≡ to_of old) × DoesSo (switch_of old) (switch_of new)
 
--- the act is done; there is nothing to do; or memory ran out
+-- the act is done; there is nothing to do; or memory ran out, which it doesn't where the act takes none
 abbrev pub ActsBy : Act → Acted → Place → Place → Type 0
+ActsBy (Process at) NoMemory old new = Keeps old new × LacksAt at (switch_of old)
+ActsBy (Look key) NoMemory old new = ⊥
 ActsBy act NoMemory old new = Keeps old new
 ActsBy Take Done old new = (m : Message) × (to_of old ≡ m ∷ to_of new) × Does (Taking m) (switch_of old) (switch_of new)
 ActsBy Take NotThere old new = Keeps old new × (to_of old ≡ [])

@@ -25,6 +25,10 @@ switch_of p = record { dpid = p.dpid; table = p.table.rules; pending = p.pending
 abbrev pub opened_switch : ℕ → Switch
 opened_switch c = record { dpid = c; table = []; pending = []; sent = [] }
 
+-- how many rules a switch here has room for: as many as a table may have
+abbrev pub most_rules : ℕ
+most_rules = 4294967295
+
 -- nothing that is seen of a place changes
 pub record Keeps (old new : Place) : Type 0 where
   pub connection : new.connection ≡ old.connection

@@ -43,6 +43,7 @@ pub enum Acted {
 /// The switch at a place does so.
 pub fn carry_out_at(alloc: Global, place: &mut Place, act: &Act) -> Acted
     ensures connection { place.new.connection ≡ place.old.connection }
+    ensures room { place.new.table.capacity ≡ place.old.table.capacity }
     ensures acts { ActsBy act.now result place.old place.new }
 {
     match act {

@@ -1,5 +1,5 @@
 // The messages that wait in a switch.
-ghost use Rattle.std.specs.Prelude.{◌≡◌, ◌<◌, ◌++◌, true, nat_lt, length, map, option_map, vec_len, vec_capacity};
+ghost use Rattle.std.specs.Prelude.{◌≡◌, ◌<◌, ◌++◌, true, nat_lt, length, map, is_some, option_map, vec_len, vec_capacity};
 ghost use Rattle.device_port.specs.Switches.{is_flow_mod, message};
 ghost use Rattle.model_switch.specs.States.{free_count};
 ghost use Rattle.world_places.specs.Acts.{begins_with_barrier};
@@ -49,7 +49,7 @@ pub fn is_flow_mod(body: &Body) -> bool
 
 /// Sends an answer to the message of this id, if there is one.
 pub fn send(sent: &mut Vec<Sent>, xid: u32, said: Option<Said>)
-    requires { vec_len sent.old < vec_capacity sent.old }
+    requires { is_some said ≡ true → vec_len sent.old < vec_capacity sent.old }
     ensures { map message_sent sent.new.items ≡ map message_sent sent.old.items ++ messages_of (option_map (message xid) (option_map body_said said)) }
 {
     if let Some(said) = said {

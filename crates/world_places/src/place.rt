@@ -1,7 +1,7 @@
 // What a world keeps of a connection.
 ghost use Rattle.std.specs.Prelude.{◌≡◌, ◌<◌, ◌++◌, [], drop, length, map, Decides, OnOk};
 ghost use Rattle.std.specs.List.{position};
-ghost use Rattle.world_places.specs.Places.{BeginsWith, HasRoom, Keeps, is_of, opened_switch, switch_of, to_of};
+ghost use Rattle.world_places.specs.Places.{BeginsWith, HasRoom, Keeps, is_of, most_rules, opened_switch, switch_of, to_of};
 ghost use Rattle.world_places.specs.Said.{message_sent};
 
 use crate::said::{Sent, is_sent};
@@ -34,6 +34,7 @@ pub fn opened(alloc: Global, connection: u32) -> Place
     ensures connection { result.connection ≡ connection }
     ensures to { to_of result ≡ [] }
     ensures switch { switch_of result ≡ opened_switch connection }
+    ensures room { result.table.capacity ≡ most_rules }
 {
     Place {
         connection,
@@ -59,6 +60,7 @@ pub fn place_of(places: &[Place], connection: u32) -> Option<usize>
 /// `NoMemory`, where there is no room.
 pub fn make_room(place: &mut Place) -> Result<(), NoMemory>
     ensures same { Keeps place.old place.new }
+    ensures table { place.new.table ≡ place.old.table }
     ensures room { OnOk result (HasRoom place.new) }
 {
     place.blocks.reserve(1)?;
@@ -69,6 +71,7 @@ pub fn make_room(place: &mut Place) -> Result<(), NoMemory>
 pub fn put(place: &mut Place, block: Block)
     requires { HasRoom place.old }
     ensures connection { place.new.connection ≡ place.old.connection }
+    ensures room { place.new.table.capacity ≡ place.old.table.capacity }
     ensures to { to_of place.new ≡ to_of place.old ++ block }
     ensures switch { switch_of place.new ≡ switch_of place.old }
 {
@@ -97,6 +100,7 @@ fn begins_with(sent: &[Sent], message: &Message) -> bool
 pub fn forget_first(place: &mut Place)
     requires { 0 < length (switch_of place.old).sent }
     ensures connection { place.new.connection ≡ place.old.connection }
+    ensures room { place.new.table.capacity ≡ place.old.table.capacity }
     ensures to { to_of place.new ≡ to_of place.old }
     ensures switch { switch_of place.new ≡ record (switch_of place.old) { sent = drop 1 (switch_of place.old).sent } }
 {

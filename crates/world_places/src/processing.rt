@@ -1,9 +1,10 @@
 // A switch deals with a message that waits.
-ghost use Rattle.std.specs.Prelude.{◌≡◌, MatchBool};
+ghost use Rattle.std.specs.Prelude.{◌≡◌, ℕ, true, false, is_some, MatchBool};
 ghost use Rattle.std.specs.Option.{option_map};
-ghost use Rattle.device_port.specs.Switches.{Leads};
+ghost use Rattle.device_port.specs.Switches.{Leads, change_of};
 ghost use Rattle.model_switch.specs.Answers.{reply_of};
 ghost use Rattle.world_places.specs.Acts.{ActsBy};
+ghost use Rattle.world_places.specs.Answers.{adds_new};
 ghost use Rattle.world_places.specs.Said.{body_said};
 ghost use Rattle.world_places.specs.declared.acting.Act.TheVariants.{Process, Refuse, Answer};
 
@@ -21,17 +22,32 @@ const PORT_COUNT: u16 = 48;
 /// The message at this place is done, and answered, where it may be now.
 pub fn process(place: &mut Place, at: usize) -> Acted
     ensures connection { place.new.connection ≡ place.old.connection }
+    ensures room { place.new.table.capacity ≡ place.old.table.capacity }
     ensures acts { ActsBy (Process at) result place.old place.new }
 {
     if !is_free_at(&place.pending, at) {
         return Acted::NotThere;
     }
-    if place.sent.reserve(1).is_err() || !change(&mut place.table, &place.pending[at].body) {
+    let body = &place.pending[at].body;
+    if is_answered(body) && place.sent.reserve(1).is_err() {
+        return Acted::NoMemory;
+    }
+    if !change(&mut place.table, body) {
         return Acted::NoMemory;
     }
     let Message { xid, body } = place.pending.remove(at);
     send(&mut place.sent, xid, reply(place.dpid, PORT_COUNT, body));
     Acted::Done
+}
+
+// Whether a switch says something to a message.
+fn is_answered(body: &Body) -> bool
+    ensures { (dpid ports : ℕ) → result ≡ is_some (reply_of dpid ports body.now) }
+{
+    matches!(
+        body,
+        Body::Hello { .. } | Body::FeaturesRequest | Body::EchoRequest(_) | Body::BarrierRequest
+    )
 }
 
 // What a switch with this number and so many ports says to a message.
@@ -49,7 +65,9 @@ fn reply(dpid: u64, ports: u16, body: Body) -> Option<Said>
 
 // Does what a message asks of the table, and tells whether there was room for that.
 fn change(table: &mut Table, body: &Body) -> bool
-    ensures { MatchBool result (Leads body.now table.old.rules table.new.rules) (table.new ≡ table.old) }
+    ensures table { MatchBool result (Leads body.now table.old.rules table.new.rules) (table.new ≡ table.old) }
+    ensures room { table.new.capacity ≡ table.old.capacity }
+    ensures memory { result ≡ false → adds_new (change_of body.now) table.old.rules ≡ true }
 {
     match change_of(body) {
         Some(change) => !matches!(table.apply(&change), Applied::Full | Applied::NoMemory),
@@ -60,6 +78,7 @@ fn change(table: &mut Table, body: &Body) -> bool
 /// The change of the table that is pending at this place is refused.
 pub fn refuse(place: &mut Place, at: usize) -> Acted
     ensures connection { place.new.connection ≡ place.old.connection }
+    ensures room { place.new.table.capacity ≡ place.old.table.capacity }
     ensures acts { ActsBy (Refuse at) result place.old place.new }
 {
     if !is_free_at(&place.pending, at) || !is_flow_mod(&place.pending[at].body) {
@@ -76,6 +95,7 @@ pub fn refuse(place: &mut Place, at: usize) -> Acted
 /// The barrier that is pending first is answered.
 pub fn answer(place: &mut Place) -> Acted
     ensures connection { place.new.connection ≡ place.old.connection }
+    ensures room { place.new.table.capacity ≡ place.old.table.capacity }
     ensures acts { ActsBy Answer result place.old place.new }
 {
     if !begins_with_barrier(&place.pending) {

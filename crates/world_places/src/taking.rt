@@ -16,6 +16,7 @@ use std::alloc::Global;
 /// The next message on its way comes in.
 pub fn take(alloc: Global, place: &mut Place) -> Acted
     ensures connection { place.new.connection ≡ place.old.connection }
+    ensures room { place.new.table.capacity ≡ place.old.table.capacity }
     ensures acts { ActsBy Take result place.old place.new }
 {
     let Some(at) = next_block(&place.blocks) else {

@@ -1,18 +1,20 @@
-use Rattle.std.proofs.Common.{◌≡◌, ◌-◌, ◌^◌, true, vec_len}
-use Rattle.std.specs.List.{list_all}
-use Rattle.policy_meaning.specs.Cells.{is_of_kind}
+use Rattle.std.proofs.Common.{◌≡◌, ◌-◌, true, length}
+use Rattle.std.specs.List.{IsDistinct}
+use Rattle.policy_meaning.specs.Cells.{same_cell}
 use Rattle.tree_prune.specs.Current.{are_current}
 use Rattle.topo_paths.specs.Scenes.{cell_in}
+use Rattle.sim_jobs.specs.Knowing.{are_known, asked_of, cells_in}
 use Rattle.sim_jobs.proofs.work.recorded.Given as goal
 
--- the machine is as it was, and the cells are known as they are in it
+-- the machine is as it was; the cells are known as they are in it, each once, and a run over all its cells asks for them
 abbrev pub invariant-loop-run : goal.invariant-loop-run
 invariant-loop-run l = record {
   same : l.core ≡ l.fn.core;
-  current : are_current (cell_in l.core.scene) l.cells.items ≡ true;
-  kinds : list_all is_of_kind l.cells.items ≡ true;
+  current : are_current (cell_in l.core.scene) l.known ≡ true;
+  once : IsDistinct same_cell (cells_in l.known);
+  asked : are_known (asked_of l.policy.value l.budget l.item (cell_in l.core.scene)) l.known ≡ true;
 }
 
--- the room that is left for known cells
+-- how many of the cells that it asks for aren't known yet
 abbrev pub decreases-loop-run : goal.decreases-loop-run
-decreases-loop-run l = 2 ^ 64 - vec_len l.cells
+decreases-loop-run l = length (asked_of l.policy.value l.budget l.item (cell_in l.core.scene)) - length l.known

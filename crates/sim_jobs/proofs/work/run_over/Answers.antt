@@ -1,13 +1,26 @@
-use Rattle.std.proofs.Common.{◌≡◌, None, subst}
-use Rattle.tree_prune.specs.Stale.{stale_in}
+use Rattle.std.proofs.Common.{◌≡◌, sym, ap, ◌∙◌}
+use Rattle.std.specs.Prelude.{Some}
+use Rattle.policy_lang.specs.TreeOf.{tree_of}
+use Rattle.policy_meaning.specs.Meaning.{meaning}
+use Rattle.policy_meaning.specs.Through.{through, nothing}
 use Rattle.topo_paths.specs.Scenes.{cell_in}
-use Rattle.machine_steps.specs.Machine.{State}
-use Rattle.sim_jobs.proofs.Cells.{given_now}
+use Rattle.sim_jobs.specs.Knowing.{first_unknown}
+use Rattle.sim_jobs.proofs.Cells.{asked_too, is_unknown, not_stale}
 use Rattle.sim_jobs.proofs.work.run_over.Goals as goal
 
-pub returns-in-Ok-clause-cells : goal.returns-in-Ok-clause-cells
-returns-in-Ok-clause-cells c =
-    let before = c.new-view.result.machine.value in
-    let behind = c.record-recorded.new.view.machine.value in
-    let cells = c.in-Ok.run'.cells in
-    subst (λ (m : State). stale_in (cell_in m.scene) cells ≡ None) c.new-view.ensures.machine (given_now (cell_in before.scene) (cell_in behind.scene) cells c.in-Ok.ensures.kept c.in-Ok.ensures.given)
+pub returns-in-None-clause-cells : goal.returns-in-None-clause-cells
+returns-in-None-clause-cells c =
+    not_stale (cell_in c.args.core.now.scene) c.args.known.now c.in-Ok.run'.cells c.requires.current c.in-Ok.ensures.cells (sym c.first_unknown.ensures ∙ c.in-None.is)
+
+pub returns-in-Some-clause-unknown : goal.returns-in-Some-clause-unknown
+returns-in-Some-clause-unknown c = λ cell e.
+    let same : c.in-Some.cell ≡ cell = cc in
+    is_unknown c.args.known.now c.in-Ok.run'.cells cell (sym c.first_unknown.ensures ∙ c.in-Some.is ∙ ap Some same)
+
+pub returns-in-Some-clause-asked : goal.returns-in-Some-clause-asked
+returns-in-Some-clause-asked c = λ cell e.
+    let same : c.in-Some.cell ≡ cell = cc in
+    let known = c.args.known.now in
+    let item = c.args.item.now in
+    asked_too (through (meaning (tree_of c.args.policy.now.body) c.args.budget item.switch) nothing) item.key (cell_in c.args.core.now.scene) known cell c.requires.current
+    (ap (first_unknown known) (sym c.in-Ok.ensures.asked) ∙ sym c.first_unknown.ensures ∙ c.in-Some.is ∙ ap Some same)

@@ -22,9 +22,9 @@ returns-clause-acts c =
     let counts : nat_lt c.args.at (free_count p.pending.items) ≡ true = cc (c.is_free_at.ensures.free) in
     let free = ltb-true c.args.at (free_count p.pending.items) counts in
     let within : c.args.at < length p.pending.items = omega (arith, p.pending.ok.0) in
-    let led : Leads c.index.result.now.body p.table.rules c.change.new.table.rules =
-    subst (λ (b : Bool). MatchBool b (Leads c.index.result.now.body p.table.rules c.change.new.table.rules) (c.change.new.table ≡ p.table)) c.if-not-change.false c.change.ensures in
-    let one = same_at p.pending.items c.args.at c.index.result.now m within c.index.ensures c.remove-xid.ensures.value in
+    let led : Leads c.index-body.result.now.body p.table.rules c.change.new.table.rules =
+    subst (λ (b : Bool). MatchBool b (Leads c.index-body.result.now.body p.table.rules c.change.new.table.rules) (c.change.new.table ≡ p.table)) c.if-not-change.false c.change.ensures.table in
+    let one = same_at p.pending.items c.args.at c.index-body.result.now m within c.index-body.ensures c.remove-xid.ensures.value in
     let said = c.send.ensures ∙ ap (λ ms. ms ++ messages_of (option_map (message m.xid) (option_map body_said c.reply.result))) (ap (map message_sent) c.reserve.ensures.items)
     ∙ ap (λ o. map message_sent p.sent.items ++ messages_of (option_map (message m.xid) o)) c.reply.ensures in (
       refl,
