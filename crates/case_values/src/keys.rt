@@ -93,7 +93,10 @@ pub fn push_key(key: &Key, out: &mut String) -> Result<(), AllocError> {
     let begin = out.len();
     for field in fields() {
         let number = key.get(*field);
-        let is_told = number != 0 && (*field != Field::DlVlan || key.dl_vlan != NO_VLAN);
+        let is_told = match *field {
+            Field::DlVlan => key.dl_vlan != NO_VLAN,
+            _ => number != 0,
+        };
         if is_told {
             push_part(field.name(), number, begin, out)?;
         }

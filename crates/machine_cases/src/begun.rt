@@ -9,12 +9,7 @@ pub trait Begins: Drop {
     fn begin(alloc: Global, words: Words<'_>) -> Result<Self, CaseStop>;
 
     /// Appends the answer to a call.
-    fn tell(
-        &mut self,
-        alloc: Global,
-        call: Words<'_>,
-        out: &mut String,
-    ) -> Result<(), CaseStop>;
+    fn tell(&mut self, alloc: Global, call: Words<'_>, out: &mut String) -> Result<(), CaseStop>;
 }
 
 /// What `new` began, once there was one.

@@ -21,27 +21,18 @@ pub struct Boxed {
 impl Begins for Boxed {
     // new orderly, new logged, new backward, new shuffled SEED, new failing CALL .., whose calls of these numbers fail
     fn begin(alloc: Global, mut words: Words<'_>) -> Result<Boxed, CaseStop> {
-        let kind = words.word();
-        let numbers = words.numbers(alloc)?;
-        let first = numbers.first().copied().unwrap_or(0);
-        let orderly = Orderly::new(alloc, 1, 3, 2);
-        let device: Box<dyn Device + Send> = match kind {
-            "orderly" => Box::new(alloc, orderly)?,
-            "logged" => Box::new(alloc, Logged::new(alloc, orderly))?,
+        let device: Box<dyn Device + Send> = match words.word() {
+            "orderly" => Box::new(alloc, orderly(alloc))?,
+            "logged" => Box::new(alloc, Logged::new(alloc, orderly(alloc)))?,
             "backward" => Box::new(alloc, Backward::new(alloc, 1, 3, 2))?,
-            "shuffled" => Box::new(alloc, Shuffled::new(alloc, 1, 3, 2, first))?,
-            "failing" => Box::new(alloc, Failing::new(orderly, numbers))?,
+            "shuffled" => Box::new(alloc, Shuffled::new(alloc, 1, 3, 2, words.number()?))?,
+            "failing" => Box::new(alloc, Failing::new(orderly(alloc), words.numbers(alloc)?))?,
             _ => return Err(CaseStop::Unread),
         };
         Ok(Boxed { device })
     }
 
-    fn tell(
-        &mut self,
-        alloc: Global,
-        call: Words<'_>,
-        out: &mut String,
-    ) -> Result<(), CaseStop> {
+    fn tell(&mut self, alloc: Global, call: Words<'_>, out: &mut String) -> Result<(), CaseStop> {
         let mut words = call;
         match words.word() {
             "offer" => offer(alloc, &mut self.device, words, out),
@@ -51,6 +42,10 @@ impl Begins for Boxed {
             _ => Err(CaseStop::Unread),
         }
     }
+}
+
+fn orderly(alloc: Global) -> Orderly {
+    Orderly::new(alloc, 1, 3, 2)
 }
 
 // offer BYTES

@@ -54,12 +54,7 @@ impl Begins for Driver {
         })
     }
 
-    fn tell(
-        &mut self,
-        alloc: Global,
-        call: Words<'_>,
-        out: &mut String,
-    ) -> Result<(), CaseStop> {
+    fn tell(&mut self, alloc: Global, call: Words<'_>, out: &mut String) -> Result<(), CaseStop> {
         let mut words = call;
         match words.word() {
             "each" => self.tell_each(alloc, words, out),
@@ -70,7 +65,12 @@ impl Begins for Driver {
 
 impl Driver {
     // Appends the reply to a call, and the lines of the report.
-    fn tell_one(&mut self, alloc: Global, call: Words<'_>, out: &mut String) -> Result<(), CaseStop> {
+    fn tell_one(
+        &mut self,
+        alloc: Global,
+        call: Words<'_>,
+        out: &mut String,
+    ) -> Result<(), CaseStop> {
         let reply = self.reply(alloc, call)?;
         push_reply(alloc, &reply, is_list(call), out)?;
         self.push_report(out)

@@ -20,7 +20,7 @@ pub fn entry_of(alloc: Global, call: Words<'_>) -> Result<Entry, CaseStop>
 {
     let mut words = call;
     match words.word() {
-        "policy" => policy_entry(alloc, words),
+        "policy" => Ok(Entry::NewPolicy(policy_of(alloc, words.rest())?)),
         "packet" | "frame" | "kept" | "padded" => packet_entry(alloc, call),
         "note" => Ok(Entry::Note(note_of(alloc, words)?)),
         "hear" => of_bytes(alloc, words),
@@ -30,13 +30,6 @@ pub fn entry_of(alloc: Global, call: Words<'_>) -> Result<Entry, CaseStop>
         "cell" | "force" | "rules" | "jobs" | "decide" => asking(call),
         _ => change(alloc, call),
     }
-}
-
-// policy POLICY
-fn policy_entry(alloc: Global, words: Words<'_>) -> Result<Entry, CaseStop>
-    ensures { IfOk result (λ entry. IsPlain entry) }
-{
-    Ok(Entry::NewPolicy(policy_of(alloc, words.rest())?))
 }
 
 /// The policy of a text.

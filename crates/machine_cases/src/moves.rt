@@ -15,17 +15,10 @@ pub fn move_of(alloc: Global, call: Words<'_>) -> Result<Move, CaseStop>
 {
     let mut words = call;
     match words.word() {
-        "machine" => machine_move(alloc, words),
+        "machine" => Ok(Move::Machine(entry_of(alloc, words)?)),
         "look" => look_of(alloc, words),
         _ => switch_move(call),
     }
-}
-
-fn machine_move(alloc: Global, words: Words<'_>) -> Result<Move, CaseStop>
-    ensures { IfOk result (λ step. IsPlainMove step) }
-{
-    let entry = entry_of(alloc, words)?;
-    Ok(Move::Machine(entry))
 }
 
 fn look_of(alloc: Global, words: Words<'_>) -> Result<Move, CaseStop>

@@ -71,7 +71,12 @@ fn is_of_kind(cell: &Cell, value: Value) -> bool
 
 /// Runs the policy in force on the packet of a job, and records what it asks. Each cell is read by an entry of its own.
 #[tactic(auto, using(crate::proofs::Kept::lent_run))]
-pub fn recorded(alloc: Global, core: &mut Core, budget: u32, item: &JobItem) -> Result<Run, CaseStop>
+pub fn recorded(
+    alloc: Global,
+    core: &mut Core,
+    budget: u32,
+    item: &JobItem,
+) -> Result<Run, CaseStop>
     requires steps { core.old.settings.budget ≡ budget }
     requires budget { IsBudget budget }
     ensures kept { core.new ≡ core.old }

@@ -39,7 +39,12 @@ fn push_short_reply(reply: &Reply, out: &mut String) -> Result<(), AllocError> {
 }
 
 // The number of a policy, and its printed form in one line.
-fn push_policy(alloc: Global, number: u64, policy: &Policy, out: &mut String) -> Result<(), CaseStop> {
+fn push_policy(
+    alloc: Global,
+    number: u64,
+    policy: &Policy,
+    out: &mut String,
+) -> Result<(), CaseStop> {
     let mut printed = Vec::new(alloc);
     print_policy(policy, &mut printed)?;
     write!(out, "policy {number}")?;

@@ -1,8 +1,8 @@
 // Sessions, call by call: what is heard as bytes, and what is answered and taken out; and plans.
 use crate::heard::push_heard;
 use crate::lists::session_list;
-use crate::plans::push_plan_of;
 use crate::messages::{message_of, push_bytes, push_list};
+use crate::plans::push_plan_of;
 use case_text::{CaseStop, Subject, Words};
 use case_values::actions_of;
 use maple_base::openflow::NO_BUFFER;

@@ -17,12 +17,7 @@ impl Begins for World {
         Ok(World::new(core))
     }
 
-    fn tell(
-        &mut self,
-        alloc: Global,
-        call: Words<'_>,
-        out: &mut String,
-    ) -> Result<(), CaseStop> {
+    fn tell(&mut self, alloc: Global, call: Words<'_>, out: &mut String) -> Result<(), CaseStop> {
         let asked = move_of(alloc, call)?;
         push_moved(alloc, &step_world(self, asked), out)
     }

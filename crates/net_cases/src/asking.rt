@@ -5,7 +5,11 @@ use maple_base::{Cell, EnvNow, Field, Item, Value};
 use topo_paths::Scene;
 
 /// ask ITEMS
-pub fn push_items(items: &mut Vec<Item>, words: Words<'_>, out: &mut String) -> Result<(), CaseStop> {
+pub fn push_items(
+    items: &mut Vec<Item>,
+    words: Words<'_>,
+    out: &mut String,
+) -> Result<(), CaseStop> {
     for word in words.rest().split_whitespace() {
         items.push(item_of(word)?)?;
     }

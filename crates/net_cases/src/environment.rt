@@ -29,7 +29,7 @@ impl Subject for Environment {
         let mut words = call;
         match words.word() {
             "cell?" => tell_cell(&self.env, words, out),
-            "knows?" => tell_known(&self.env, words, out),
+            "knows?" => Ok(push_flag(self.env.knows(words.number()?), out)?),
             "links?" => Ok(push_links(self.env.links(), out)?),
             "many" => make_many(&mut self.env, words, out),
             "copy" => self.take_copy(out),
@@ -65,11 +65,6 @@ fn value_in(env: &Env, cell: Cell) -> Result<Value, CaseStop> {
         Cell::Up { switch, port } => Ok(env.value(Cell::Up { switch, port })),
         Cell::Num { table, key } => Ok(env.value(Cell::Num { table, key })),
     }
-}
-
-// knows? SWITCH
-fn tell_known(env: &Env, mut words: Words<'_>, out: &mut String) -> Result<(), CaseStop> {
-    Ok(push_flag(env.knows(words.number()?), out)?)
 }
 
 // many KIND COUNT: so many hosts, links from switch 1 to switch 2, or numbers of the table `t`, one

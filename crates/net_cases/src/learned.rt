@@ -41,12 +41,15 @@ impl Subject for Learned {
             "many" => push_tests(&mut self.items, words, out),
             "read" => push_cells(&mut self.cells, &self.scene, words, out),
             "add" => self.add(words, out),
-            "retire" => retire(&mut self.tree, words, out),
+            "retire" => Ok(push_flag(self.tree.retire(words.number()?), out)?),
             "keep" => keep(self.alloc, &mut self.tree, words, out),
             "prune" => Ok(write!(out, "{}", prune(&mut self.tree, &self.scene))?),
             "find" => tell_found(&self.tree, words, out),
             "stale?" => tell_stale(&self.tree, &self.scene, words, out),
-            "current?" => tell_is_current(&self.tree, &self.scene, words, out),
+            "current?" => {
+                let leaf = leaf_of(&self.tree, words)?;
+                Ok(push_flag(is_current(leaf, &self.scene), out)?)
+            }
             _ => self.tell(call, out),
         }
     }
@@ -105,13 +108,13 @@ fn decision_of(mut words: Words<'_>) -> Result<Decision, CaseStop> {
     }
 }
 
-// retire NUMBER: whether it was there.
-fn retire(tree: &mut Tree, mut words: Words<'_>, out: &mut String) -> Result<(), CaseStop> {
-    Ok(push_flag(tree.retire(words.number()?), out)?)
-}
-
 // keep NUMBERS: how many others went.
-fn keep(alloc: Global, tree: &mut Tree, words: Words<'_>, out: &mut String) -> Result<(), CaseStop> {
+fn keep(
+    alloc: Global,
+    tree: &mut Tree,
+    words: Words<'_>,
+    out: &mut String,
+) -> Result<(), CaseStop> {
     let kept = words.numbers(alloc)?;
     let gone = tree.retain(|leaf| kept.contains(&leaf.number));
     Ok(write!(out, "{gone}")?)
@@ -132,28 +135,20 @@ fn leaf_of<'a>(tree: &'a Tree, words: Words<'_>) -> Result<&'a Leaf, CaseStop> {
 }
 
 // stale? KEY: the first cell that has another value now.
-fn tell_stale(tree: &Tree, scene: &Scene, words: Words<'_>, out: &mut String) -> Result<(), CaseStop> {
-    match stale(leaf_of(tree, words)?, scene) {
-        Some((cell, was, now)) => push_change(cell, was, now, out),
-        None => Ok(out.push_str("none")?),
-    }
-}
-
-fn push_change(cell: Cell, was: Value, now: Value, out: &mut String) -> Result<(), CaseStop> {
-    push_cell(cell, out)?;
-    out.push_str(" was ")?;
-    push_value(was, out)?;
-    out.push_str(" is ")?;
-    Ok(push_value(now, out)?)
-}
-
-// current? KEY
-fn tell_is_current(
+fn tell_stale(
     tree: &Tree,
     scene: &Scene,
     words: Words<'_>,
     out: &mut String,
 ) -> Result<(), CaseStop> {
-    let leaf = leaf_of(tree, words)?;
-    Ok(push_flag(is_current(leaf, scene), out)?)
+    match stale(leaf_of(tree, words)?, scene) {
+        Some((cell, was, now)) => {
+            push_cell(cell, out)?;
+            out.push_str(" was ")?;
+            push_value(was, out)?;
+            out.push_str(" is ")?;
+            Ok(push_value(now, out)?)
+        }
+        None => Ok(out.push_str("none")?),
+    }
 }

@@ -5,7 +5,9 @@ ghost use Rattle.env_cells.specs.Refusals.{HasRoomForTables};
 use crate::places::push_links;
 use crate::room::has_room;
 use case_text::{CaseStop, Subject, Words};
-use case_values::{cell_of, push_answer, push_decision, push_flag, push_place, push_value, update_of};
+use case_values::{
+    cell_of, push_answer, push_decision, push_flag, push_place, push_value, update_of,
+};
 use env_cells::{Update, UpdateError};
 use maple_base::{Cell, Decision, EnvNow, NoMemory, Path, Place, Value};
 use std::alloc::Global;
@@ -34,7 +36,7 @@ impl Subject for Network {
             "hop?" => tell_hop(self.alloc, &self.scene, words, out),
             "way?" => tell_way(self.alloc, &self.scene, false, words, out),
             "copied_way?" => tell_way(self.alloc, &self.scene, true, words, out),
-            "knows?" => tell_known(&self.scene, words, out),
+            "knows?" => Ok(push_flag(self.scene.knows(words.number()?), out)?),
             "links?" => Ok(push_links(self.scene.links(), out)?),
             "behind?" => tell_behind(self.alloc, &self.scene, words, out),
             "copy" => self.take_copy(out),
@@ -71,15 +73,11 @@ fn tell_hop(
 ) -> Result<(), CaseStop> {
     let from = words.number()?;
     let to = words.number()?;
-    match hop_in(alloc, scene, from, to)? {
+    let hops = Hops::build(alloc, scene.links())?;
+    match hops.hop(from, to) {
         Some(place) => Ok(push_place(place, out)?),
         None => Ok(out.push_str("nothing")?),
     }
-}
-
-fn hop_in(alloc: Global, scene: &Scene, from: u64, to: u64) -> Result<Option<Place>, NoMemory> {
-    let hops = Hops::build(alloc, scene.links())?;
-    Ok(hops.hop(from, to))
 }
 
 // way? FROM TO; copied_way? FROM TO: a copy of the way.
@@ -106,11 +104,6 @@ fn push_way(way: Path, out: &mut String) -> Result<(), CaseStop> {
 fn way_in(alloc: Global, scene: &Scene, from: u64, to: u64) -> Result<Option<Path>, NoMemory> {
     let hops = Hops::build(alloc, scene.links())?;
     hops.path(from, to)
-}
-
-// knows? SWITCH
-fn tell_known(scene: &Scene, mut words: Words<'_>, out: &mut String) -> Result<(), CaseStop> {
-    Ok(push_flag(scene.knows(words.number()?), out)?)
 }
 
 // behind? CELL UPDATE: what the cell has behind the update, which isn't made.
@@ -142,7 +135,12 @@ fn told<E: EnvNow>(env: &E, cell: Cell) -> Value {
 }
 
 // An update.
-fn make(alloc: Global, scene: &mut Scene, call: Words<'_>, out: &mut String) -> Result<(), CaseStop> {
+fn make(
+    alloc: Global,
+    scene: &mut Scene,
+    call: Words<'_>,
+    out: &mut String,
+) -> Result<(), CaseStop> {
     let update = update_of(alloc, call)?;
     push_answer(make_one(scene, &update)?, out)
 }

@@ -1,9 +1,7 @@
 // Keys and matches, names, paths and decisions.
 use crate::decisions::decision_of;
 use case_text::{CaseStop, Subject, Words};
-use case_values::{
-    BLANK, key_of, match_of, push_actions, push_decision, push_flag, with_fields,
-};
+use case_values::{BLANK, key_of, match_of, push_actions, push_decision, push_flag, with_fields};
 use maple_base::{Decision, Field, Key, Match, Name, NoMemory};
 use std::alloc::{AllocError, Global};
 

@@ -39,6 +39,7 @@ impl Subject for Calls {
             "bytes" => bytes(self.alloc, call, out),
             "reread" => reread(self.alloc, call, out),
             "line" => push_read(self.alloc, call.rest().as_bytes(), out),
+            "line_bytes" => push_read(self.alloc, &call.bytes(self.alloc)?, out),
             "comment" => comment(self.alloc, call, out),
             "text" => text(self.alloc, call, out),
             "room" => push_room(self.alloc, &line_of(self.alloc, call)?, out),

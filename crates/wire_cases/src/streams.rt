@@ -42,9 +42,7 @@ fn push_next(next: &Next, out: &mut String) -> Result<(), CaseStop> {
     match next {
         Next::Message(message) => Ok(push_message(message, out)?),
         Next::More => Ok(out.push_str("More")?),
-        Next::Bad { place, bad } => {
-            Ok(write!(out, "{bad:?} from {place}")?)
-        }
+        Next::Bad { place, bad } => { Ok(write!(out, "{bad:?} from {place}")?) }
         Next::NoMemory => Err(CaseStop::NoMemory),
     }
 }
