@@ -9,6 +9,6 @@ pub mod words;
 
 pub use files::{Program, check_file, check_files};
 pub use runs::Subject;
-pub use stop::Stop;
+pub use stop::CaseStop;
 pub use texts::{push_hex, push_text};
 pub use words::Words;

@@ -1,5 +1,5 @@
 // Runs: calls of one value, one after the other.
-use crate::{Stop, Words};
+use crate::{CaseStop, Words};
 use maple_base::NoMemory;
 use std::alloc::Global;
 
@@ -9,7 +9,7 @@ pub trait Subject: Drop {
     fn new(alloc: Global) -> Result<Self, NoMemory>;
 
     /// Appends the answer to a call.
-    fn answer(&mut self, call: Words<'_>, out: &mut String) -> Result<(), Stop>;
+    fn answer(&mut self, call: Words<'_>, out: &mut String) -> Result<(), CaseStop>;
 }
 
 /// How many cases of a text are right. Each wrong one is appended, with the answer that was given.
@@ -61,8 +61,8 @@ fn given<S: Subject>(alloc: Global, subject: &mut S, call: &str) -> Result<Strin
     let mut given = String::new(alloc);
     match subject.answer(Words::new(call), &mut given) {
         Ok(()) => Ok(given),
-        Err(Stop::Unread) => unread(given),
-        Err(Stop::NoMemory) => Err(NoMemory),
+        Err(CaseStop::Unread) => unread(given),
+        Err(CaseStop::NoMemory) => Err(NoMemory),
     }
 }
 

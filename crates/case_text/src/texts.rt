@@ -1,21 +1,21 @@
 // Texts of several lines and bytes, within one line.
-use crate::Stop;
+use crate::CaseStop;
 use std::alloc::{AllocError, Global};
 
-/// Appends a text in one line: `\n` stands for the end of a line, and `\\` for `\`.
-pub fn push_text(text: &str, out: &mut String) -> Result<(), AllocError> {
-    for part in text.chars() {
-        match part {
-            '\n' => out.push_str("\\n")?,
-            '\\' => out.push_str("\\\\")?,
-            _ => out.push(part)?,
+/// Appends bytes in one line, a character each: `\n` stands for the end of a line, and `\\` for `\`.
+pub fn push_text(bytes: &[u8], out: &mut String) -> Result<(), AllocError> {
+    for byte in bytes {
+        match *byte {
+            b'\n' => out.push_str("\\n")?,
+            b'\\' => out.push_str("\\\\")?,
+            plain => out.push(char::from(plain))?,
         }
     }
     Ok(())
 }
 
-/// The text of which `push_text` makes this line.
-pub fn text_of(alloc: Global, line: &str) -> Result<String, Stop> {
+/// The text of a line, in which `\n` stands for the end of a line, and `\\` for `\`.
+pub fn text_of(alloc: Global, line: &str) -> Result<String, CaseStop> {
     let mut text = String::new(alloc);
     let mut is_escaped = false;
     for part in line.chars() {
@@ -30,11 +30,11 @@ pub fn text_of(alloc: Global, line: &str) -> Result<String, Stop> {
                 text.push('\\')?;
                 is_escaped = false;
             }
-            (true, _) => return Err(Stop::Unread),
+            (true, _) => return Err(CaseStop::Unread),
         }
     }
     if is_escaped {
-        Err(Stop::Unread)
+        Err(CaseStop::Unread)
     } else {
         Ok(text)
     }
@@ -49,7 +49,7 @@ pub fn push_hex(bytes: &[u8], out: &mut String) -> Result<(), AllocError> {
 }
 
 /// The bytes that pairs of hexadecimal digits spell, with blanks between them as one likes.
-pub fn bytes_of(alloc: Global, digits: &[u8]) -> Result<Vec<u8>, Stop> {
+pub fn bytes_of(alloc: Global, digits: &[u8]) -> Result<Vec<u8>, CaseStop> {
     let mut bytes = Vec::new(alloc);
     let mut high: Option<u8> = None;
     for byte in digits {
@@ -66,16 +66,16 @@ pub fn bytes_of(alloc: Global, digits: &[u8]) -> Result<Vec<u8>, Stop> {
         }
     }
     if high.is_some() {
-        Err(Stop::Unread)
+        Err(CaseStop::Unread)
     } else {
         Ok(bytes)
     }
 }
 
-fn digit(byte: u8) -> Result<u8, Stop> {
+fn digit(byte: u8) -> Result<u8, CaseStop> {
     match byte {
         b'0'..=b'9' => Ok(byte - b'0'),
         b'a'..=b'f' => Ok(byte - b'a' + 10),
-        _ => Err(Stop::Unread),
+        _ => Err(CaseStop::Unread),
     }
 }

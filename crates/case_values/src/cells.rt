@@ -1,45 +1,43 @@
 // Cells, `host:MAC`, `hop:FROM:TO`, `up:SWITCH:PORT`, `num:TABLE:KEY`, and what they have.
 use crate::updates::name_of;
-use case_text::Stop;
+use case_text::{CaseStop, Words, push_text};
 use maple_base::{Cell, Place, Value};
-use maple_text::value_of;
 use std::alloc::AllocError;
 
 /// The cell that a word is.
-pub fn cell_of(word: &str) -> Result<Cell, Stop> {
-    let (kind, rest) = word.split_once(':').ok_or(Stop::Unread)?;
-    if kind == "host" {
-        return Ok(Cell::Host(number(rest)?));
-    }
-    let (first, second) = rest.split_once(':').ok_or(Stop::Unread)?;
+pub fn cell_of(word: &str) -> Result<Cell, CaseStop> {
+    let (kind, rest) = word.split_once(':').ok_or(CaseStop::Unread)?;
+    let (first, second) = rest.split_once(':').unwrap_or((rest, ""));
+    let key = Words::new(second).number();
     match kind {
+        "host" => Ok(Cell::Host(Words::new(rest).number()?)),
         "hop" => Ok(Cell::Hop {
-            from: number(first)?,
-            to: number(second)?,
+            from: Words::new(first).number()?,
+            to: key?,
         }),
         "up" => Ok(Cell::Up {
-            switch: number(first)?,
-            port: number(second)?,
+            switch: Words::new(first).number()?,
+            port: key?,
         }),
         "num" => Ok(Cell::Num {
             table: name_of(first)?,
-            key: number(second)?,
+            key: key?,
         }),
-        _ => Err(Stop::Unread),
+        _ => Err(CaseStop::Unread),
     }
 }
 
-fn number(word: &str) -> Result<u64, Stop> {
-    value_of(word.as_bytes()).ok_or(Stop::Unread)
-}
-
-/// Appends a cell as `cell_of` reads it, but for its table, which stands as `num:KEY` alone.
+/// Appends a cell as `cell_of` reads it.
 pub fn push_cell(cell: Cell, out: &mut String) -> Result<(), AllocError> {
     match cell {
         Cell::Host(mac) => write!(out, "host:{mac}"),
         Cell::Hop { from, to } => write!(out, "hop:{from}:{to}"),
         Cell::Up { switch, port } => write!(out, "up:{switch}:{port}"),
-        Cell::Num { key, .. } => write!(out, "num:{key}"),
+        Cell::Num { table, key } => {
+            out.push_str("num:")?;
+            push_text(table.text(), out)?;
+            write!(out, ":{key}")
+        }
     }
 }
 

@@ -1,11 +1,11 @@
-// Questions with their answers.
-use crate::keys::field_and_number;
-use case_text::Stop;
+// Questions with their answers: `field=number?yes`, `field=number?no`, or `field=number`, where the field's number was asked for.
+use crate::matches::field_and_number;
+use case_text::{CaseStop, Words};
 use maple_base::Item;
+use std::alloc::AllocError;
 
-/// The question that a word is, with its answer: `field=number?yes`, `field=number?no`, or
-/// `field=number`, where the field's number was asked for.
-pub fn item_of(word: &str) -> Result<Item, Stop> {
+/// The question that a word is, with its answer.
+pub fn item_of(word: &str) -> Result<Item, CaseStop> {
     match word.split_once('?') {
         None => {
             let (field, value) = field_and_number(word)?;
@@ -13,7 +13,7 @@ pub fn item_of(word: &str) -> Result<Item, Stop> {
         }
         Some((question, answer)) => {
             let (field, value) = field_and_number(question)?;
-            let outcome = answer_of(answer)?;
+            let outcome = Words::new(answer).flag()?;
             Ok(Item::Test {
                 field,
                 value,
@@ -23,10 +23,17 @@ pub fn item_of(word: &str) -> Result<Item, Stop> {
     }
 }
 
-fn answer_of(word: &str) -> Result<bool, Stop> {
-    match word {
-        "yes" => Ok(true),
-        "no" => Ok(false),
-        _ => Err(Stop::Unread),
+/// Appends a question with its answer as `item_of` reads it.
+pub fn push_item(item: &Item, out: &mut String) -> Result<(), AllocError> {
+    match *item {
+        Item::Read { field, value } => write!(out, "{}={value}", field.name()),
+        Item::Test {
+            field,
+            value,
+            outcome,
+        } => {
+            let answer = if outcome { "yes" } else { "no" };
+            write!(out, "{}={value}?{answer}", field.name())
+        }
     }
 }

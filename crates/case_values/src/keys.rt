@@ -1,11 +1,11 @@
 // Keys: `BASE FIELD=NUMBER ..`, a base and the fields in which the key differs from it.
-use case_text::{Stop, Words};
-use maple_base::{Field, IP_TYPE, Key, NO_VLAN};
-use maple_text::value_of;
+use crate::matches::{fields, push_part, with_part};
+use case_text::{CaseStop, Words};
+use maple_base::{Field, IP_TYPE, Key, Match, NO_VLAN};
 use std::alloc::AllocError;
 
-// No tag, and 0 in each other field.
-const BLANK: Key = Key {
+/// The key without a tag, and with 0 in each other field.
+pub const BLANK: Key = Key {
     in_port: 0,
     dl_src: 0,
     dl_dst: 0,
@@ -54,107 +54,58 @@ const ARP: Key = Key {
 };
 
 /// The key that a base (`blank`, `web`, `ospf`, `arp`) and all further words, each `field=number`, are.
-pub fn key_of(mut words: Words<'_>) -> Result<Key, Stop> {
+pub fn key_of(mut words: Words<'_>) -> Result<Key, CaseStop> {
     let base = match words.word() {
         "blank" => BLANK,
         "web" => WEB,
         "ospf" => OSPF,
         "arp" => ARP,
-        _ => return Err(Stop::Unread),
+        _ => return Err(CaseStop::Unread),
     };
     with_fields(base, words)
 }
 
 /// A key with the numbers that all words, each `field=number`, give.
-pub fn with_fields(base: Key, words: Words<'_>) -> Result<Key, Stop> {
-    let mut key = base;
+pub fn with_fields(base: Key, words: Words<'_>) -> Result<Key, CaseStop> {
+    let mut of = Match::any();
     for word in words.rest().split_whitespace() {
-        key = with_field(key, word)?;
+        of = with_part(of, word)?;
     }
-    Ok(key)
+    Ok(Key {
+        in_port: of.in_port.unwrap_or(base.in_port),
+        dl_src: of.dl_src.unwrap_or(base.dl_src),
+        dl_dst: of.dl_dst.unwrap_or(base.dl_dst),
+        dl_vlan: of.dl_vlan.unwrap_or(base.dl_vlan),
+        dl_pcp: of.dl_pcp.unwrap_or(base.dl_pcp),
+        dl_type: of.dl_type.unwrap_or(base.dl_type),
+        nw_tos: of.nw_tos.unwrap_or(base.nw_tos),
+        nw_proto: of.nw_proto.unwrap_or(base.nw_proto),
+        nw_src: of.nw_src.unwrap_or(base.nw_src),
+        nw_dst: of.nw_dst.unwrap_or(base.nw_dst),
+        tp_src: of.tp_src.unwrap_or(base.tp_src),
+        tp_dst: of.tp_dst.unwrap_or(base.tp_dst),
+    })
 }
 
-fn with_field(key: Key, word: &str) -> Result<Key, Stop> {
-    if let Some(priority) = word.strip_prefix("dl_pcp=") {
-        let dl_pcp = u8::try_from(value_of(priority.as_bytes()).ok_or(Stop::Unread)?)?;
-        return Ok(Key { dl_pcp, ..key });
-    }
-    let (field, value) = field_and_number(word)?;
-    let mut new = key;
-    match field {
-        Field::InPort => new.in_port = u16::try_from(value)?,
-        Field::DlSrc => new.dl_src = value,
-        Field::DlDst => new.dl_dst = value,
-        Field::DlVlan => new.dl_vlan = u16::try_from(value)?,
-        Field::DlType => new.dl_type = u16::try_from(value)?,
-        Field::NwTos => new.nw_tos = u8::try_from(value)?,
-        Field::NwProto => new.nw_proto = u8::try_from(value)?,
-        Field::NwSrc => new.nw_src = u32::try_from(value)?,
-        Field::NwDst => new.nw_dst = u32::try_from(value)?,
-        Field::TpSrc => new.tp_src = u16::try_from(value)?,
-        Field::TpDst => new.tp_dst = u16::try_from(value)?,
-    }
-    Ok(new)
-}
-
-/// The field and the number of a word `field=number`.
-pub fn field_and_number(word: &str) -> Result<(Field, u64), Stop> {
-    let (name, value) = word.split_once('=').ok_or(Stop::Unread)?;
-    let field = Field::named(name.as_bytes()).ok_or(Stop::Unread)?;
-    let number = value_of(value.as_bytes()).ok_or(Stop::Unread)?;
-    Ok((field, number))
-}
-
-/// Appends a key: `field=number` for each number that isn't 0, and the VLAN where the key has a tag,
-/// in the order of its fields, with blanks between; `blank`, where there is none.
+/// Appends a key as a match is written, without a number that is 0 and a VLAN that says that there is none; `blank`, where
+/// nothing is left.
 pub fn push_key(key: &Key, out: &mut String) -> Result<(), AllocError> {
     let begin = out.len();
-    push_number("in_port", key.in_port as u64, begin, out)?;
-    push_number("dl_src", key.dl_src, begin, out)?;
-    push_number("dl_dst", key.dl_dst, begin, out)?;
-    push_tag(key, begin, out)?;
-    push_net(key, begin, out)?;
+    for field in fields() {
+        let number = key.get(*field);
+        let is_told = match *field {
+            Field::DlVlan => key.dl_vlan != NO_VLAN,
+            _ => number != 0,
+        };
+        if is_told {
+            push_part(field.name(), number, begin, out)?;
+        }
+    }
+    if key.dl_pcp != 0 {
+        push_part("dl_pcp", key.dl_pcp as u64, begin, out)?;
+    }
     if out.len() == begin {
         out.push_str("blank")?;
     }
     Ok(())
-}
-
-fn push_tag(key: &Key, begin: usize, out: &mut String) -> Result<(), AllocError> {
-    if key.dl_vlan != NO_VLAN {
-        push_blank(begin, out)?;
-        write!(out, "dl_vlan={} dl_pcp={}", key.dl_vlan, key.dl_pcp)?;
-    } else {
-        push_number("dl_pcp", key.dl_pcp as u64, begin, out)?;
-    }
-    if key.dl_type != 0 {
-        push_blank(begin, out)?;
-        write!(out, "dl_type=0x{:04x}", key.dl_type)?;
-    }
-    Ok(())
-}
-
-fn push_net(key: &Key, begin: usize, out: &mut String) -> Result<(), AllocError> {
-    push_number("nw_tos", key.nw_tos as u64, begin, out)?;
-    push_number("nw_proto", key.nw_proto as u64, begin, out)?;
-    push_number("nw_src", key.nw_src as u64, begin, out)?;
-    push_number("nw_dst", key.nw_dst as u64, begin, out)?;
-    push_number("tp_src", key.tp_src as u64, begin, out)?;
-    push_number("tp_dst", key.tp_dst as u64, begin, out)
-}
-
-fn push_blank(begin: usize, out: &mut String) -> Result<(), AllocError> {
-    if begin < out.len() {
-        out.push_str(" ")
-    } else {
-        Ok(())
-    }
-}
-
-fn push_number(name: &str, number: u64, begin: usize, out: &mut String) -> Result<(), AllocError> {
-    if number == 0 {
-        return Ok(());
-    }
-    push_blank(begin, out)?;
-    write!(out, "{name}={number}")
 }

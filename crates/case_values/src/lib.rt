@@ -1,7 +1,8 @@
-//! Keys, matches, rules, questions, cells and updates as words of cases: how they are read, and how they are written.
+//! Keys, matches, rules, decisions, questions, cells and updates as words of cases: how they are read, and how they are written.
 #![tactic(auto)]
 
 pub mod cells;
+pub mod decisions;
 pub mod items;
 pub mod keys;
 pub mod matches;
@@ -9,8 +10,9 @@ pub mod rules;
 pub mod updates;
 
 pub use cells::{cell_of, push_cell, push_flag, push_place, push_value};
-pub use items::item_of;
-pub use keys::{field_and_number, key_of, push_key, with_fields};
+pub use decisions::{push_decision, push_hops, push_outcome};
+pub use items::{item_of, push_item};
+pub use keys::{BLANK, key_of, push_key, with_fields};
 pub use matches::{match_of, push_match};
 pub use rules::{actions_of, push_actions, push_rule, rule_of, rules_of};
-pub use updates::{name_of, push_answer, push_refusal, update_of};
+pub use updates::{name_of, push_answer, update_of};

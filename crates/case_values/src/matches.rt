@@ -1,12 +1,10 @@
 // Matches: `any`, or `FIELD=NUMBER,FIELD=NUMBER,..`.
-use crate::keys::field_and_number;
-use case_text::Stop;
+use case_text::{CaseStop, Words};
 use maple_base::{Field, Match};
-use maple_text::value_of;
 use std::alloc::AllocError;
 
 /// The match that a word is.
-pub fn match_of(word: &str) -> Result<Match, Stop> {
+pub fn match_of(word: &str) -> Result<Match, CaseStop> {
     let mut of = Match::any();
     if word == "any" {
         return Ok(of);
@@ -17,16 +15,14 @@ pub fn match_of(word: &str) -> Result<Match, Stop> {
     Ok(of)
 }
 
-fn with_part(of: Match, part: &str) -> Result<Match, Stop> {
+/// A match that fixes besides what `FIELD=NUMBER` tells.
+pub fn with_part(of: Match, part: &str) -> Result<Match, CaseStop> {
+    let mut new = of;
     if let Some(priority) = part.strip_prefix("dl_pcp=") {
-        let dl_pcp = u8::try_from(value_of(priority.as_bytes()).ok_or(Stop::Unread)?)?;
-        return Ok(Match {
-            dl_pcp: Some(dl_pcp),
-            ..of
-        });
+        new.dl_pcp = Some(Words::new(priority).number_u8()?);
+        return Ok(new);
     }
     let (field, value) = field_and_number(part)?;
-    let mut new = of;
     match field {
         Field::InPort => new.in_port = Some(u16::try_from(value)?),
         Field::DlSrc => new.dl_src = Some(value),
@@ -43,36 +39,30 @@ fn with_part(of: Match, part: &str) -> Result<Match, Stop> {
     Ok(new)
 }
 
-fn fields() -> &'static [(Field, &'static str)] {
+/// The field and the number of a word `FIELD=NUMBER`.
+pub fn field_and_number(word: &str) -> Result<(Field, u64), CaseStop> {
+    let (name, value) = word.split_once('=').ok_or(CaseStop::Unread)?;
+    let field = Field::named(name.as_bytes()).ok_or(CaseStop::Unread)?;
+    Ok((field, Words::new(value).number()?))
+}
+
+/// The fields, in their order.
+pub fn fields() -> &'static [Field] {
     FIELDS
 }
 
-const FIELDS: &[(Field, &str)] = &[
-    (Field::InPort, "in_port"),
-    (Field::DlSrc, "dl_src"),
-    (Field::DlDst, "dl_dst"),
-    (Field::DlVlan, "dl_vlan"),
-    (Field::DlType, "dl_type"),
-    (Field::NwTos, "nw_tos"),
-    (Field::NwProto, "nw_proto"),
-    (Field::NwSrc, "nw_src"),
-    (Field::NwDst, "nw_dst"),
-    (Field::TpSrc, "tp_src"),
-    (Field::TpDst, "tp_dst"),
-];
+const FIELDS: &[Field] = &Field::ALL;
 
 /// Appends a match as `match_of` reads it, its fields in their order and `dl_pcp` last, its numbers in decimal digits.
 pub fn push_match(of: &Match, out: &mut String) -> Result<(), AllocError> {
     let begin = out.len();
-    for (field, name) in fields() {
+    for field in fields() {
         if let Some(value) = of.fixed(*field) {
-            push_comma(begin, out)?;
-            write!(out, "{name}={value}")?;
+            push_part(field.name(), value, begin, out)?;
         }
     }
     if let Some(value) = of.dl_pcp {
-        push_comma(begin, out)?;
-        write!(out, "dl_pcp={value}")?;
+        push_part("dl_pcp", value as u64, begin, out)?;
     }
     if out.len() == begin {
         out.push_str("any")?;
@@ -80,10 +70,13 @@ pub fn push_match(of: &Match, out: &mut String) -> Result<(), AllocError> {
     Ok(())
 }
 
-fn push_comma(begin: usize, out: &mut String) -> Result<(), AllocError> {
-    if begin < out.len() {
-        out.push_str(",")
-    } else {
-        Ok(())
-    }
+/// Appends `FIELD=NUMBER`, behind a comma where something stands behind `begin`.
+pub fn push_part(
+    name: &str,
+    number: u64,
+    begin: usize,
+    out: &mut String,
+) -> Result<(), AllocError> {
+    let comma = if begin < out.len() { "," } else { "" };
+    write!(out, "{comma}{name}={number}")
 }

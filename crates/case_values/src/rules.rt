@@ -1,58 +1,47 @@
 // Rules: `PRIORITY ACTIONS MATCH`. Actions are `drop`, `barrier`, which sends to the controller, or
 // `out1+2`; an idle time stands behind `/`, and a cookie behind another.
 use crate::matches::{match_of, push_match};
-use case_text::{Stop, Words};
+use case_text::{CaseStop, Words};
 use maple_base::{Actions, CONTROLLER_PORT, Rule};
-use maple_text::value_of;
 use std::alloc::{AllocError, Global};
 
 /// The rule that the next three words are.
-pub fn rule_of(words: &mut Words<'_>) -> Result<Rule, Stop> {
+pub fn rule_of(alloc: Global, words: &mut Words<'_>) -> Result<Rule, CaseStop> {
     let priority = words.number_u16()?;
-    let (actions, rest) = split(words.word());
-    let (idle, cookie) = split(rest);
+    let word = words.word();
+    let (actions, rest) = word.split_once('/').unwrap_or((word, "0"));
+    let (idle, cookie) = rest.split_once('/').unwrap_or((rest, "0"));
     Ok(Rule {
         of: match_of(words.word())?,
         priority,
-        actions: actions_of(actions)?,
-        cookie: number_or_none(cookie)?,
-        idle: u16::try_from(number_or_none(idle)?)?,
+        actions: actions_of(alloc, actions)?,
+        cookie: Words::new(cookie).number()?,
+        idle: Words::new(idle).number_u16()?,
     })
 }
 
-fn split(word: &str) -> (&str, &str) {
-    word.split_once('/').unwrap_or((word, ""))
-}
-
-fn number_or_none(word: &str) -> Result<u64, Stop> {
-    if word.is_empty() {
-        return Ok(0);
-    }
-    value_of(word.as_bytes()).ok_or(Stop::Unread)
-}
-
-/// The actions that a word names.
-pub fn actions_of(word: &str) -> Result<Actions, Stop> {
+/// The actions that a word names, at most 16.
+pub fn actions_of(alloc: Global, word: &str) -> Result<Actions, CaseStop> {
     match word {
         "drop" => Ok(Actions::new(&[])),
         "barrier" => Ok(Actions::new(&[CONTROLLER_PORT])),
-        _ => outputs_of(word.strip_prefix("out").ok_or(Stop::Unread)?),
+        _ => outputs_of(alloc, word.strip_prefix("out").ok_or(CaseStop::Unread)?),
     }
 }
 
-fn outputs_of(ports: &str) -> Result<Actions, Stop> {
-    match ports.split_once('+') {
-        None => Ok(Actions::new(&[port_of(ports)?])),
-        Some((first, second)) => Ok(Actions::new(&[port_of(first)?, port_of(second)?])),
+fn outputs_of(alloc: Global, ports: &str) -> Result<Actions, CaseStop> {
+    let mut list = Vec::new(alloc);
+    for port in ports.split('+') {
+        list.push(Words::new(port).number_u16()?)?;
     }
-}
-
-fn port_of(word: &str) -> Result<u16, Stop> {
-    Ok(u16::try_from(value_of(word.as_bytes()).ok_or(Stop::Unread)?)?)
+    if list.len() > 16 {
+        return Err(CaseStop::Unread);
+    }
+    Ok(Actions::new(&list))
 }
 
 /// The rules that all words are: those of the actions `barrier` apart, as barriers.
-pub fn rules_of(alloc: Global, words: Words<'_>) -> Result<(Vec<Rule>, Vec<Rule>), Stop> {
+pub fn rules_of(alloc: Global, words: Words<'_>) -> Result<(Vec<Rule>, Vec<Rule>), CaseStop> {
     let mut facts = Vec::new(alloc);
     let mut barriers = Vec::new(alloc);
     let mut left = words;
@@ -60,7 +49,7 @@ pub fn rules_of(alloc: Global, words: Words<'_>) -> Result<(Vec<Rule>, Vec<Rule>
         if left.is_empty() {
             break;
         }
-        let rule = rule_of(&mut left)?;
+        let rule = rule_of(alloc, &mut left)?;
         if rule.actions.items() == [CONTROLLER_PORT].as_slice() {
             barriers.push(rule)?;
         } else {
@@ -70,16 +59,15 @@ pub fn rules_of(alloc: Global, words: Words<'_>) -> Result<(Vec<Rule>, Vec<Rule>
     Ok((facts, barriers))
 }
 
-/// Appends actions as `rule_of` reads them.
+/// Appends actions as `actions_of` reads them.
 pub fn push_actions(actions: &Actions, out: &mut String) -> Result<(), AllocError> {
-    match actions.items() {
-        [] => out.push_str("drop"),
-        [port] if *port == CONTROLLER_PORT => out.push_str("barrier"),
-        ports => push_outputs(ports, out),
+    let ports = actions.items();
+    if ports.is_empty() {
+        return out.push_str("drop");
     }
-}
-
-fn push_outputs(ports: &[u16], out: &mut String) -> Result<(), AllocError> {
+    if ports == [CONTROLLER_PORT].as_slice() {
+        return out.push_str("barrier");
+    }
     let mut sign = "out";
     for port in ports {
         write!(out, "{sign}{port}")?;

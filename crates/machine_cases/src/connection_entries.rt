@@ -4,7 +4,7 @@ ghost use Rattle.machine_steps.specs.Admitting.{IsHeard};
 ghost use Rattle.machine_cases.specs.Entries.{IsPlain};
 
 use crate::messages::message_of;
-use case_text::{Stop, Words};
+use case_text::{CaseStop, Words};
 use machine_steps::{Entry, Input};
 use of10_codec::Bad;
 use std::alloc::Global;
@@ -14,7 +14,7 @@ const ZEROS: &[u8] = &[0, 0, 0, 0, 0, 0, 0, 0, 0, 0, 0, 0, 0, 0, 0, 0];
 
 /// The entry of a connection that opens, brings no message, ends, or whose messages are taken: `open C`, `bad C PLACE FAULT`,
 /// `gone C`, `fault C`, `take C`, `list C`.
-pub fn connection_entry(call: Words<'_>) -> Result<Entry, Stop>
+pub fn connection_entry(call: Words<'_>) -> Result<Entry, CaseStop>
     ensures { IfOk result (λ entry. IsPlain entry) }
 {
     let mut words = call;
@@ -35,7 +35,7 @@ pub fn connection_entry(call: Words<'_>) -> Result<Entry, Stop>
     }
 }
 
-fn of_no_message(connection: u32, mut words: Words<'_>) -> Result<Entry, Stop>
+fn of_no_message(connection: u32, mut words: Words<'_>) -> Result<Entry, CaseStop>
     ensures { IfOk result (λ entry. IsPlain entry) }
 {
     let place = words.number()?;
@@ -44,7 +44,7 @@ fn of_no_message(connection: u32, mut words: Words<'_>) -> Result<Entry, Stop>
 }
 
 // `short`, `version`, `length`, or `body TYPE OFFSET`
-fn bad_of(mut words: Words<'_>) -> Result<Bad, Stop> {
+fn bad_of(mut words: Words<'_>) -> Result<Bad, CaseStop> {
     match words.word() {
         "short" => Ok(Bad::Short),
         "version" => Ok(Bad::Version),
@@ -53,12 +53,12 @@ fn bad_of(mut words: Words<'_>) -> Result<Bad, Stop> {
             kind: words.number_u8()?,
             offset: words.number_u16()?,
         }),
-        _ => Err(Stop::Unread),
+        _ => Err(CaseStop::Unread),
     }
 }
 
 /// `hear C BYTES`
-pub fn of_bytes(alloc: Global, mut words: Words<'_>) -> Result<Entry, Stop>
+pub fn of_bytes(alloc: Global, mut words: Words<'_>) -> Result<Entry, CaseStop>
     ensures { IfOk result (λ entry. IsPlain entry) }
 {
     let connection = words.number_u32()?;
@@ -67,7 +67,7 @@ pub fn of_bytes(alloc: Global, mut words: Words<'_>) -> Result<Entry, Stop>
 }
 
 /// The entry of a connection that brings the message of these bytes.
-pub fn heard(alloc: Global, connection: u32, bytes: &[u8]) -> Result<Entry, Stop>
+pub fn heard(alloc: Global, connection: u32, bytes: &[u8]) -> Result<Entry, CaseStop>
     ensures { IfOk result (λ entry. IsPlain entry) }
 {
     let message = message_of(alloc, bytes)?;
@@ -75,7 +75,7 @@ pub fn heard(alloc: Global, connection: u32, bytes: &[u8]) -> Result<Entry, Stop
 }
 
 /// `features C SWITCH PORTS`: a FEATURES_REPLY with this number comes, of a switch whose ports are up. They count from 1 on.
-pub fn of_features(alloc: Global, xid: u32, mut words: Words<'_>) -> Result<Entry, Stop>
+pub fn of_features(alloc: Global, xid: u32, mut words: Words<'_>) -> Result<Entry, CaseStop>
     ensures { IfOk result (λ entry. IsPlain entry) }
 {
     let connection = words.number_u32()?;
@@ -85,7 +85,7 @@ pub fn of_features(alloc: Global, xid: u32, mut words: Words<'_>) -> Result<Entr
     heard(alloc, connection, &bytes)
 }
 
-fn features(alloc: Global, xid: u32, dpid: u64, ports: u16) -> Result<Vec<u8>, Stop> {
+fn features(alloc: Global, xid: u32, dpid: u64, ports: u16) -> Result<Vec<u8>, CaseStop> {
     let len = u16::try_from(32 + 48 * u32::from(ports))?;
     let mut bytes = Vec::new(alloc);
     bytes.extend_from_slice(&[1, 6])?;

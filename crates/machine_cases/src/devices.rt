@@ -1,58 +1,51 @@
-// Devices, call by call.
-use crate::kinds::Made;
+// Devices in boxes, call by call.
+use crate::begun::Begins;
 use crate::messages::push_sent;
 use crate::offers::is_offer;
-use case_text::{Stop, Subject, Words};
+use case_text::{CaseStop, Words};
+use case_values::push_actions;
 use device_port::{Device, Took};
-use maple_base::{NoMemory, Seen, Turned};
-use std::alloc::{AllocError, Global};
+use maple_base::Seen;
+use model_switch::{Backward, Failing, Logged, Orderly, Shuffled};
+use std::alloc::Global;
 
 // The most bytes of a frame.
 const MOST_BYTES: usize = 65_517;
 
-/// A device, once `device` made it.
+/// A device with the datapath id 1, three ports and room for two rules.
 #[derive(Drop)]
-pub struct Devices<D: Made> {
-    alloc: Global,
-    device: Option<D>,
+pub struct Boxed {
+    device: Box<dyn Device + Send>,
 }
 
-impl<D: Made> Subject for Devices<D> {
-    fn new(alloc: Global) -> Result<Devices<D>, NoMemory> {
-        Ok(Devices {
-            alloc,
-            device: None,
-        })
+impl Begins for Boxed {
+    // new orderly, new logged, new backward, new shuffled SEED, new failing CALL .., whose calls of these numbers fail
+    fn begin(alloc: Global, mut words: Words<'_>) -> Result<Boxed, CaseStop> {
+        let device: Box<dyn Device + Send> = match words.word() {
+            "orderly" => Box::new(alloc, orderly(alloc))?,
+            "logged" => Box::new(alloc, Logged::new(alloc, orderly(alloc)))?,
+            "backward" => Box::new(alloc, Backward::new(alloc, 1, 3, 2))?,
+            "shuffled" => Box::new(alloc, Shuffled::new(alloc, 1, 3, 2, words.number()?))?,
+            "failing" => Box::new(alloc, Failing::new(orderly(alloc), words.numbers(alloc)?))?,
+            _ => return Err(CaseStop::Unread),
+        };
+        Ok(Boxed { device })
     }
 
-    fn answer(&mut self, call: Words<'_>, out: &mut String) -> Result<(), Stop> {
+    fn tell(&mut self, alloc: Global, call: Words<'_>, out: &mut String) -> Result<(), CaseStop> {
         let mut words = call;
-        if words.word() == "device" {
-            self.device = Some(D::made(self.alloc, words)?);
-            return Ok(out.push_str("ok")?);
-        }
-        match &mut self.device {
-            Some(device) => tell(self.alloc, device, call, out),
-            None => Err(Stop::Unread),
+        match words.word() {
+            "offer" => offer(alloc, &mut self.device, words, out),
+            "turn" => turn(alloc, &mut self.device, out),
+            "packet" => packet(alloc, &mut self.device, words, out),
+            "faults" => Ok(write!(out, "{}", self.device.faults())?),
+            _ => Err(CaseStop::Unread),
         }
     }
 }
 
-/// Appends the answer to a call.
-pub fn tell<D: Device>(
-    alloc: Global,
-    device: &mut D,
-    call: Words<'_>,
-    out: &mut String,
-) -> Result<(), Stop> {
-    let mut words = call;
-    match words.word() {
-        "offer" => offer(alloc, device, words, out),
-        "turn" => turn(alloc, device, out),
-        "packet" => packet(alloc, device, words, out),
-        "faults" => Ok(write!(out, "{}", device.faults())?),
-        _ => Err(Stop::Unread),
-    }
+fn orderly(alloc: Global) -> Orderly {
+    Orderly::new(alloc, 1, 3, 2)
 }
 
 // offer BYTES
@@ -61,34 +54,24 @@ fn offer<D: Device>(
     device: &mut D,
     words: Words<'_>,
     out: &mut String,
-) -> Result<(), Stop> {
+) -> Result<(), CaseStop> {
     let message = words.bytes(alloc)?;
     if !is_offer(alloc, &message) {
-        return Err(Stop::Unread);
+        return Err(CaseStop::Unread);
     }
     match device.offer(&message) {
         Took::Taken => Ok(out.push_str("taken")?),
         Took::Failed => Ok(out.push_str("failed")?),
-        Took::NoMemory => Err(Stop::NoMemory),
+        Took::NoMemory => Err(CaseStop::NoMemory),
     }
 }
 
 // turn: what was done, and the bytes that are sent.
-fn turn<D: Device>(alloc: Global, device: &mut D, out: &mut String) -> Result<(), Stop> {
+fn turn<D: Device>(alloc: Global, device: &mut D, out: &mut String) -> Result<(), CaseStop> {
     let mut sent = Vec::new(alloc);
     let turned = device.turn(&mut sent);
-    push_turned(turned, out)?;
+    write!(out, "{turned:?}")?;
     Ok(push_sent(&sent, out)?)
-}
-
-fn push_turned(turned: Turned, out: &mut String) -> Result<(), AllocError> {
-    match turned {
-        Turned::Nothing => out.push_str("nothing"),
-        Turned::Processed { xid } => write!(out, "processed {xid}"),
-        Turned::Refused { xid } => write!(out, "refused {xid}"),
-        Turned::Failed => out.push_str("failed"),
-        Turned::NoMemory => out.push_str("no memory"),
-    }
 }
 
 // packet PORT BYTES
@@ -97,11 +80,11 @@ fn packet<D: Device>(
     device: &mut D,
     mut words: Words<'_>,
     out: &mut String,
-) -> Result<(), Stop> {
+) -> Result<(), CaseStop> {
     let port = words.number_u16()?;
     let frame = words.bytes(alloc)?;
     if frame.len() > MOST_BYTES {
-        return Err(Stop::Unread);
+        return Err(CaseStop::Unread);
     }
     let mut sent = Vec::new(alloc);
     let seen = device.packet(port, &frame, &mut sent);
@@ -109,19 +92,15 @@ fn packet<D: Device>(
     Ok(push_sent(&sent, out)?)
 }
 
-fn push_seen(seen: Seen, out: &mut String) -> Result<(), AllocError> {
+/// Appends what a packet met: `hit ACTIONS`, `miss REASON` or `failed`.
+pub fn push_seen(seen: Seen, out: &mut String) -> Result<(), CaseStop> {
     match seen {
-        Seen::Hit(actions) => push_hit(actions.items(), out),
-        Seen::Miss { reason } => write!(out, "miss {reason}"),
-        Seen::Failed => out.push_str("failed"),
-        Seen::NoMemory => out.push_str("no memory"),
+        Seen::Hit(actions) => {
+            out.push_str("hit ")?;
+            Ok(push_actions(&actions, out)?)
+        }
+        Seen::Miss { reason } => Ok(write!(out, "miss {reason}")?),
+        Seen::Failed => Ok(out.push_str("failed")?),
+        Seen::NoMemory => Err(CaseStop::NoMemory),
     }
-}
-
-fn push_hit(ports: &[u16], out: &mut String) -> Result<(), AllocError> {
-    out.push_str("hit")?;
-    for port in ports {
-        write!(out, " {port}")?;
-    }
-    Ok(())
 }

@@ -3,12 +3,13 @@ ghost use Rattle.std.specs.Prelude.{◌≡◌, ℕ, IfSome, Contains};
 ghost use Rattle.trace_record.specs.Runs.{Recorded};
 ghost use Rattle.machine_cases.specs.Entries.{IsPlain};
 
+use crate::begun::Begins;
 use crate::connection_entries::{heard, of_features};
 use crate::entries::entry_of;
 use crate::limits::{core_of, settings_of};
 use crate::recording::recorded;
 use crate::replies::{push_lines, push_reply};
-use case_text::{Stop, Words};
+use case_text::{CaseStop, Words};
 use core_machine::{Core, Entry, JobItem, Reply};
 use std::alloc::{AllocError, Global};
 use std::marker::Model;
@@ -39,39 +40,54 @@ impl Model for Driver {
     ghost invariant = { λ a. IsDriven a.core a.budget a.runs.items };
 }
 
-/// new CAPACITY LEVELS BUDGET POLICY
-pub fn driver_of(alloc: Global, call: Words<'_>) -> Result<Driver, Stop> {
-    let mut words = call;
-    let settings = settings_of(&mut words)?;
-    let core = core_of(alloc, settings, words.rest())?;
-    Ok(Driver {
-        core,
-        budget: settings.budget,
-        items: Vec::new(alloc),
-        runs: Vec::new(alloc),
-    })
+impl Begins for Driver {
+    // new CAPACITY LEVELS BUDGET POLICY
+    fn begin(alloc: Global, call: Words<'_>) -> Result<Driver, CaseStop> {
+        let mut words = call;
+        let settings = settings_of(&mut words)?;
+        let core = core_of(alloc, settings, words.rest())?;
+        Ok(Driver {
+            core,
+            budget: settings.budget,
+            items: Vec::new(alloc),
+            runs: Vec::new(alloc),
+        })
+    }
+
+    fn tell(&mut self, alloc: Global, call: Words<'_>, out: &mut String) -> Result<(), CaseStop> {
+        let mut words = call;
+        match words.word() {
+            "each" => self.tell_each(alloc, words, out),
+            _ => self.tell_one(alloc, call, out),
+        }
+    }
 }
 
 impl Driver {
-    /// Appends the reply to a call, and the lines of the report.
-    pub fn tell(&mut self, alloc: Global, call: Words<'_>, out: &mut String) -> Result<(), Stop> {
+    // Appends the reply to a call, and the lines of the report.
+    fn tell_one(
+        &mut self,
+        alloc: Global,
+        call: Words<'_>,
+        out: &mut String,
+    ) -> Result<(), CaseStop> {
         let reply = self.reply(alloc, call)?;
         push_reply(alloc, &reply, is_list(call), out)?;
         self.push_report(out)
     }
 
-    /// each A B CALL -> ANSWER: makes the call for each number from A up to B, which stands in the place of each `#` of the call and
-    /// of its answer. Appends the first number for which another answer came, with that answer.
-    pub fn tell_each(
+    // each A B CALL -> ANSWER: makes the call for each number from A up to B, which stands in the place of each `#` of the call and
+    // of its answer. Appends the first number for which another answer came, with that answer.
+    fn tell_each(
         &mut self,
         alloc: Global,
         call: Words<'_>,
         out: &mut String,
-    ) -> Result<(), Stop> {
+    ) -> Result<(), CaseStop> {
         let mut words = call;
         let first = words.number()?;
         let end = words.number()?;
-        let (asked, wanted) = words.rest().split_once(" -> ").ok_or(Stop::Unread)?;
+        let (asked, wanted) = words.rest().split_once(" -> ").ok_or(CaseStop::Unread)?;
         for turn in first..end {
             if !self.tells(alloc, asked, wanted, turn, out)? {
                 return Ok(());
@@ -88,10 +104,10 @@ impl Driver {
         wanted: &str,
         turn: u64,
         out: &mut String,
-    ) -> Result<bool, Stop> {
+    ) -> Result<bool, CaseStop> {
         let call = filled(alloc, asked, turn)?;
         let mut told = String::new(alloc);
-        self.tell(alloc, Words::new(call.as_str()), &mut told)?;
+        self.tell_one(alloc, Words::new(call.as_str()), &mut told)?;
         if told.as_str() == filled(alloc, wanted, turn)?.as_str() {
             return Ok(true);
         }
@@ -99,14 +115,14 @@ impl Driver {
         Ok(false)
     }
 
-    fn push_report(&mut self, out: &mut String) -> Result<(), Stop> {
+    fn push_report(&mut self, out: &mut String) -> Result<(), CaseStop> {
         match self.ask(Entry::TakeReport) {
             Reply::Lines(report) => push_lines(report.items(), out),
-            _ => Err(Stop::NoMemory),
+            _ => Err(CaseStop::NoMemory),
         }
     }
 
-    fn reply(&mut self, alloc: Global, call: Words<'_>) -> Result<Reply, Stop> {
+    fn reply(&mut self, alloc: Global, call: Words<'_>) -> Result<Reply, CaseStop> {
         let mut words = call;
         match words.word() {
             "record" => self.record_call(alloc, words),
@@ -117,35 +133,35 @@ impl Driver {
     }
 
     // record JOB: records a run for a job.
-    fn record_call(&mut self, alloc: Global, mut words: Words<'_>) -> Result<Reply, Stop> {
+    fn record_call(&mut self, alloc: Global, mut words: Words<'_>) -> Result<Reply, CaseStop> {
         let job = words.number()?;
         self.record(alloc, job)?;
         Ok(Reply::Done)
     }
 
-    fn record(&mut self, alloc: Global, job: u64) -> Result<(), Stop> {
-        let item = item_of(&self.items, job).ok_or(Stop::Unread)?;
+    fn record(&mut self, alloc: Global, job: u64) -> Result<(), CaseStop> {
+        let item = item_of(&self.items, job).ok_or(CaseStop::Unread)?;
         let run = recorded(alloc, &mut self.core, self.budget, &item)?;
         self.runs.push((job, run))?;
         Ok(())
     }
 
     // commit JOB, commit JOB of JOB: commits the run that was recorded for the job that is named last.
-    fn commit_call(&mut self, mut words: Words<'_>) -> Result<Reply, Stop> {
+    fn commit_call(&mut self, mut words: Words<'_>) -> Result<Reply, CaseStop> {
         let job = words.number()?;
         let other = run_word(job, words)?;
         self.commit(job, other)
     }
 
-    fn commit(&mut self, job: u64, other: u64) -> Result<Reply, Stop> {
+    fn commit(&mut self, job: u64, other: u64) -> Result<Reply, CaseStop> {
         let Some(run) = taken(&mut self.runs, other) else {
-            return Err(Stop::Unread);
+            return Err(CaseStop::Unread);
         };
         Ok(self.core.step(Entry::Commit { job, run }))
     }
 
     // boot C SWITCH PORTS: opens a connection, up to the reply to the first barrier.
-    fn boot(&mut self, alloc: Global, call: Words<'_>) -> Result<Reply, Stop> {
+    fn boot(&mut self, alloc: Global, call: Words<'_>) -> Result<Reply, CaseStop> {
         let mut words = call;
         let connection = words.number_u32()?;
         let hello = heard(alloc, connection, HELLO)?;
@@ -158,7 +174,7 @@ impl Driver {
         Ok(self.ask(barrier))
     }
 
-    fn enter(&mut self, alloc: Global, call: Words<'_>) -> Result<Reply, Stop> {
+    fn enter(&mut self, alloc: Global, call: Words<'_>) -> Result<Reply, CaseStop> {
         let entry = entry_of(alloc, call)?;
         let reply = self.ask(entry);
         if let Reply::Job(item) = &reply {
@@ -190,11 +206,11 @@ fn item_of(items: &[JobItem], job: u64) -> Option<JobItem> {
 }
 
 // The job whose run is committed: this one, unless `of` names another.
-fn run_word(job: u64, mut words: Words<'_>) -> Result<u64, Stop> {
+fn run_word(job: u64, mut words: Words<'_>) -> Result<u64, CaseStop> {
     match words.word() {
         "" => Ok(job),
         "of" => words.number(),
-        _ => Err(Stop::Unread),
+        _ => Err(CaseStop::Unread),
     }
 }
 

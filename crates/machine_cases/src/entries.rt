@@ -6,7 +6,7 @@ ghost use Rattle.machine_cases.specs.Entries.{IsPlain};
 use crate::connection_entries::{connection_entry, of_bytes, of_features};
 use crate::notes::note_of;
 use crate::packet_entries::packet_entry;
-use case_text::{Stop, Words};
+use case_text::{CaseStop, Words};
 use case_values::{cell_of, update_of};
 use env_cells::Update;
 use machine_steps::Entry;
@@ -15,12 +15,12 @@ use policy_text::read_policy;
 use std::alloc::Global;
 
 /// The entry of a call.
-pub fn entry_of(alloc: Global, call: Words<'_>) -> Result<Entry, Stop>
+pub fn entry_of(alloc: Global, call: Words<'_>) -> Result<Entry, CaseStop>
     ensures { IfOk result (λ entry. IsPlain entry) }
 {
     let mut words = call;
     match words.word() {
-        "policy" => policy_entry(alloc, words),
+        "policy" => Ok(Entry::NewPolicy(policy_of(alloc, words.rest())?)),
         "packet" | "frame" | "kept" | "padded" => packet_entry(alloc, call),
         "note" => Ok(Entry::Note(note_of(alloc, words)?)),
         "hear" => of_bytes(alloc, words),
@@ -32,23 +32,16 @@ pub fn entry_of(alloc: Global, call: Words<'_>) -> Result<Entry, Stop>
     }
 }
 
-// policy POLICY
-fn policy_entry(alloc: Global, words: Words<'_>) -> Result<Entry, Stop>
-    ensures { IfOk result (λ entry. IsPlain entry) }
-{
-    Ok(Entry::NewPolicy(policy_of(alloc, words.rest())?))
-}
-
 /// The policy of a text.
-pub fn policy_of(alloc: Global, text: &str) -> Result<Policy, Stop> {
+pub fn policy_of(alloc: Global, text: &str) -> Result<Policy, CaseStop> {
     match read_policy(alloc, text.as_bytes()) {
         Ok(policy) => Ok(policy),
-        Err(_) => Err(Stop::Unread),
+        Err(_) => Err(CaseStop::Unread),
     }
 }
 
 // cell CELL, force, rules SWITCH, jobs, decide JOB
-fn asking(call: Words<'_>) -> Result<Entry, Stop>
+fn asking(call: Words<'_>) -> Result<Entry, CaseStop>
     ensures { IfOk result (λ entry. IsPlain entry) }
 {
     let mut words = call;
@@ -62,14 +55,14 @@ fn asking(call: Words<'_>) -> Result<Entry, Stop>
 }
 
 // An update that an operator makes.
-fn change(alloc: Global, call: Words<'_>) -> Result<Entry, Stop>
+fn change(alloc: Global, call: Words<'_>) -> Result<Entry, CaseStop>
     ensures { IfOk result (λ entry. IsPlain entry) }
 {
     let update = update_of(alloc, call)?;
     if is_operators(&update) {
         Ok(Entry::Change(update))
     } else {
-        Err(Stop::Unread)
+        Err(CaseStop::Unread)
     }
 }
 

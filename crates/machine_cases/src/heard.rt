@@ -2,7 +2,7 @@
 use case_text::push_hex;
 use maple_base::Port;
 use std::alloc::AllocError;
-use switch_session::{End, Heard};
+use switch_session::Heard;
 
 /// Appends what a session makes of a message.
 pub fn push_heard(heard: &Heard, out: &mut String) -> Result<(), AllocError> {
@@ -20,10 +20,7 @@ pub fn push_heard(heard: &Heard, out: &mut String) -> Result<(), AllocError> {
         Heard::Port { port, up } => write!(out, "port {port} {up}"),
         Heard::Acknowledged { ready } => out.push_str(if *ready { "ready" } else { "done" }),
         Heard::Refused { kind, code, quiet } => write!(out, "refused {kind} {code} {quiet}"),
-        Heard::Ended(end) => {
-            out.push_str("ended ")?;
-            push_end(*end, out)
-        }
+        Heard::Ended(end) => write!(out, "ended {end:?}"),
     }
 }
 
@@ -33,19 +30,4 @@ fn push_features(dpid: u64, ports: &[Port], out: &mut String) -> Result<(), Allo
         write!(out, " {} {}", port.number, port.up)?;
     }
     Ok(())
-}
-
-/// Appends why a session ended.
-pub fn push_end(end: End, out: &mut String) -> Result<(), AllocError> {
-    match end {
-        End::Bad { place, bad } => write!(out, "bad {place} {}", bad.number()),
-        End::Version => out.push_str("version"),
-        End::Twice(dpid) => write!(out, "twice {dpid}"),
-        End::Full => out.push_str("full"),
-        End::ClearRefused => out.push_str("clear"),
-        End::Early(xid) => write!(out, "early {xid}"),
-        End::Xids => out.push_str("xids"),
-        End::LinkEnd => out.push_str("link"),
-        End::LinkFault => out.push_str("fault"),
-    }
 }

@@ -5,13 +5,13 @@ ghost use Rattle.machine_steps.specs.Sound.{AreInRange};
 ghost use Rattle.world_model.specs.Kept.{IsOpening};
 
 use crate::entries::policy_of;
-use case_text::{Stop, Words};
+use case_text::{CaseStop, Words};
 use core_machine::Core;
 use maple_base::{MOST_BUDGET, Settings};
 use std::alloc::Global;
 
 /// The settings that the next three words are: `CAPACITY LEVELS BUDGET`.
-pub fn settings_of(words: &mut Words<'_>) -> Result<Settings, Stop>
+pub fn settings_of(words: &mut Words<'_>) -> Result<Settings, CaseStop>
     ensures { IfOk result (λ settings. AreInRange settings) }
 {
     let capacity = words.number_u32()?;
@@ -20,7 +20,7 @@ pub fn settings_of(words: &mut Words<'_>) -> Result<Settings, Stop>
     settings(capacity, levels, budget)
 }
 
-fn settings(capacity: u32, levels: u32, budget: u32) -> Result<Settings, Stop>
+fn settings(capacity: u32, levels: u32, budget: u32) -> Result<Settings, CaseStop>
     ensures { IfOk result (λ settings. AreInRange settings) }
 {
     if capacity <= 65_535
@@ -36,12 +36,12 @@ fn settings(capacity: u32, levels: u32, budget: u32) -> Result<Settings, Stop>
             workers: 0,
         })
     } else {
-        Err(Stop::Unread)
+        Err(CaseStop::Unread)
     }
 }
 
 /// A machine with these settings and the policy of a text.
-pub fn core_of(alloc: Global, settings: Settings, policy: &str) -> Result<Core, Stop>
+pub fn core_of(alloc: Global, settings: Settings, policy: &str) -> Result<Core, CaseStop>
     requires { AreInRange settings }
     ensures opening { IfOk result (λ core. IsOpening core) }
     ensures settings { IfOk result (λ (core : State). core.settings ≡ settings) }

@@ -2,18 +2,18 @@
 ghost use Rattle.std.specs.Prelude.{IfOk};
 ghost use Rattle.switch_session.specs.Calls.{CanBeHeard};
 
-use case_text::{Stop, push_hex};
+use case_text::{CaseStop, push_hex};
 use of10_codec::{DecodeError, Message, decode};
 use std::alloc::{AllocError, Global};
 
 /// The message that bytes spell.
-pub fn message_of(alloc: Global, bytes: &[u8]) -> Result<Message, Stop>
+pub fn message_of(alloc: Global, bytes: &[u8]) -> Result<Message, CaseStop>
     ensures { IfOk result (λ message. CanBeHeard message) }
 {
     match decode(alloc, bytes) {
         Ok(message) => Ok(message),
-        Err(DecodeError::Bad(_)) => Err(Stop::Unread),
-        Err(DecodeError::NoMemory) => Err(Stop::NoMemory),
+        Err(DecodeError::Bad(_)) => Err(CaseStop::Unread),
+        Err(DecodeError::NoMemory) => Err(CaseStop::NoMemory),
     }
 }
 

@@ -1,17 +1,24 @@
 // What a driver did.
-use case_text::{Stop, Words};
+use case_text::{CaseStop, Words};
 use case_values::actions_of;
 use machine_steps::Note;
 use maple_base::{Bytes, Seen, Turned};
 use std::alloc::Global;
 
-/// The note that words tell.
-pub fn note_of(alloc: Global, call: Words<'_>) -> Result<Note, Stop> {
+/// The note that words tell: `policy LINE COLUMN KIND`, `line LINE KIND`, `turned DEVICE TURNS`, or as below.
+pub fn note_of(alloc: Global, call: Words<'_>) -> Result<Note, CaseStop> {
     let mut words = call;
     match words.word() {
         "hit" | "miss" | "failed" => seen(alloc, call),
-        "policy" => policy_refused(words),
-        "line" => line_refused(words),
+        "policy" => Ok(Note::PolicyRefused {
+            line: words.number_u32()?,
+            column: words.number_u32()?,
+            kind: words.number_u8()?,
+        }),
+        "line" => Ok(Note::LineRefused {
+            line: words.number_u32()?,
+            kind: words.number_u8()?,
+        }),
         "turned" => Ok(Note::TurnedAll {
             device: words.number_u32()?,
             turns: words.number_u32()?,
@@ -21,7 +28,7 @@ pub fn note_of(alloc: Global, call: Words<'_>) -> Result<Note, Stop> {
 }
 
 // hit DEVICE PORT ACTIONS, miss DEVICE PORT REASON, failed DEVICE PORT
-fn seen(alloc: Global, mut words: Words<'_>) -> Result<Note, Stop> {
+fn seen(alloc: Global, mut words: Words<'_>) -> Result<Note, CaseStop> {
     let verb = words.word();
     let device = words.number_u32()?;
     let port = words.number_u16()?;
@@ -29,13 +36,13 @@ fn seen(alloc: Global, mut words: Words<'_>) -> Result<Note, Stop> {
         device,
         port,
         frame: Bytes::new(Vec::new(alloc)),
-        seen: seen_of(verb, words)?,
+        seen: seen_of(alloc, verb, words)?,
     })
 }
 
-fn seen_of(verb: &str, mut words: Words<'_>) -> Result<Seen, Stop> {
+fn seen_of(alloc: Global, verb: &str, mut words: Words<'_>) -> Result<Seen, CaseStop> {
     match verb {
-        "hit" => Ok(Seen::Hit(actions_of(words.word())?)),
+        "hit" => Ok(Seen::Hit(actions_of(alloc, words.word())?)),
         "miss" => Ok(Seen::Miss {
             reason: words.number_u8()?,
         }),
@@ -43,25 +50,8 @@ fn seen_of(verb: &str, mut words: Words<'_>) -> Result<Seen, Stop> {
     }
 }
 
-// policy LINE COLUMN KIND
-fn policy_refused(mut words: Words<'_>) -> Result<Note, Stop> {
-    Ok(Note::PolicyRefused {
-        line: words.number_u32()?,
-        column: words.number_u32()?,
-        kind: words.number_u8()?,
-    })
-}
-
-// line LINE KIND
-fn line_refused(mut words: Words<'_>) -> Result<Note, Stop> {
-    Ok(Note::LineRefused {
-        line: words.number_u32()?,
-        kind: words.number_u8()?,
-    })
-}
-
 // A note with one number, that of a device or of turns.
-fn of_one_number(call: Words<'_>) -> Result<Note, Stop> {
+fn of_one_number(call: Words<'_>) -> Result<Note, CaseStop> {
     let mut words = call;
     let verb = words.word();
     let about = words.number_u32()?;
@@ -79,6 +69,6 @@ fn of_one_number(call: Words<'_>) -> Result<Note, Stop> {
         "absent" => Ok(Note::Absent(about)),
         "gone" => Ok(Note::GoneAlready(about)),
         "present" => Ok(Note::Present(about)),
-        _ => Err(Stop::Unread),
+        _ => Err(CaseStop::Unread),
     }
 }

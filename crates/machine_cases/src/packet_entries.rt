@@ -5,7 +5,7 @@ ghost use Rattle.std.specs.Prelude.{IfOk};
 ghost use Rattle.machine_cases.specs.Entries.{IsPlain};
 
 use crate::connection_entries::heard;
-use case_text::{Stop, Words};
+use case_text::{CaseStop, Words};
 use machine_steps::Entry;
 use maple_base::openflow::NO_BUFFER;
 use script_text::{Command, PacketSpec, frame_of, read_line};
@@ -23,7 +23,7 @@ pub struct Arrival {
 }
 
 /// The entry of such a call.
-pub fn packet_entry(alloc: Global, call: Words<'_>) -> Result<Entry, Stop>
+pub fn packet_entry(alloc: Global, call: Words<'_>) -> Result<Entry, CaseStop>
     ensures { IfOk result (λ entry. IsPlain entry) }
 {
     let (buffer, behind) = ahead("kept", NO_BUFFER, call)?;
@@ -34,7 +34,7 @@ pub fn packet_entry(alloc: Global, call: Words<'_>) -> Result<Entry, Stop>
 }
 
 // The number behind this word, or the usual one where the word isn't there; and the words behind both.
-fn ahead<'a>(word: &str, usual: u32, call: Words<'a>) -> Result<(u32, Words<'a>), Stop> {
+fn ahead<'a>(word: &str, usual: u32, call: Words<'a>) -> Result<(u32, Words<'a>), CaseStop> {
     let mut words = call;
     if words.word() != word {
         return Ok((usual, call));
@@ -43,7 +43,7 @@ fn ahead<'a>(word: &str, usual: u32, call: Words<'a>) -> Result<(u32, Words<'a>)
     Ok((number, words))
 }
 
-fn padded_arrival(alloc: Global, packet: Words<'_>, len: usize) -> Result<Arrival, Stop> {
+fn padded_arrival(alloc: Global, packet: Words<'_>, len: usize) -> Result<Arrival, CaseStop> {
     let mut arrival = arrival_of(alloc, packet.rest())?;
     if arrival.frame.len() < len {
         arrival.frame.resize(len, 0)?;
@@ -52,7 +52,7 @@ fn padded_arrival(alloc: Global, packet: Words<'_>, len: usize) -> Result<Arriva
 }
 
 /// The packet of a packet line or a frame line.
-pub fn arrival_of(alloc: Global, line: &str) -> Result<Arrival, Stop> {
+pub fn arrival_of(alloc: Global, line: &str) -> Result<Arrival, CaseStop> {
     match read_line(alloc, line.as_bytes()) {
         Ok(Command::Packet(connection, spec)) => of_fields(alloc, connection, &spec),
         Ok(Command::Frame(connection, port, bytes)) => Ok(Arrival {
@@ -60,11 +60,11 @@ pub fn arrival_of(alloc: Global, line: &str) -> Result<Arrival, Stop> {
             port,
             frame: Vec::from_slice(alloc, bytes.items())?,
         }),
-        _ => Err(Stop::Unread),
+        _ => Err(CaseStop::Unread),
     }
 }
 
-fn of_fields(alloc: Global, connection: u64, spec: &PacketSpec) -> Result<Arrival, Stop> {
+fn of_fields(alloc: Global, connection: u64, spec: &PacketSpec) -> Result<Arrival, CaseStop> {
     let mut frame = Vec::new(alloc);
     frame_of(spec, &mut frame)?;
     Ok(Arrival {
@@ -75,9 +75,9 @@ fn of_fields(alloc: Global, connection: u64, spec: &PacketSpec) -> Result<Arriva
 }
 
 // A PACKET_IN (OpenFlow 1.0, 5.4.1) of a packet that came whole.
-fn packet_in(alloc: Global, buffer: u32, port: u16, frame: &[u8]) -> Result<Vec<u8>, Stop> {
+fn packet_in(alloc: Global, buffer: u32, port: u16, frame: &[u8]) -> Result<Vec<u8>, CaseStop> {
     let total = u16::try_from(frame.len())?;
-    let len = total.checked_add(18).ok_or(Stop::Unread)?;
+    let len = total.checked_add(18).ok_or(CaseStop::Unread)?;
     let mut bytes = Vec::new(alloc);
     bytes.extend_from_slice(&[1, 10])?;
     bytes.extend_from_slice(&len.to_be_bytes())?;

@@ -1,35 +1,15 @@
 // The two batches of an update.
 use crate::lists::list_of;
-use case_text::{Stop, Subject, Words};
+use case_text::{CaseStop, Words};
 use case_values::{push_match, push_rule};
-use maple_base::{NoMemory, TableMod};
+use maple_base::TableMod;
 use std::alloc::{AllocError, Global};
 use update_plan::{Plan, plan};
 
-/// Updates, each of its own.
-#[derive(Drop)]
-pub struct Plans {
-    alloc: Global,
-}
-
-impl Subject for Plans {
-    fn new(alloc: Global) -> Result<Plans, NoMemory> {
-        Ok(Plans { alloc })
-    }
-
-    fn answer(&mut self, call: Words<'_>, out: &mut String) -> Result<(), Stop> {
-        let mut words = call;
-        match words.word() {
-            "plan" => push_plan_of(self.alloc, words, out),
-            _ => Err(Stop::Unread),
-        }
-    }
-}
-
-// plan CAPACITY RULES > RULES
-fn push_plan_of(alloc: Global, mut words: Words<'_>, out: &mut String) -> Result<(), Stop> {
+/// plan CAPACITY RULES > RULES
+pub fn push_plan_of(alloc: Global, mut words: Words<'_>, out: &mut String) -> Result<(), CaseStop> {
     let capacity = words.number_u32()?;
-    let (from, to) = words.rest().split_once(" > ").ok_or(Stop::Unread)?;
+    let (from, to) = words.rest().split_once(" > ").ok_or(CaseStop::Unread)?;
     let a = list_of(alloc, from, capacity)?;
     let b = list_of(alloc, to, capacity)?;
     let plan = plan(alloc, &a, &b, capacity)?;
@@ -43,24 +23,20 @@ fn push_plan(plan: &Plan, out: &mut String) -> Result<(), AllocError> {
     push_changes(plan.second.items(), out)
 }
 
+// ` +` and a rule that is added, or ` -` and the priority and the match of one that is deleted.
 fn push_changes(changes: &[TableMod], out: &mut String) -> Result<(), AllocError> {
     for change in changes {
-        push_change(change, out)?;
+        match change {
+            TableMod::Add(rule) => {
+                out.push_str(" +")?;
+                push_rule(rule, out)?;
+            }
+            TableMod::DeleteStrict { of, priority } => {
+                write!(out, " -{priority} ")?;
+                push_match(of, out)?;
+            }
+            TableMod::DeleteAll => out.push_str(" clear")?,
+        }
     }
     Ok(())
-}
-
-// ` +` and a rule that is added, or ` -` and the priority and the match of one that is deleted.
-fn push_change(change: &TableMod, out: &mut String) -> Result<(), AllocError> {
-    match change {
-        TableMod::Add(rule) => {
-            out.push_str(" +")?;
-            push_rule(rule, out)
-        }
-        TableMod::DeleteStrict { of, priority } => {
-            write!(out, " -{priority} ")?;
-            push_match(of, out)
-        }
-        TableMod::DeleteAll => out.push_str(" clear"),
-    }
 }

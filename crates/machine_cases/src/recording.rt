@@ -6,7 +6,7 @@ ghost use Rattle.machine_steps.specs.Admitting.{IsOfHistory};
 ghost use Rattle.machine_steps.specs.Machine.{policy_number};
 ghost use Rattle.machine_cases.specs.Driving.{IsRunOf};
 
-use case_text::Stop;
+use case_text::CaseStop;
 use core_machine::{Core, Entry, JobItem, Reply};
 use maple_base::{Cell, EnvView, Value, is_port};
 use policy_lang::Policy;
@@ -71,7 +71,12 @@ fn is_of_kind(cell: &Cell, value: Value) -> bool
 
 /// Runs the policy in force on the packet of a job, and records what it asks. Each cell is read by an entry of its own.
 #[tactic(auto, using(crate::proofs::Kept::lent_run))]
-pub fn recorded(alloc: Global, core: &mut Core, budget: u32, item: &JobItem) -> Result<Run, Stop>
+pub fn recorded(
+    alloc: Global,
+    core: &mut Core,
+    budget: u32,
+    item: &JobItem,
+) -> Result<Run, CaseStop>
     requires steps { core.old.settings.budget ≡ budget }
     requires budget { IsBudget budget }
     ensures kept { core.new ≡ core.old }
@@ -87,22 +92,22 @@ pub fn recorded(alloc: Global, core: &mut Core, budget: u32, item: &JobItem) -> 
         if let Some(run) = run_of(alloc, &policy, number, budget, item, &mut view)? {
             return Ok(run);
         }
-        let cell = view.asked.ok_or(Stop::Unread)?;
+        let cell = view.asked.ok_or(CaseStop::Unread)?;
         view.cells.push((cell, read(core, cell)?))?;
     }
-    Err(Stop::Unread)
+    Err(CaseStop::Unread)
 }
 
 // The policy in force, with its number.
 #[tactic(auto, using(crate::proofs::Kept::lending_keeps))]
-fn lent(core: &mut Core) -> Result<(u64, Arc<Policy>), Stop>
+fn lent(core: &mut Core) -> Result<(u64, Arc<Policy>), CaseStop>
     ensures kept { core.new ≡ core.old }
     ensures number { IfOk result (λ lent. lent.0 ≡ policy_number core.new) }
     ensures policy { IfOk result (λ lent. lent.1.value ≡ core.new.policy) }
 {
     match core.step(Entry::ReadPolicy) {
         Reply::Policy(number, policy) => Ok((number, policy)),
-        _ => Err(Stop::NoMemory),
+        _ => Err(CaseStop::NoMemory),
     }
 }
 
@@ -114,7 +119,7 @@ fn run_of(
     budget: u32,
     item: &JobItem,
     view: &mut KnownCells,
-) -> Result<Option<Run>, Stop>
+) -> Result<Option<Run>, CaseStop>
     requires { IsBudget budget }
     ensures { IfOk result (λ found. IfSome found (λ run. IsRunOf policy.now number budget run)) }
 {
@@ -132,15 +137,15 @@ fn run_of(
             Ok(Some(run))
         }
         Err(RecordError::Unread) => Ok(None),
-        Err(RecordError::NoMemory) => Err(Stop::NoMemory),
+        Err(RecordError::NoMemory) => Err(CaseStop::NoMemory),
     }
 }
 
-fn read(core: &mut Core, cell: Cell) -> Result<Value, Stop>
+fn read(core: &mut Core, cell: Cell) -> Result<Value, CaseStop>
     ensures { core.new ≡ core.old }
 {
     match core.step(Entry::ReadCell(cell)) {
         Reply::Value(value) => Ok(value),
-        _ => Err(Stop::NoMemory),
+        _ => Err(CaseStop::NoMemory),
     }
 }

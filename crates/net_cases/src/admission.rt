@@ -7,15 +7,15 @@ ghost use Rattle.net_cases.specs.Fixed.{is_new, fixed_behind};
 ghost use Rattle.trace_tree.specs.Growth.{admits, place_of, AreOrdered};
 ghost use Rattle.trace_tree.specs.Bounds.{items_within};
 
-use case_text::Stop;
+use case_text::CaseStop;
 use maple_base::{Field, Item, Items};
 use std::alloc::{AllocError, Global};
 use trace_tree::{Node, Trace, Tree};
 
 /// Puts a trace into a tree; where memory runs out at the first try, at the second.
-pub fn put(alloc: Global, tree: &mut Tree, trace: Trace) -> Result<(), Stop> {
+pub fn put(alloc: Global, tree: &mut Tree, trace: Trace) -> Result<(), CaseStop> {
     if !is_trace_for(alloc, tree, &trace.items)? || tree.leaves() >= 1_000 {
-        return Err(Stop::Unread);
+        return Err(CaseStop::Unread);
     }
     let number = trace.number;
     let leaves = tree.leaves();
@@ -25,7 +25,7 @@ pub fn put(alloc: Global, tree: &mut Tree, trace: Trace) -> Result<(), Stop> {
             if back.number == number && tree.leaves() == leaves && tree.augment(back).is_ok() {
                 Ok(())
             } else {
-                Err(Stop::NoMemory)
+                Err(CaseStop::NoMemory)
             }
         }
     }

@@ -1,11 +1,15 @@
 // What the next trace asks.
-use case_text::{Stop, Words};
+use case_text::{CaseStop, Words};
 use case_values::{cell_of, item_of};
 use maple_base::{Cell, EnvNow, Field, Item, Value};
 use topo_paths::Scene;
 
 /// ask ITEMS
-pub fn push_items(items: &mut Vec<Item>, words: Words<'_>, out: &mut String) -> Result<(), Stop> {
+pub fn push_items(
+    items: &mut Vec<Item>,
+    words: Words<'_>,
+    out: &mut String,
+) -> Result<(), CaseStop> {
     for word in words.rest().split_whitespace() {
         items.push(item_of(word)?)?;
     }
@@ -17,7 +21,7 @@ pub fn push_tests(
     items: &mut Vec<Item>,
     mut words: Words<'_>,
     out: &mut String,
-) -> Result<(), Stop> {
+) -> Result<(), CaseStop> {
     for value in 0..words.number()? {
         items.push(Item::Test {
             field: Field::DlSrc,
@@ -34,7 +38,7 @@ pub fn push_cells(
     scene: &Scene,
     words: Words<'_>,
     out: &mut String,
-) -> Result<(), Stop> {
+) -> Result<(), CaseStop> {
     for word in words.rest().split_whitespace() {
         let cell = cell_of(word)?;
         cells.push((cell, scene.cell(cell)))?;

@@ -1,7 +1,7 @@
 // An environment: updates, their refusals at the limits, and what it has afterwards.
 use crate::places::push_links;
 use crate::room::has_room;
-use case_text::{Stop, Subject, Words};
+use case_text::{CaseStop, Subject, Words};
 use case_values::{cell_of, name_of, push_answer, push_flag, push_value, update_of};
 use env_cells::{Env, Update, UpdateError};
 use maple_base::{Cell, Name, NoMemory, Place, Value};
@@ -25,11 +25,11 @@ impl Subject for Environment {
         })
     }
 
-    fn answer(&mut self, call: Words<'_>, out: &mut String) -> Result<(), Stop> {
+    fn answer(&mut self, call: Words<'_>, out: &mut String) -> Result<(), CaseStop> {
         let mut words = call;
         match words.word() {
             "cell?" => tell_cell(&self.env, words, out),
-            "knows?" => tell_known(&self.env, words, out),
+            "knows?" => Ok(push_flag(self.env.knows(words.number()?), out)?),
             "links?" => Ok(push_links(self.env.links(), out)?),
             "many" => make_many(&mut self.env, words, out),
             "copy" => self.take_copy(out),
@@ -40,41 +40,36 @@ impl Subject for Environment {
 }
 
 impl Environment {
-    fn take_copy(&mut self, out: &mut String) -> Result<(), Stop> {
+    fn take_copy(&mut self, out: &mut String) -> Result<(), CaseStop> {
         self.copy = self.env.copy()?;
         Ok(out.push_str("ok")?)
     }
 
-    fn swap(&mut self, out: &mut String) -> Result<(), Stop> {
+    fn swap(&mut self, out: &mut String) -> Result<(), CaseStop> {
         mem::swap(&mut self.env, &mut self.copy);
         Ok(out.push_str("ok")?)
     }
 }
 
 // cell? CELL
-fn tell_cell(env: &Env, mut words: Words<'_>, out: &mut String) -> Result<(), Stop> {
+fn tell_cell(env: &Env, mut words: Words<'_>, out: &mut String) -> Result<(), CaseStop> {
     let cell = cell_of(words.word())?;
     Ok(push_value(value_in(env, cell)?, out)?)
 }
 
 // An environment has no next hops.
-fn value_in(env: &Env, cell: Cell) -> Result<Value, Stop> {
+fn value_in(env: &Env, cell: Cell) -> Result<Value, CaseStop> {
     match cell {
-        Cell::Hop { .. } => Err(Stop::Unread),
+        Cell::Hop { .. } => Err(CaseStop::Unread),
         Cell::Host(mac) => Ok(env.value(Cell::Host(mac))),
         Cell::Up { switch, port } => Ok(env.value(Cell::Up { switch, port })),
         Cell::Num { table, key } => Ok(env.value(Cell::Num { table, key })),
     }
 }
 
-// knows? SWITCH
-fn tell_known(env: &Env, mut words: Words<'_>, out: &mut String) -> Result<(), Stop> {
-    Ok(push_flag(env.knows(words.number()?), out)?)
-}
-
 // many KIND COUNT: so many hosts, links from switch 1 to switch 2, or numbers of the table `t`, one
 // after the other, up to the first that is refused.
-fn make_many(env: &mut Env, mut words: Words<'_>, out: &mut String) -> Result<(), Stop> {
+fn make_many(env: &mut Env, mut words: Words<'_>, out: &mut String) -> Result<(), CaseStop> {
     let table = name_of("t")?;
     let kind = words.word();
     for key in 0..words.number()? {
@@ -86,7 +81,7 @@ fn make_many(env: &mut Env, mut words: Words<'_>, out: &mut String) -> Result<()
     Ok(out.push_str("ok")?)
 }
 
-fn one_of_many(kind: &str, table: Name, key: u64) -> Result<Update, Stop> {
+fn one_of_many(kind: &str, table: Name, key: u64) -> Result<Update, CaseStop> {
     let port = key.saturating_add(1);
     match kind {
         "hosts" => Ok(Update::Host {
@@ -102,20 +97,20 @@ fn one_of_many(kind: &str, table: Name, key: u64) -> Result<Update, Stop> {
             key,
             value: 1,
         }),
-        _ => Err(Stop::Unread),
+        _ => Err(CaseStop::Unread),
     }
 }
 
 // An update.
-fn make(alloc: Global, env: &mut Env, call: Words<'_>, out: &mut String) -> Result<(), Stop> {
+fn make(alloc: Global, env: &mut Env, call: Words<'_>, out: &mut String) -> Result<(), CaseStop> {
     let update = update_of(alloc, call)?;
     push_answer(make_one(env, &update)?, out)
 }
 
-fn make_one(env: &mut Env, update: &Update) -> Result<Result<(), UpdateError>, Stop> {
+fn make_one(env: &mut Env, update: &Update) -> Result<Result<(), UpdateError>, CaseStop> {
     if has_room(update) {
         Ok(env.apply(update))
     } else {
-        Err(Stop::Unread)
+        Err(CaseStop::Unread)
     }
 }

@@ -2,10 +2,8 @@
 use crate::admission::put;
 use crate::asking::{push_cells, push_items, push_tests};
 use crate::network::make_one;
-use crate::rules::{
-    count_falling, tell_barriers, tell_chain, tell_current_barriers, tell_current_facts, tell_facts,
-};
-use case_text::{Stop, Subject, Words};
+use crate::rules::{count_falling, tell_rules};
+use case_text::{CaseStop, Subject, Words};
 use case_values::{key_of, push_answer, push_cell, push_flag, push_value, update_of};
 use maple_base::{Actions, Cell, Cells, Decision, Item, Items, NoMemory, Value};
 use priority_plan::{levels, rules_needed};
@@ -36,19 +34,22 @@ impl Subject for Learned {
         })
     }
 
-    fn answer(&mut self, call: Words<'_>, out: &mut String) -> Result<(), Stop> {
+    fn answer(&mut self, call: Words<'_>, out: &mut String) -> Result<(), CaseStop> {
         let mut words = call;
         match words.word() {
             "ask" => push_items(&mut self.items, words, out),
             "many" => push_tests(&mut self.items, words, out),
             "read" => push_cells(&mut self.cells, &self.scene, words, out),
             "add" => self.add(words, out),
-            "retire" => retire(&mut self.tree, words, out),
+            "retire" => Ok(push_flag(self.tree.retire(words.number()?), out)?),
             "keep" => keep(self.alloc, &mut self.tree, words, out),
             "prune" => Ok(write!(out, "{}", prune(&mut self.tree, &self.scene))?),
             "find" => tell_found(&self.tree, words, out),
             "stale?" => tell_stale(&self.tree, &self.scene, words, out),
-            "current?" => tell_is_current(&self.tree, &self.scene, words, out),
+            "current?" => {
+                let leaf = leaf_of(&self.tree, words)?;
+                Ok(push_flag(is_current(leaf, &self.scene), out)?)
+            }
             _ => self.tell(call, out),
         }
     }
@@ -56,31 +57,29 @@ impl Subject for Learned {
 
 impl Learned {
     // What is asked of the whole tree, or an update of the network.
-    fn tell(&mut self, call: Words<'_>, out: &mut String) -> Result<(), Stop> {
+    fn tell(&mut self, call: Words<'_>, out: &mut String) -> Result<(), CaseStop> {
         let mut words = call;
         match words.word() {
             "leaves?" => Ok(write!(out, "{}", self.tree.leaves())?),
             "rules?" => Ok(write!(out, "{}", rules_needed(&self.tree))?),
             "levels?" => Ok(write!(out, "{}", levels(&self.tree))?),
-            "facts?" => tell_facts(self.alloc, &self.tree, out),
-            "barriers?" => tell_barriers(self.alloc, &self.tree, out),
             "falling?" => count_falling(self.alloc, &self.tree, words, out),
-            "chain?" => tell_chain(self.alloc, &self.tree, out),
-            "current_facts?" => tell_current_facts(self.alloc, &self.tree, &self.scene, out),
-            "current_barriers?" => tell_current_barriers(self.alloc, &self.tree, &self.scene, out),
+            "facts?" | "barriers?" | "chain?" | "current_facts?" | "current_barriers?" => {
+                tell_rules(self.alloc, &self.tree, &self.scene, call.rest(), out)
+            }
             _ => self.make(call, out),
         }
     }
 
     // An update of the network.
-    fn make(&mut self, call: Words<'_>, out: &mut String) -> Result<(), Stop> {
+    fn make(&mut self, call: Words<'_>, out: &mut String) -> Result<(), CaseStop> {
         let update = update_of(self.alloc, call)?;
         push_answer(make_one(&mut self.scene, &update)?, out)
     }
 
     // add NUMBER, add NUMBER PORT: the trace of this number is put into the tree; what it decides is to
     // drop the packet, or to send it out of the port.
-    fn add(&mut self, mut words: Words<'_>, out: &mut String) -> Result<(), Stop> {
+    fn add(&mut self, mut words: Words<'_>, out: &mut String) -> Result<(), CaseStop> {
         let number = words.number()?;
         let decision = decision_of(words)?;
         let trace = self.next(number, decision);
@@ -101,7 +100,7 @@ impl Learned {
     }
 }
 
-fn decision_of(mut words: Words<'_>) -> Result<Decision, Stop> {
+fn decision_of(mut words: Words<'_>) -> Result<Decision, CaseStop> {
     if words.is_empty() {
         Ok(Decision::Drop)
     } else {
@@ -109,32 +108,20 @@ fn decision_of(mut words: Words<'_>) -> Result<Decision, Stop> {
     }
 }
 
-// retire NUMBER: whether it was there.
-fn retire(tree: &mut Tree, mut words: Words<'_>, out: &mut String) -> Result<(), Stop> {
-    Ok(push_flag(tree.retire(words.number()?), out)?)
-}
-
 // keep NUMBERS: how many others went.
-fn keep(alloc: Global, tree: &mut Tree, words: Words<'_>, out: &mut String) -> Result<(), Stop> {
-    let kept = numbers_of(alloc, words)?;
-    let gone = tree.retain(|leaf| is_one_of(&kept, leaf.number));
+fn keep(
+    alloc: Global,
+    tree: &mut Tree,
+    words: Words<'_>,
+    out: &mut String,
+) -> Result<(), CaseStop> {
+    let kept = words.numbers(alloc)?;
+    let gone = tree.retain(|leaf| kept.contains(&leaf.number));
     Ok(write!(out, "{gone}")?)
 }
 
-fn numbers_of(alloc: Global, words: Words<'_>) -> Result<Vec<u64>, Stop> {
-    let mut numbers = Vec::new(alloc);
-    for word in words.rest().split_whitespace() {
-        numbers.push(Words::new(word).number()?)?;
-    }
-    Ok(numbers)
-}
-
-fn is_one_of(numbers: &[u64], number: u64) -> bool {
-    numbers.contains(&number)
-}
-
 // find KEY
-fn tell_found(tree: &Tree, words: Words<'_>, out: &mut String) -> Result<(), Stop> {
+fn tell_found(tree: &Tree, words: Words<'_>, out: &mut String) -> Result<(), CaseStop> {
     let key = key_of(words)?;
     match tree.search(&key) {
         Some(leaf) => Ok(write!(out, "{}", leaf.number)?),
@@ -142,34 +129,26 @@ fn tell_found(tree: &Tree, words: Words<'_>, out: &mut String) -> Result<(), Sto
     }
 }
 
-fn leaf_of<'a>(tree: &'a Tree, words: Words<'_>) -> Result<&'a Leaf, Stop> {
+fn leaf_of<'a>(tree: &'a Tree, words: Words<'_>) -> Result<&'a Leaf, CaseStop> {
     let key = key_of(words)?;
-    tree.search(&key).ok_or(Stop::Unread)
+    tree.search(&key).ok_or(CaseStop::Unread)
 }
 
 // stale? KEY: the first cell that has another value now.
-fn tell_stale(tree: &Tree, scene: &Scene, words: Words<'_>, out: &mut String) -> Result<(), Stop> {
-    match stale(leaf_of(tree, words)?, scene) {
-        Some((cell, was, now)) => push_change(cell, was, now, out),
-        None => Ok(out.push_str("none")?),
-    }
-}
-
-fn push_change(cell: Cell, was: Value, now: Value, out: &mut String) -> Result<(), Stop> {
-    push_cell(cell, out)?;
-    out.push_str(" was ")?;
-    push_value(was, out)?;
-    out.push_str(" is ")?;
-    Ok(push_value(now, out)?)
-}
-
-// current? KEY
-fn tell_is_current(
+fn tell_stale(
     tree: &Tree,
     scene: &Scene,
     words: Words<'_>,
     out: &mut String,
-) -> Result<(), Stop> {
-    let leaf = leaf_of(tree, words)?;
-    Ok(push_flag(is_current(leaf, scene), out)?)
+) -> Result<(), CaseStop> {
+    match stale(leaf_of(tree, words)?, scene) {
+        Some((cell, was, now)) => {
+            push_cell(cell, out)?;
+            out.push_str(" was ")?;
+            push_value(was, out)?;
+            out.push_str(" is ")?;
+            Ok(push_value(now, out)?)
+        }
+        None => Ok(out.push_str("none")?),
+    }
 }

@@ -2,12 +2,14 @@
 // behind updates.
 ghost use Rattle.env_cells.specs.Refusals.{HasRoomForTables};
 
-use crate::places::{push_hops, push_links};
+use crate::places::push_links;
 use crate::room::has_room;
-use case_text::{Stop, Subject, Words};
-use case_values::{cell_of, push_answer, push_flag, push_place, push_value, update_of};
+use case_text::{CaseStop, Subject, Words};
+use case_values::{
+    cell_of, push_answer, push_decision, push_flag, push_place, push_value, update_of,
+};
 use env_cells::{Update, UpdateError};
-use maple_base::{Cell, EnvNow, NoMemory, Path, Place, Value};
+use maple_base::{Cell, Decision, EnvNow, NoMemory, Path, Place, Value};
 use std::alloc::Global;
 use std::mem;
 use topo_paths::{Hops, Scene};
@@ -27,14 +29,14 @@ impl Subject for Network {
         Ok(Network { alloc, scene, copy })
     }
 
-    fn answer(&mut self, call: Words<'_>, out: &mut String) -> Result<(), Stop> {
+    fn answer(&mut self, call: Words<'_>, out: &mut String) -> Result<(), CaseStop> {
         let mut words = call;
         match words.word() {
             "cell?" => tell_cell(&self.scene, words, out),
             "hop?" => tell_hop(self.alloc, &self.scene, words, out),
-            "way?" => tell_way(self.alloc, &self.scene, words, out),
-            "copied_way?" => tell_copied_way(self.alloc, &self.scene, words, out),
-            "knows?" => tell_known(&self.scene, words, out),
+            "way?" => tell_way(self.alloc, &self.scene, false, words, out),
+            "copied_way?" => tell_way(self.alloc, &self.scene, true, words, out),
+            "knows?" => Ok(push_flag(self.scene.knows(words.number()?), out)?),
             "links?" => Ok(push_links(self.scene.links(), out)?),
             "behind?" => tell_behind(self.alloc, &self.scene, words, out),
             "copy" => self.take_copy(out),
@@ -45,19 +47,19 @@ impl Subject for Network {
 }
 
 impl Network {
-    fn take_copy(&mut self, out: &mut String) -> Result<(), Stop> {
+    fn take_copy(&mut self, out: &mut String) -> Result<(), CaseStop> {
         self.copy = self.scene.copy()?;
         Ok(out.push_str("ok")?)
     }
 
-    fn swap(&mut self, out: &mut String) -> Result<(), Stop> {
+    fn swap(&mut self, out: &mut String) -> Result<(), CaseStop> {
         mem::swap(&mut self.scene, &mut self.copy);
         Ok(out.push_str("ok")?)
     }
 }
 
 // cell? CELL
-fn tell_cell(scene: &Scene, mut words: Words<'_>, out: &mut String) -> Result<(), Stop> {
+fn tell_cell(scene: &Scene, mut words: Words<'_>, out: &mut String) -> Result<(), CaseStop> {
     let cell = cell_of(words.word())?;
     Ok(push_value(scene.cell(cell), out)?)
 }
@@ -68,58 +70,40 @@ fn tell_hop(
     scene: &Scene,
     mut words: Words<'_>,
     out: &mut String,
-) -> Result<(), Stop> {
+) -> Result<(), CaseStop> {
     let from = words.number()?;
     let to = words.number()?;
-    match hop_in(alloc, scene, from, to)? {
+    let hops = Hops::build(alloc, scene.links())?;
+    match hops.hop(from, to) {
         Some(place) => Ok(push_place(place, out)?),
         None => Ok(out.push_str("nothing")?),
     }
 }
 
-fn hop_in(alloc: Global, scene: &Scene, from: u64, to: u64) -> Result<Option<Place>, NoMemory> {
-    let hops = Hops::build(alloc, scene.links())?;
-    Ok(hops.hop(from, to))
-}
-
-// way? FROM TO
+// way? FROM TO; copied_way? FROM TO: a copy of the way.
 fn tell_way(
     alloc: Global,
     scene: &Scene,
+    is_copied: bool,
     mut words: Words<'_>,
     out: &mut String,
-) -> Result<(), Stop> {
+) -> Result<(), CaseStop> {
     let from = words.number()?;
     let to = words.number()?;
     match way_in(alloc, scene, from, to)? {
-        Some(path) => Ok(push_hops(path.items(), out)?),
+        Some(way) if is_copied => push_way(way.copy()?, out),
+        Some(way) => push_way(way, out),
         None => Ok(out.push_str("none")?),
     }
 }
 
-// copied_way? FROM TO: a copy of the way.
-fn tell_copied_way(
-    alloc: Global,
-    scene: &Scene,
-    mut words: Words<'_>,
-    out: &mut String,
-) -> Result<(), Stop> {
-    let from = words.number()?;
-    let to = words.number()?;
-    match way_in(alloc, scene, from, to)? {
-        Some(path) => Ok(push_hops(path.copy()?.items(), out)?),
-        None => Ok(out.push_str("none")?),
-    }
+fn push_way(way: Path, out: &mut String) -> Result<(), CaseStop> {
+    Ok(push_decision(&Decision::Path(way), out)?)
 }
 
 fn way_in(alloc: Global, scene: &Scene, from: u64, to: u64) -> Result<Option<Path>, NoMemory> {
     let hops = Hops::build(alloc, scene.links())?;
     hops.path(from, to)
-}
-
-// knows? SWITCH
-fn tell_known(scene: &Scene, mut words: Words<'_>, out: &mut String) -> Result<(), Stop> {
-    Ok(push_flag(scene.knows(words.number()?), out)?)
 }
 
 // behind? CELL UPDATE: what the cell has behind the update, which isn't made.
@@ -128,11 +112,11 @@ fn tell_behind(
     scene: &Scene,
     mut words: Words<'_>,
     out: &mut String,
-) -> Result<(), Stop> {
+) -> Result<(), CaseStop> {
     let cell = cell_of(words.word())?;
     let update = update_of(alloc, words)?;
     if !has_room(&update) {
-        return Err(Stop::Unread);
+        return Err(CaseStop::Unread);
     }
     match value_behind(scene, &update, cell) {
         Ok(value) => Ok(push_value(value, out)?),
@@ -151,16 +135,21 @@ fn told<E: EnvNow>(env: &E, cell: Cell) -> Value {
 }
 
 // An update.
-fn make(alloc: Global, scene: &mut Scene, call: Words<'_>, out: &mut String) -> Result<(), Stop> {
+fn make(
+    alloc: Global,
+    scene: &mut Scene,
+    call: Words<'_>,
+    out: &mut String,
+) -> Result<(), CaseStop> {
     let update = update_of(alloc, call)?;
     push_answer(make_one(scene, &update)?, out)
 }
 
 /// Makes an update of at most 16 tables.
-pub fn make_one(scene: &mut Scene, update: &Update) -> Result<Result<(), UpdateError>, Stop> {
+pub fn make_one(scene: &mut Scene, update: &Update) -> Result<Result<(), UpdateError>, CaseStop> {
     if has_room(update) {
         Ok(scene.apply(update))
     } else {
-        Err(Stop::Unread)
+        Err(CaseStop::Unread)
     }
 }

@@ -1,4 +1,4 @@
-// Links and ways.
+// Links.
 use case_values::push_place;
 use maple_base::Place;
 use std::alloc::AllocError;
@@ -10,19 +10,6 @@ pub fn push_links(links: &[(Place, Place)], out: &mut String) -> Result<(), Allo
         push_place(*from, out)?;
         out.push_str(" ")?;
         push_place(*to, out)?;
-    }
-    Ok(())
-}
-
-/// Appends the switch and the port of each hop, with commas between them, or how many hops there are
-/// where they are more than four.
-pub fn push_hops(hops: &[Place], out: &mut String) -> Result<(), AllocError> {
-    if hops.len() > 4 {
-        return write!(out, "{} hops", hops.len());
-    }
-    for hop in hops {
-        push_comma(out)?;
-        push_place(*hop, out)?;
     }
     Ok(())
 }

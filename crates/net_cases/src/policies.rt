@@ -1,8 +1,8 @@
 // A policy: what its runs ask and decide, and that evaluation decides the same.
 use crate::changing::Changing;
-use crate::recorded::{push_outcome, push_record};
-use case_text::{Stop, Subject, Words};
-use case_values::key_of;
+use crate::recorded::push_record;
+use case_text::{CaseStop, Subject, Words};
+use case_values::{key_of, push_outcome};
 use maple_base::{Blank, EnvView, Key, NoMemory, Outcome};
 use policy_eval::eval;
 use policy_lang::Policy;
@@ -25,36 +25,36 @@ impl Subject for Policies {
         })
     }
 
-    fn answer(&mut self, call: Words<'_>, out: &mut String) -> Result<(), Stop> {
+    fn answer(&mut self, call: Words<'_>, out: &mut String) -> Result<(), CaseStop> {
         let mut words = call;
         match words.word() {
             "policy" => self.read(words, out),
             "eval" => evaluate(self.alloc, self.now()?, words, out),
             "trace" => trace(self.alloc, self.now()?, words, out),
             "trace_over" => trace_over(self.alloc, self.now()?, words, out),
-            _ => Err(Stop::Unread),
+            _ => Err(CaseStop::Unread),
         }
     }
 }
 
 impl Policies {
     // policy STATEMENTS: the policy that has these statements.
-    fn read(&mut self, words: Words<'_>, out: &mut String) -> Result<(), Stop> {
+    fn read(&mut self, words: Words<'_>, out: &mut String) -> Result<(), CaseStop> {
         let text = format!(in self.alloc; "policy {{ {} }}", words.rest())?;
         self.policy = Some(policy_of(self.alloc, text.as_bytes())?);
         Ok(out.push_str("ok")?)
     }
 
-    fn now(&self) -> Result<&Policy, Stop> {
-        self.policy.as_ref().ok_or(Stop::Unread)
+    fn now(&self) -> Result<&Policy, CaseStop> {
+        self.policy.as_ref().ok_or(CaseStop::Unread)
     }
 }
 
-fn policy_of(alloc: Global, text: &[u8]) -> Result<Policy, Stop> {
+fn policy_of(alloc: Global, text: &[u8]) -> Result<Policy, CaseStop> {
     match read_policy(alloc, text) {
         Ok(policy) => Ok(policy),
-        Err(ReadError::NoMemory) => Err(Stop::NoMemory),
-        Err(ReadError::Refused { .. }) => Err(Stop::Unread),
+        Err(ReadError::NoMemory) => Err(CaseStop::NoMemory),
+        Err(ReadError::Refused { .. }) => Err(CaseStop::Unread),
     }
 }
 
@@ -64,17 +64,17 @@ fn evaluate(
     policy: &Policy,
     mut words: Words<'_>,
     out: &mut String,
-) -> Result<(), Stop> {
+) -> Result<(), CaseStop> {
     let budget = words.number_u32()?;
     let key = key_of(words)?;
     Ok(push_outcome(&outcome_of(alloc, policy, budget, &key)?, out)?)
 }
 
-fn outcome_of(alloc: Global, policy: &Policy, budget: u32, key: &Key) -> Result<Outcome, Stop> {
+fn outcome_of(alloc: Global, policy: &Policy, budget: u32, key: &Key) -> Result<Outcome, CaseStop> {
     if key.valid() && 1 <= budget && budget <= 65_536 {
         Ok(eval(alloc, policy, budget, &Blank, 7, key)?)
     } else {
-        Err(Stop::Unread)
+        Err(CaseStop::Unread)
     }
 }
 
@@ -84,7 +84,7 @@ fn trace(
     policy: &Policy,
     mut words: Words<'_>,
     out: &mut String,
-) -> Result<(), Stop> {
+) -> Result<(), CaseStop> {
     let budget = words.number_u32()?;
     let key = key_of(words)?;
     let run = run_of(alloc, policy, budget, &key, &mut Blank)?;
@@ -98,7 +98,7 @@ fn trace_over(
     policy: &Policy,
     mut words: Words<'_>,
     out: &mut String,
-) -> Result<(), Stop> {
+) -> Result<(), CaseStop> {
     let mut view = Changing {
         reads: 0,
         refuses: words.number()?,
@@ -116,10 +116,10 @@ fn run_of<V: EnvView>(
     budget: u32,
     key: &Key,
     view: &mut V,
-) -> Result<Result<Run, RecordError>, Stop> {
+) -> Result<Result<Run, RecordError>, CaseStop> {
     if key.valid() && 1 <= budget && budget <= 65_536 {
         Ok(record(alloc, policy, 3, budget, 7, key, view))
     } else {
-        Err(Stop::Unread)
+        Err(CaseStop::Unread)
     }
 }

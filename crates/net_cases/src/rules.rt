@@ -3,53 +3,34 @@ ghost use Rattle.std.specs.Prelude.{◌≤◌, OnOk};
 ghost use Rattle.priority_plan.specs.Rules.{level_limit, levels_of};
 
 use crate::places::push_comma;
-use case_text::{Stop, Words};
+use case_text::{CaseStop, Words};
 use case_values::push_rule;
 use maple_base::Rule;
 use priority_plan::{chain, levels};
 use rule_builder::{rules, rules_where};
-use std::alloc::{AllocError, Global};
+use std::alloc::Global;
 use topo_paths::Scene;
 use trace_tree::Tree;
 
-/// facts?
-pub fn tell_facts(alloc: Global, tree: &Tree, out: &mut String) -> Result<(), Stop> {
-    has_room(tree)?;
-    Ok(push_rules(rules(alloc, tree)?.facts(), out)?)
-}
-
-/// barriers?
-pub fn tell_barriers(alloc: Global, tree: &Tree, out: &mut String) -> Result<(), Stop> {
-    has_room(tree)?;
-    Ok(push_rules(rules(alloc, tree)?.barriers(), out)?)
-}
-
-/// chain?: rules that show that no fewer priorities do, the lowest first.
-pub fn tell_chain(alloc: Global, tree: &Tree, out: &mut String) -> Result<(), Stop> {
-    has_room(tree)?;
-    Ok(push_rules(chain(alloc, tree)?.items(), out)?)
-}
-
-/// current_facts?: those that the tree has once the traces are gone of which a cell has changed.
-pub fn tell_current_facts(
+/// facts?, barriers?, chain?, current_facts?, current_barriers?: the facts or the barriers of the rules of a tree, or rules that
+/// show that no fewer priorities do, the lowest first; `current_`, of those that the tree has once the traces are gone of which
+/// a cell has changed.
+pub fn tell_rules(
     alloc: Global,
     tree: &Tree,
     scene: &Scene,
+    asked: &str,
     out: &mut String,
-) -> Result<(), Stop> {
+) -> Result<(), CaseStop> {
     has_room(tree)?;
-    Ok(push_rules(rules_where(alloc, tree, scene)?.facts(), out)?)
-}
-
-/// current_barriers?: the barriers of the same rules.
-pub fn tell_current_barriers(
-    alloc: Global,
-    tree: &Tree,
-    scene: &Scene,
-    out: &mut String,
-) -> Result<(), Stop> {
-    has_room(tree)?;
-    Ok(push_rules(rules_where(alloc, tree, scene)?.barriers(), out)?)
+    match asked {
+        "facts?" => push_rules(rules(alloc, tree)?.facts(), out),
+        "barriers?" => push_rules(rules(alloc, tree)?.barriers(), out),
+        "chain?" => push_rules(chain(alloc, tree)?.items(), out),
+        "current_facts?" => push_rules(rules_where(alloc, tree, scene)?.facts(), out),
+        "current_barriers?" => push_rules(rules_where(alloc, tree, scene)?.barriers(), out),
+        _ => Err(CaseStop::Unread),
+    }
 }
 
 /// falling? PRIORITY ADDRESS: of how many barriers in their order the priority is one more, and the
@@ -59,7 +40,7 @@ pub fn count_falling(
     tree: &Tree,
     mut words: Words<'_>,
     out: &mut String,
-) -> Result<(), Stop> {
+) -> Result<(), CaseStop> {
     let priority = words.number_u16()?;
     let address = words.number()?;
     has_room(tree)?;
@@ -84,9 +65,9 @@ fn falling(barriers: &[Rule], first: u16, highest: u64) -> u64 {
 }
 
 // The rules, with commas between them, or `none`.
-fn push_rules(rules: &[Rule], out: &mut String) -> Result<(), AllocError> {
+fn push_rules(rules: &[Rule], out: &mut String) -> Result<(), CaseStop> {
     if rules.is_empty() {
-        return out.push_str("none");
+        out.push_str("none")?;
     }
     for rule in rules {
         push_comma(out)?;
@@ -96,12 +77,12 @@ fn push_rules(rules: &[Rule], out: &mut String) -> Result<(), AllocError> {
 }
 
 // Whether the rules of a tree can be made.
-fn has_room(tree: &Tree) -> Result<(), Stop>
+fn has_room(tree: &Tree) -> Result<(), CaseStop>
     ensures { OnOk result (levels_of tree.now ≤ level_limit) }
 {
     if levels(tree) <= 65_000 {
         Ok(())
     } else {
-        Err(Stop::Unread)
+        Err(CaseStop::Unread)
     }
 }

@@ -1,7 +1,7 @@
 // Bodies that are made in memory, also such as no text has.
-use crate::texts::{push_bytes, text_in};
+use crate::texts::text_in;
 use crate::trees::push_tree;
-use case_text::{Stop, Words};
+use case_text::{CaseStop, Words, push_text};
 use maple_base::{Name, NoMemory};
 use maple_text::value_of;
 use policy_lang::{Block, Expr, Exprs, Head, Statement};
@@ -10,7 +10,7 @@ use std::alloc::Global;
 
 /// body STATEMENT ..: as `tree`, of these statements: `drop=COUNT`, so often `drop;`; `unknown`, `out x;`;
 /// `not=COUNT`, an `if` of so many `not` ahead of `1 == 1`; `sum=COUNT`, an `out` of a sum of so many signs.
-pub fn body(alloc: Global, words: Words<'_>, out: &mut String) -> Result<(), Stop> {
+pub fn body(alloc: Global, words: Words<'_>, out: &mut String) -> Result<(), CaseStop> {
     let mut list = Vec::new(alloc);
     for word in words.rest().split_whitespace() {
         push_statements(alloc, word, &mut list)?;
@@ -24,10 +24,10 @@ pub fn body(alloc: Global, words: Words<'_>, out: &mut String) -> Result<(), Sto
 }
 
 /// body_form STATEMENT .. : TEXT: whether the answer to `body` is this text.
-pub fn body_form(alloc: Global, words: Words<'_>, out: &mut String) -> Result<(), Stop> {
-    let (statements, form) = words.rest().split_once(" : ").ok_or(Stop::Unread)?;
+pub fn body_form(alloc: Global, words: Words<'_>, out: &mut String) -> Result<(), CaseStop> {
+    let (statements, form) = words.rest().split_once(" : ").ok_or(CaseStop::Unread)?;
     let mut wanted = String::new(alloc);
-    push_bytes(&text_in(alloc, Words::new(form))?, &mut wanted)?;
+    push_text(&text_in(alloc, Words::new(form))?, &mut wanted)?;
     let mut given = String::new(alloc);
     body(alloc, Words::new(statements), &mut given)?;
     Ok(out.push_str(if given.as_str() == wanted.as_str() {
@@ -37,15 +37,15 @@ pub fn body_form(alloc: Global, words: Words<'_>, out: &mut String) -> Result<()
     })?)
 }
 
-fn push_statements(alloc: Global, word: &str, list: &mut Vec<Statement>) -> Result<(), Stop> {
+fn push_statements(alloc: Global, word: &str, list: &mut Vec<Statement>) -> Result<(), CaseStop> {
     let (kind, count) = word.split_once('=').unwrap_or((word, "1"));
-    let count = value_of(count.as_bytes()).ok_or(Stop::Unread)?;
+    let count = value_of(count.as_bytes()).ok_or(CaseStop::Unread)?;
     match kind {
         "drop" => Ok(push_drops(count, list)?),
         "unknown" => Ok(list.push(out_of(alloc, unknown()?)?)?),
         "not" => Ok(list.push(if_of(alloc, nots_of(alloc, count)?))?),
         "sum" => Ok(list.push(out_of(alloc, sum_of(alloc, count)?)?)?),
-        _ => Err(Stop::Unread),
+        _ => Err(CaseStop::Unread),
     }
 }
 
@@ -56,8 +56,8 @@ fn push_drops(count: u64, list: &mut Vec<Statement>) -> Result<(), NoMemory> {
     Ok(())
 }
 
-fn unknown() -> Result<Expr, Stop> {
-    Ok(Expr::Var(Name::new(b"x").ok_or(Stop::Unread)?))
+fn unknown() -> Result<Expr, CaseStop> {
+    Ok(Expr::Var(Name::new(b"x").ok_or(CaseStop::Unread)?))
 }
 
 fn sum_of(alloc: Global, signs: u64) -> Result<Expr, NoMemory> {

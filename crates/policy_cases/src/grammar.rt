@@ -1,19 +1,18 @@
 // What readers take, and what they read; the stacks of which they are made.
 use crate::events::push_events;
 use crate::texts::text_in;
-use case_text::{Stop, Words};
+use case_text::{CaseStop, Words};
 use maple_base::NoMemory;
-use maple_text::value_of;
 use policy_grammar::{Event, Reader, Stack};
 use policy_tokens::{PlacedToken, read_tokens};
 use std::alloc::{AllocError, Global};
 
 /// wrong TEXT: the number of tokens ahead of the first one with which no policy can go on; that of all
 /// tokens where the end is wrong; `none`, where the tokens are a policy's.
-pub fn first_wrong(alloc: Global, words: Words<'_>, out: &mut String) -> Result<(), Stop> {
+pub fn first_wrong(alloc: Global, words: Words<'_>, out: &mut String) -> Result<(), CaseStop> {
     let text = text_in(alloc, words)?;
     let Ok(tokens) = read_tokens(alloc, &text) else {
-        return Err(Stop::Unread);
+        return Err(CaseStop::Unread);
     };
     match wrong_among(alloc, tokens.items())? {
         Some(ahead) => Ok(write!(out, "{ahead}")?),
@@ -36,10 +35,10 @@ fn wrong_among(alloc: Global, tokens: &[PlacedToken]) -> Result<Option<usize>, N
 }
 
 /// events TEXT: what is read of a text, part by part.
-pub fn events(alloc: Global, words: Words<'_>, out: &mut String) -> Result<(), Stop> {
+pub fn events(alloc: Global, words: Words<'_>, out: &mut String) -> Result<(), CaseStop> {
     let text = text_in(alloc, words)?;
     let Ok(tokens) = read_tokens(alloc, &text) else {
-        return Err(Stop::Unread);
+        return Err(CaseStop::Unread);
     };
     let events = emitted(alloc, tokens.items())?;
     Ok(push_events(&events, out)?)
@@ -60,23 +59,18 @@ fn emitted(alloc: Global, tokens: &[PlacedToken]) -> Result<Vec<Event>, NoMemory
 
 /// stack TAKEN NUMBER ..: what is on top of a stack of these numbers, and below that, once so many were
 /// taken away again.
-pub fn stack(alloc: Global, mut words: Words<'_>, out: &mut String) -> Result<(), Stop> {
+pub fn stack(alloc: Global, mut words: Words<'_>, out: &mut String) -> Result<(), CaseStop> {
     let taken = words.number()?;
     let mut stack = Stack::new(alloc);
-    push_numbers(words, &mut stack)?;
+    for number in &words.numbers(alloc)? {
+        stack.push(*number)?;
+    }
     for _ in 0..taken {
         stack.pop();
     }
     push_thing(stack.top(), out)?;
     out.push_str(" ")?;
     Ok(push_thing(stack.below(1), out)?)
-}
-
-fn push_numbers(words: Words<'_>, stack: &mut Stack<u64>) -> Result<(), Stop> {
-    for word in words.rest().split_whitespace() {
-        stack.push(value_of(word.as_bytes()).ok_or(Stop::Unread)?)?;
-    }
-    Ok(())
 }
 
 fn push_thing(thing: Option<u64>, out: &mut String) -> Result<(), AllocError> {

@@ -3,6 +3,7 @@
 #![tactic(auto)]
 
 mod bodies;
+mod calls;
 mod decisions;
 mod events;
 mod fault_names;
@@ -12,27 +13,23 @@ mod line;
 mod orders;
 mod outline;
 mod scopes;
-mod subjects;
 mod texts;
 mod tokens;
 mod trees;
 
+use calls::Calls;
 use case_text::{Program, check_file, check_files};
 use scopes::Scopes;
 use std::io;
 use std::io::ErrorKind;
-use subjects::{Evaluation, Readers, Scripts, Trees};
 
 struct Policies;
 
 impl Program for Policies {
     fn check(rt: &HostRuntime, subject: &str, file: &str) -> io::Result<bool> {
         match subject {
-            "readers" => check_file::<Readers>(rt, file),
-            "trees" => check_file::<Trees>(rt, file),
+            "calls" => check_file::<Calls>(rt, file),
             "scopes" => check_file::<Scopes>(rt, file),
-            "evaluation" => check_file::<Evaluation>(rt, file),
-            "scripts" => check_file::<Scripts>(rt, file),
             _ => Err(io::Error::from(ErrorKind::NotFound)),
         }
     }

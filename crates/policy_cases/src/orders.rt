@@ -1,17 +1,22 @@
 // What the lines of a script ask for.
-use crate::texts::push_bytes;
-use case_text::push_hex;
+use crate::texts::text_in;
+use case_text::{CaseStop, Words, push_hex, push_text};
 use case_values::push_place;
 use env_cells::Update;
-use maple_base::{Name, NoMemory, Place};
+use maple_base::{Name, NoMemory};
 use script_text::{Next, Step, StepStop, next_order};
 use std::alloc::{AllocError, Global};
 
 // How many places there are.
 const PLACES: u32 = 3;
 
-/// Appends each order with the number of its line, and how the script ends.
-pub fn push_script(alloc: Global, script: &[u8], out: &mut String) -> Result<(), NoMemory> {
+/// script TEXT: each order with the number of its line, and how the script ends.
+pub fn script(alloc: Global, words: Words<'_>, out: &mut String) -> Result<(), CaseStop> {
+    let text = text_in(alloc, words)?;
+    Ok(push_script(alloc, &text, out)?)
+}
+
+fn push_script(alloc: Global, script: &[u8], out: &mut String) -> Result<(), NoMemory> {
     let mut rest = script;
     let mut number = 1usize;
     for _ in 0..script.len() {
@@ -51,7 +56,10 @@ fn push_step(step: &Step, policy: &[u8], out: &mut String) -> Result<(), AllocEr
         Step::Nothing => out.push_str("nothing"),
         Step::Plug(place) => write!(out, "plug {place}"),
         Step::Unplug(place) => write!(out, "unplug {place}"),
-        Step::Arrival { place, port, frame } => push_arrival(*place, *port, frame.items(), out),
+        Step::Arrival { place, port, frame } => {
+            write!(out, "arrival {place} {port} ")?;
+            push_hex(frame.items(), out)
+        }
         Step::Turn { place, turns } => write!(out, "turn {place} {turns}"),
         Step::Settle => out.push_str("settle"),
         Step::Change(update) => push_update(update, out),
@@ -60,53 +68,35 @@ fn push_step(step: &Step, policy: &[u8], out: &mut String) -> Result<(), AllocEr
     }
 }
 
-fn push_arrival(place: u32, port: u16, frame: &[u8], out: &mut String) -> Result<(), AllocError> {
-    write!(out, "arrival {place} {port} ")?;
-    push_hex(frame, out)
-}
-
 // The text of a policy stands between quotes.
 fn push_policy(policy: &[u8], out: &mut String) -> Result<(), AllocError> {
     out.push_str("newpolicy \"")?;
-    push_bytes(policy, out)?;
+    push_text(policy, out)?;
     out.push_str("\"")
 }
 
 fn push_update(update: &Update, out: &mut String) -> Result<(), AllocError> {
     match update {
-        Update::Host { mac, place } => push_host(*mac, *place, out),
+        Update::Host { mac, place } => write!(out, "host {mac} {} {}", place.switch, place.port),
         Update::NoHost { mac } => write!(out, "nohost {mac}"),
-        Update::Link { from, to } => push_link(*from, *to, out),
-        Update::NoLink { from } => push_placed("nolink ", *from, out),
-        Update::Set { table, key, value } => push_set(table, *key, *value, out),
-        Update::Unset { table, key } => push_unset(table, *key, out),
+        Update::Link { from, to } => {
+            write!(out, "link {} {} ", from.switch, from.port)?;
+            push_place(*to, out)
+        }
+        Update::NoLink { from } => write!(out, "nolink {} {}", from.switch, from.port),
+        Update::Set { table, key, value } => {
+            push_named("set ", table, out)?;
+            write!(out, " {key} {value}")
+        }
+        Update::Unset { table, key } => {
+            push_named("unset ", table, out)?;
+            write!(out, " {key}")
+        }
         _ => out.push_str("another update"),
     }
 }
 
-fn push_placed(word: &str, place: Place, out: &mut String) -> Result<(), AllocError> {
-    out.push_str(word)?;
-    push_place(place, out)
-}
-
-fn push_host(mac: u64, place: Place, out: &mut String) -> Result<(), AllocError> {
-    write!(out, "host {mac} ")?;
-    push_place(place, out)
-}
-
-fn push_link(from: Place, to: Place, out: &mut String) -> Result<(), AllocError> {
-    push_placed("link ", from, out)?;
-    push_placed(" ", to, out)
-}
-
-fn push_set(table: &Name, key: u64, value: u64, out: &mut String) -> Result<(), AllocError> {
-    out.push_str("set ")?;
-    push_bytes(table.text(), out)?;
-    write!(out, " {key} {value}")
-}
-
-fn push_unset(table: &Name, key: u64, out: &mut String) -> Result<(), AllocError> {
-    out.push_str("unset ")?;
-    push_bytes(table.text(), out)?;
-    write!(out, " {key}")
+fn push_named(verb: &str, table: &Name, out: &mut String) -> Result<(), AllocError> {
+    out.push_str(verb)?;
+    push_text(table.text(), out)
 }

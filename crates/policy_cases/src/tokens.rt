@@ -1,19 +1,19 @@
 // The tokens of texts.
-use crate::texts::{push_bytes, text_in};
-use case_text::{Stop, Words};
+use crate::texts::text_in;
+use case_text::{CaseStop, Words, push_text};
 use policy_tokens::{Position, Token, Tokens, TokensError, read_tokens};
 use std::alloc::{AllocError, Global};
 
 /// tokens TEXT: each token behind its place, and the place of the end; or the place of the first fault
 /// with its number.
-pub fn tokens(alloc: Global, words: Words<'_>, out: &mut String) -> Result<(), Stop> {
+pub fn tokens(alloc: Global, words: Words<'_>, out: &mut String) -> Result<(), CaseStop> {
     let text = text_in(alloc, words)?;
     match read_tokens(alloc, &text) {
         Ok(tokens) => Ok(push_tokens(&tokens, out)?),
         Err(TokensError::Fault { position, kind }) => {
             Ok(push_fault(position, kind.number(), out)?)
         }
-        Err(TokensError::NoMemory) => Err(Stop::NoMemory),
+        Err(TokensError::NoMemory) => Err(CaseStop::NoMemory),
     }
 }
 
@@ -53,5 +53,5 @@ pub fn push_token(token: &Token, out: &mut String) -> Result<(), AllocError> {
 /// Appends a kind and a word.
 pub fn push_word(kind: &str, text: &[u8], out: &mut String) -> Result<(), AllocError> {
     out.push_str(kind)?;
-    push_bytes(text, out)
+    push_text(text, out)
 }

@@ -2,7 +2,7 @@
 ghost use Rattle.std.specs.Prelude.{◌≡◌, [], IfOk};
 ghost use Rattle.model_switch.specs.Meanings.{of_backward, of_failing, of_logged, of_orderly};
 
-use case_text::{Stop, Words};
+use case_text::{CaseStop, Words};
 use maple_top::{MOST_RULES, PORTS};
 use model_switch::{Backward, Failing, Logged, Orderly};
 use std::alloc::{AllocError, Global};
@@ -23,14 +23,14 @@ pub enum Kind {
 }
 
 /// The device that these words tell.
-pub fn kind_of(mut call: Words<'_>) -> Result<Kind, Stop> {
+pub fn kind_of(mut call: Words<'_>) -> Result<Kind, CaseStop> {
     match call.word() {
         "shuffled" => Ok(Kind::Shuffled(call.number()?)),
         "orderly" => Ok(Kind::Orderly(call.number()?, call.number_u16()?)),
         "backward" => Ok(Kind::Backward(call.number()?)),
         "logged" => Ok(Kind::Logged(call.number()?)),
         "failing" => Ok(Kind::Failing(call.number()?)),
-        _ => Err(Stop::Unread),
+        _ => Err(CaseStop::Unread),
     }
 }
 

@@ -1,6 +1,6 @@
 // What a run is given besides its words and its input.
 use crate::devices::{Kind, kind_of};
-use case_text::{Stop, Words};
+use case_text::{CaseStop, Words};
 use maple_base::NoMemory;
 use maple_top::DEVICES;
 use std::alloc::{AllocError, Global};
@@ -27,25 +27,25 @@ impl Given {
     }
 
     /// One device more, behind those told so far.
-    pub fn device(&mut self, call: Words<'_>) -> Result<(), Stop> {
+    pub fn device(&mut self, call: Words<'_>) -> Result<(), CaseStop> {
         self.is_told = true;
         self.kinds.push(kind_of(call)?)?;
         Ok(())
     }
 
     /// So many devices as the program's own.
-    pub fn devices(&mut self, mut call: Words<'_>) -> Result<(), Stop> {
+    pub fn devices(&mut self, mut call: Words<'_>) -> Result<(), CaseStop> {
         self.is_told = true;
         push_own(&mut self.kinds, call.number()?)?;
         Ok(())
     }
 
     /// A read or a write that fails.
-    pub fn fault(&mut self, mut call: Words<'_>) -> Result<(), Stop> {
+    pub fn fault(&mut self, mut call: Words<'_>) -> Result<(), CaseStop> {
         match call.word() {
             "read" => self.reads.push(call.number()?)?,
             "write" => self.writes.push(call.number()?)?,
-            _ => return Err(Stop::Unread),
+            _ => return Err(CaseStop::Unread),
         }
         Ok(())
     }

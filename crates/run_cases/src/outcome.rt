@@ -75,5 +75,5 @@ fn part_of<'a>(text: &'a str, wanted: &str) -> Option<&'a str> {
 
 fn push_behind(ahead: &str, text: &str, out: &mut String) -> Result<(), AllocError> {
     out.push_str(ahead)?;
-    push_text(text, out)
+    push_text(text.as_bytes(), out)
 }

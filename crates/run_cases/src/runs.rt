@@ -1,7 +1,7 @@
 // Runs of the top call.
 use crate::given::Given;
 use crate::outcome::{Outcome, outcome_of};
-use case_text::{Stop, Subject, Words};
+use case_text::{CaseStop, Subject, Words};
 use maple_base::NoMemory;
 use std::alloc::Global;
 
@@ -30,7 +30,7 @@ impl Subject for Runs {
         })
     }
 
-    fn answer(&mut self, mut call: Words<'_>, out: &mut String) -> Result<(), Stop> {
+    fn answer(&mut self, mut call: Words<'_>, out: &mut String) -> Result<(), CaseStop> {
         match call.word() {
             "run" => self.run(call, out),
             "sim" => self.give("sim", call, out),
@@ -46,7 +46,7 @@ impl Subject for Runs {
 }
 
 impl Runs {
-    fn set(&mut self, word: &str, mut call: Words<'_>) -> Result<(), Stop> {
+    fn set(&mut self, word: &str, mut call: Words<'_>) -> Result<(), CaseStop> {
         match word {
             "device" => self.given.device(call),
             "devices" => self.given.devices(call),
@@ -59,11 +59,11 @@ impl Runs {
             "output" => push_line(&mut self.output, call),
             "output_part" => Ok(self.output.push_str(&call.text(self.alloc)?)?),
             "output_each" => push_each(self.alloc, &mut self.output, call),
-            _ => Err(Stop::Unread),
+            _ => Err(CaseStop::Unread),
         }
     }
 
-    fn boot(&mut self) -> Result<(), Stop> {
+    fn boot(&mut self) -> Result<(), CaseStop> {
         self.input.push_str(BOOT)?;
         self.output.push_str(BOOTED)?;
         Ok(())
@@ -74,20 +74,20 @@ impl Runs {
     }
 
     // Runs the words of the call.
-    fn run(&self, call: Words<'_>, out: &mut String) -> Result<(), Stop> {
+    fn run(&self, call: Words<'_>, out: &mut String) -> Result<(), CaseStop> {
         let came = self.came(call.rest(), self.input.as_str())?;
         Ok(came.push(self.output.as_str(), out)?)
     }
 
     // Runs a word, where the text of the call stands in the place of `@`.
-    fn give(&self, word: &str, call: Words<'_>, out: &mut String) -> Result<(), Stop> {
+    fn give(&self, word: &str, call: Words<'_>, out: &mut String) -> Result<(), CaseStop> {
         let input = self.input_with(call)?;
         let came = self.came(word, input.as_str())?;
         Ok(came.push(self.output.as_str(), out)?)
     }
 
     // The same of both commands, which are to write the same.
-    fn both(&self, call: Words<'_>, out: &mut String) -> Result<(), Stop> {
+    fn both(&self, call: Words<'_>, out: &mut String) -> Result<(), CaseStop> {
         self.give("sim", call, out)?;
         let mut other = String::new(self.alloc);
         self.give("check", call, &mut other)?;
@@ -98,7 +98,7 @@ impl Runs {
     }
 
     // Prints a policy, and then what was printed, of which the same is to come.
-    fn form(&self, call: Words<'_>, out: &mut String) -> Result<(), Stop> {
+    fn form(&self, call: Words<'_>, out: &mut String) -> Result<(), CaseStop> {
         let input = self.input_with(call)?;
         let came = self.came("check", input.as_str())?;
         came.push(self.output.as_str(), out)?;
@@ -110,9 +110,9 @@ impl Runs {
         Ok(())
     }
 
-    fn input_with(&self, call: Words<'_>) -> Result<String, Stop> {
+    fn input_with(&self, call: Words<'_>) -> Result<String, CaseStop> {
         let Some((ahead, behind)) = self.input.split_once('@') else {
-            return Err(Stop::Unread);
+            return Err(CaseStop::Unread);
         };
         let text = call.text(self.alloc)?;
         let mut input = String::from_str(self.alloc, ahead)?;
@@ -122,14 +122,14 @@ impl Runs {
     }
 }
 
-fn push_line(text: &mut String, call: Words<'_>) -> Result<(), Stop> {
+fn push_line(text: &mut String, call: Words<'_>) -> Result<(), CaseStop> {
     text.push_str(call.rest())?;
     text.push_str("\n")?;
     Ok(())
 }
 
 // Appends a text for each number from one up to another, which `$` in the text stands for.
-fn push_each(alloc: Global, text: &mut String, mut call: Words<'_>) -> Result<(), Stop> {
+fn push_each(alloc: Global, text: &mut String, mut call: Words<'_>) -> Result<(), CaseStop> {
     let first = call.number_u32()?;
     let last = call.number_u32()?;
     let part = call.text(alloc)?;

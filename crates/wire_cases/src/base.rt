@@ -1,9 +1,8 @@
 // Keys and matches, names, paths and decisions.
-use crate::decisions::{decision_of, two_hops};
-use crate::spelling::push_ports;
-use case_text::{Stop, Subject, Words};
-use case_values::{key_of, match_of, push_flag, push_place, with_fields};
-use maple_base::{Decision, Field, Key, Match, Name, NoMemory, Path, Place};
+use crate::decisions::decision_of;
+use case_text::{CaseStop, Subject, Words};
+use case_values::{BLANK, key_of, match_of, push_actions, push_decision, push_flag, with_fields};
+use maple_base::{Decision, Field, Key, Match, Name, NoMemory};
 use std::alloc::{AllocError, Global};
 
 /// A key that others are made of, and that matches are asked of.
@@ -18,7 +17,7 @@ impl Subject for Base {
         Ok(Base { alloc, key: BLANK })
     }
 
-    fn answer(&mut self, mut call: Words<'_>, out: &mut String) -> Result<(), Stop> {
+    fn answer(&mut self, mut call: Words<'_>, out: &mut String) -> Result<(), CaseStop> {
         match call.word() {
             "key" => {
                 self.key = key_of(call)?;
@@ -28,29 +27,14 @@ impl Subject for Base {
             "match" => push_judged(&match_of(call.word())?, &self.key, out)?,
             "name" => push_flag(Name::new(call.rest().as_bytes()).is_some(), out)?,
             "field" => push_field(Field::named(call.rest().as_bytes()), out)?,
-            "hops" => push_two_hops(self.alloc, out)?,
-            "copy" => push_copy(self.alloc, out)?,
+            "decision" => push_decision(&decision_of(self.alloc, call.word())?, out)?,
+            "copy" => push_copy(&decision_of(self.alloc, call.word())?, out)?,
             "actions" => push_actions_at(self.alloc, call, out)?,
-            _ => return Err(Stop::Unread),
+            _ => return Err(CaseStop::Unread),
         }
         Ok(())
     }
 }
-
-const BLANK: Key = Key {
-    in_port: 0,
-    dl_src: 0,
-    dl_dst: 0,
-    dl_vlan: 0xffff,
-    dl_pcp: 0,
-    dl_type: 0,
-    nw_tos: 0,
-    nw_proto: 0,
-    nw_src: 0,
-    nw_dst: 0,
-    tp_src: 0,
-    tp_dst: 0,
-};
 
 // Whether a match fits the key, is normal, and is exact.
 fn push_judged(of: &Match, key: &Key, out: &mut String) -> Result<(), AllocError> {
@@ -68,42 +52,14 @@ fn push_field(field: Option<Field>, out: &mut String) -> Result<(), AllocError> 
     }
 }
 
-fn push_two_hops(alloc: Global, out: &mut String) -> Result<(), NoMemory> {
-    let path = two_hops(alloc)?;
-    push_hops(path.items(), out)?;
-    Ok(())
-}
-
-fn push_copy(alloc: Global, out: &mut String) -> Result<(), NoMemory> {
-    let copy = copy_of_hops(alloc)?;
-    push_hops(copy.items(), out)?;
-    Ok(())
-}
-
-fn copy_of_hops(alloc: Global) -> Result<Path, NoMemory> {
-    let path = two_hops(alloc)?;
-    path.copy()
-}
-
-fn push_hops(hops: &[Place], out: &mut String) -> Result<(), AllocError> {
-    let mut sign = "";
-    for hop in hops {
-        out.push_str(sign)?;
-        push_place(*hop, out)?;
-        sign = ", ";
-    }
-    Ok(())
+fn push_copy(decision: &Decision, out: &mut String) -> Result<(), NoMemory> {
+    let copy = decision.copy()?;
+    Ok(push_decision(&copy, out)?)
 }
 
 // SWITCH DECISION: what a copy of the decision has the switch do.
-fn push_actions_at(alloc: Global, mut call: Words<'_>, out: &mut String) -> Result<(), Stop> {
+fn push_actions_at(alloc: Global, mut call: Words<'_>, out: &mut String) -> Result<(), CaseStop> {
     let switch = call.number()?;
-    let decision = decision_of(alloc, call.word())?;
-    Ok(push_copied(&decision, switch, out)?)
-}
-
-fn push_copied(decision: &Decision, switch: u64, out: &mut String) -> Result<(), NoMemory> {
-    let copy = decision.copy()?;
-    push_ports(copy.actions_at(switch).items(), out)?;
-    Ok(())
+    let copy = decision_of(alloc, call.word())?.copy()?;
+    Ok(push_actions(&copy.actions_at(switch), out)?)
 }

@@ -1,9 +1,8 @@
 // A message with one byte changed, or cut short.
-use crate::messages::push_bad;
-use case_text::{Stop, Subject, Words};
+use case_text::{CaseStop, Subject, Words};
 use maple_base::NoMemory;
 use of10_codec::{Bad, decode_ref};
-use std::alloc::{AllocError, Global};
+use std::alloc::Global;
 
 /// The bytes of a message.
 #[derive(Drop)]
@@ -13,7 +12,7 @@ pub struct Changes {
 }
 
 // What is read of other bytes than those of the message.
-#[derive(Clone, Copy, PartialEq, Eq)]
+#[derive(Clone, Copy, Debug, PartialEq, Eq)]
 enum Found {
     Wrong(Bad),
     Same,
@@ -26,15 +25,15 @@ impl Subject for Changes {
         Ok(Changes { alloc, whole })
     }
 
-    fn answer(&mut self, mut call: Words<'_>, out: &mut String) -> Result<(), Stop> {
+    fn answer(&mut self, mut call: Words<'_>, out: &mut String) -> Result<(), CaseStop> {
         match call.word() {
             "message" => {
                 self.whole = call.bytes(self.alloc)?;
-                Ok(push_found(found_in(&self.whole, &self.whole), out)?)
+                push_cut(&self.whole, self.whole.len(), out)
             }
-            "cut" => push_cut(&self.whole, call, out),
+            "cut" => push_cut(&self.whole, usize::try_from(call.number()?)?, out),
             "change" => push_changes(self.alloc, &self.whole, call, out),
-            _ => Err(Stop::Unread),
+            _ => Err(CaseStop::Unread),
         }
     }
 }
@@ -47,19 +46,11 @@ fn found_in(bytes: &[u8], whole: &[u8]) -> Found {
     }
 }
 
-fn push_found(found: Found, out: &mut String) -> Result<(), AllocError> {
-    match found {
-        Found::Wrong(bad) => push_bad(bad, out),
-        Found::Same => out.push_str("same"),
-        Found::Other => out.push_str("other"),
-    }
-}
-
-// LENGTH: what is read of so many bytes.
-fn push_cut(whole: &[u8], mut call: Words<'_>, out: &mut String) -> Result<(), Stop> {
-    let len = usize::try_from(call.number()?)?;
-    let front = whole.get(..len).ok_or(Stop::Unread)?;
-    Ok(push_found(found_in(front, whole), out)?)
+// What is read of so many bytes.
+fn push_cut(whole: &[u8], len: usize, out: &mut String) -> Result<(), CaseStop> {
+    let front = whole.get(..len).ok_or(CaseStop::Unread)?;
+    let found = found_in(front, whole);
+    Ok(write!(out, "{found:?}")?)
 }
 
 // OFFSET: what is read where this byte is 0, 1, .. 255; told where it isn't as with the value before.
@@ -68,30 +59,25 @@ fn push_changes(
     whole: &[u8],
     mut call: Words<'_>,
     out: &mut String,
-) -> Result<(), Stop> {
+) -> Result<(), CaseStop> {
     let offset = usize::try_from(call.number()?)?;
     let mut last: Option<Found> = None;
     for value in 0..=255_u8 {
         let found = changed(alloc, whole, offset, value)?;
         if last != Some(found) {
-            push_begin(value, found, out)?;
+            let sign = if value == 0 { "" } else { ", " };
+            write!(out, "{sign}{value} {found:?}")?;
         }
         last = Some(found);
     }
     Ok(())
 }
 
-fn changed(alloc: Global, whole: &[u8], offset: usize, value: u8) -> Result<Found, Stop> {
+fn changed(alloc: Global, whole: &[u8], offset: usize, value: u8) -> Result<Found, CaseStop> {
     let mut bytes = Vec::from_slice(alloc, whole)?;
     if offset >= bytes.len() {
-        return Err(Stop::Unread);
+        return Err(CaseStop::Unread);
     }
     bytes[offset] = value;
     Ok(found_in(&bytes, whole))
-}
-
-fn push_begin(value: u8, found: Found, out: &mut String) -> Result<(), AllocError> {
-    let sign = if value == 0 { "" } else { ", " };
-    write!(out, "{sign}{value} ")?;
-    push_found(found, out)
 }

@@ -1,7 +1,7 @@
 // Commands as text.
-use crate::spelling::{push_letters, push_tail};
+use crate::spelling::push_tail;
+use case_text::push_text;
 use case_values::{push_key, push_place};
-use maple_base::{Name, Place};
 use script_text::Command;
 use std::alloc::AllocError;
 
@@ -27,37 +27,21 @@ fn push_change(command: &Command, out: &mut String) -> Result<(), AllocError> {
             write!(out, "host {address} ")?;
             push_place(*place, out)
         }
-        Command::Link(from, to) => push_link(*from, *to, out),
-        Command::NoLink(from) => {
-            out.push_str("nolink ")?;
-            push_place(*from, out)
+        Command::Link(from, to) => {
+            write!(out, "link {} {} ", from.switch, from.port)?;
+            push_place(*to, out)
         }
+        Command::NoLink(from) => write!(out, "nolink {} {}", from.switch, from.port),
         Command::Set(name, key, value) => {
-            push_named("set ", name, out)?;
+            out.push_str("set ")?;
+            push_text(name.text(), out)?;
             write!(out, " {key} {value}")
         }
         Command::Unset(name, key) => {
-            push_named("unset ", name, out)?;
+            out.push_str("unset ")?;
+            push_text(name.text(), out)?;
             write!(out, " {key}")
         }
-        _ => push_arrival(command, out),
-    }
-}
-
-fn push_link(from: Place, to: Place, out: &mut String) -> Result<(), AllocError> {
-    out.push_str("link ")?;
-    push_place(from, out)?;
-    out.push_str(" ")?;
-    push_place(to, out)
-}
-
-fn push_named(verb: &str, name: &Name, out: &mut String) -> Result<(), AllocError> {
-    out.push_str(verb)?;
-    push_letters(name.text(), out)
-}
-
-fn push_arrival(command: &Command, out: &mut String) -> Result<(), AllocError> {
-    match command {
         Command::Packet(device, spec) => {
             write!(out, "packet {device} ")?;
             push_key(spec.key(), out)

@@ -1,23 +1,23 @@
 // Decisions: `drop`, `flood`, ports, or a path by its hops.
-use crate::spelling::ports_of;
-use case_text::Stop;
+use case_text::CaseStop;
+use case_values::actions_of;
 use maple_base::{Decision, NoMemory, Path, Place};
 use std::alloc::Global;
 
 /// The decision that a word is.
-pub fn decision_of(alloc: Global, word: &str) -> Result<Decision, Stop> {
+pub fn decision_of(alloc: Global, word: &str) -> Result<Decision, CaseStop> {
     match word {
         "drop" => Ok(Decision::Drop),
         "flood" => Ok(Decision::Flood),
         "1:5,2:6" => Ok(Decision::Path(two_hops(alloc)?)),
         "1:1,2:16" => Ok(Decision::Path(two_other_hops(alloc)?)),
         "64_hops" => Ok(Decision::Path(most_hops(alloc)?)),
-        _ => Ok(Decision::Out(ports_of(alloc, word)?)),
+        _ => Ok(Decision::Out(actions_of(alloc, word)?)),
     }
 }
 
-/// By port 5 of switch 1, and port 6 of switch 2.
-pub fn two_hops(alloc: Global) -> Result<Path, NoMemory> {
+// By port 5 of switch 1, and port 6 of switch 2.
+fn two_hops(alloc: Global) -> Result<Path, NoMemory> {
     let hops = [Place { switch: 1, port: 5 }, Place { switch: 2, port: 6 }];
     Ok(Path::new(Vec::from_slice(alloc, &hops)?))
 }

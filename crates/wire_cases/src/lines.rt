@@ -1,14 +1,13 @@
 // The lines of reports, of words.
 use crate::decisions::decision_of;
-use crate::spelling::ports_of;
-use case_text::{Stop, Words};
-use case_values::match_of;
+use case_text::{CaseStop, Words};
+use case_values::{actions_of, match_of};
 use maple_base::{PolicyFault, UpdateRefused};
 use report_text::{Learnt, Line, ScriptRefusal, Why};
 use std::alloc::Global;
 
 /// The line that words are.
-pub fn line_of(alloc: Global, mut words: Words<'_>) -> Result<Line, Stop> {
+pub fn line_of(alloc: Global, mut words: Words<'_>) -> Result<Line, CaseStop> {
     match words.word() {
         "update" => update(words),
         "policy" => policy(words),
@@ -17,12 +16,12 @@ pub fn line_of(alloc: Global, mut words: Words<'_>) -> Result<Line, Stop> {
         "hit" => Ok(Line::Hit {
             device: words.number_u32()?,
             port: words.number_u16()?,
-            actions: ports_of(alloc, words.word())?,
+            actions: actions_of(alloc, words.word())?,
         }),
         "rule" => Ok(Line::Rule {
             switch: words.number()?,
             priority: words.number_u16()?,
-            actions: ports_of(alloc, words.word())?,
+            actions: actions_of(alloc, words.word())?,
             of: match_of(words.word())?,
         }),
         "settled" => Ok(Line::Settled {
@@ -40,7 +39,7 @@ pub fn line_of(alloc: Global, mut words: Words<'_>) -> Result<Line, Stop> {
 }
 
 // Lines of a switch and a number, or of a state.
-fn numbered(verb: &str, mut words: Words<'_>) -> Result<Line, Stop> {
+fn numbered(verb: &str, mut words: Words<'_>) -> Result<Line, CaseStop> {
     match verb {
         "state" => Ok(Line::State {
             state: words.number()?,
@@ -63,7 +62,7 @@ fn numbered(verb: &str, mut words: Words<'_>) -> Result<Line, Stop> {
 }
 
 // Lines of a device alone, or with one thing more.
-fn of_device(verb: &str, device: u32, mut words: Words<'_>) -> Result<Line, Stop> {
+fn of_device(verb: &str, device: u32, mut words: Words<'_>) -> Result<Line, CaseStop> {
     match verb {
         "open" => Ok(Line::Open { device }),
         "overload" => Ok(Line::Overload { device }),
@@ -83,7 +82,7 @@ fn of_device(verb: &str, device: u32, mut words: Words<'_>) -> Result<Line, Stop
 }
 
 // Lines of a device with what came from it.
-fn heard(verb: &str, device: u32, mut words: Words<'_>) -> Result<Line, Stop> {
+fn heard(verb: &str, device: u32, mut words: Words<'_>) -> Result<Line, CaseStop> {
     match verb {
         "error" => Ok(Line::Error {
             device,
@@ -107,11 +106,11 @@ fn heard(verb: &str, device: u32, mut words: Words<'_>) -> Result<Line, Stop> {
             device,
             turns: words.number_u32()?,
         }),
-        _ => Err(Stop::Unread),
+        _ => Err(CaseStop::Unread),
     }
 }
 
-fn why(mut words: Words<'_>) -> Result<Why, Stop> {
+fn why(mut words: Words<'_>) -> Result<Why, CaseStop> {
     match words.word() {
         "Bad" => Ok(Why::Bad {
             place: words.number()?,
@@ -125,11 +124,11 @@ fn why(mut words: Words<'_>) -> Result<Why, Stop> {
         "Xids" => Ok(Why::Xids),
         "Link" => Ok(Why::Link),
         "Fault" => Ok(Why::Fault),
-        _ => Err(Stop::Unread),
+        _ => Err(CaseStop::Unread),
     }
 }
 
-fn update(mut words: Words<'_>) -> Result<Line, Stop> {
+fn update(mut words: Words<'_>) -> Result<Line, CaseStop> {
     let kind = match words.word() {
         "UnknownTable" => UpdateRefused::UnknownTable,
         "UnknownSwitch" => UpdateRefused::UnknownSwitch,
@@ -138,33 +137,33 @@ fn update(mut words: Words<'_>) -> Result<Line, Stop> {
             count: words.number()?,
             limit: words.number()?,
         },
-        _ => return Err(Stop::Unread),
+        _ => return Err(CaseStop::Unread),
     };
     Ok(Line::RefusedUpdate { kind })
 }
 
 // LINE COLUMN NUMBER: the number of the fault, in the order of its kinds.
-fn policy(mut words: Words<'_>) -> Result<Line, Stop> {
+fn policy(mut words: Words<'_>) -> Result<Line, CaseStop> {
     Ok(Line::RefusedPolicy {
         line: words.number_u32()?,
         column: words.number_u32()?,
-        kind: PolicyFault::numbered(words.number_u8()?).ok_or(Stop::Unread)?,
+        kind: PolicyFault::numbered(words.number_u8()?).ok_or(CaseStop::Unread)?,
     })
 }
 
-fn script(mut words: Words<'_>) -> Result<Line, Stop> {
+fn script(mut words: Words<'_>) -> Result<Line, CaseStop> {
     let line = words.number_u32()?;
     let kind = match words.word() {
         "Grammar" => ScriptRefusal::Grammar,
         "TooLong" => ScriptRefusal::TooLong,
         "Switch" => ScriptRefusal::Switch,
-        _ => return Err(Stop::Unread),
+        _ => return Err(CaseStop::Unread),
     };
     Ok(Line::RefusedScript { line, kind })
 }
 
 // SWITCH PORT DECISION LEARNT
-fn answer(alloc: Global, mut words: Words<'_>) -> Result<Line, Stop> {
+fn answer(alloc: Global, mut words: Words<'_>) -> Result<Line, CaseStop> {
     let switch = words.number()?;
     let port = words.number_u16()?;
     let word = words.word();
@@ -177,7 +176,7 @@ fn answer(alloc: Global, mut words: Words<'_>) -> Result<Line, Stop> {
     })
 }
 
-fn learnt(mut words: Words<'_>) -> Result<Learnt, Stop> {
+fn learnt(mut words: Words<'_>) -> Result<Learnt, CaseStop> {
     match words.word() {
         "Learned" => Ok(Learnt::Learned),
         "Known" => Ok(Learnt::Known),
@@ -190,6 +189,6 @@ fn learnt(mut words: Words<'_>) -> Result<Learnt, Stop> {
             capacity: words.number_u32()?,
         }),
         "Quiet" => Ok(Learnt::Quiet),
-        _ => Err(Stop::Unread),
+        _ => Err(CaseStop::Unread),
     }
 }

@@ -1,6 +1,6 @@
 // A source and a sink in memory, whose failures are chosen ahead.
 use crate::spelling::numbers_of;
-use case_text::{Stop, Subject, Words, push_hex};
+use case_text::{CaseStop, Subject, Words, push_hex};
 use maple_base::NoMemory;
 use maple_io::{Got, MemSink, MemSource, Put, Sink, Source};
 use std::alloc::{AllocError, Global};
@@ -22,7 +22,7 @@ impl Subject for Memory {
         })
     }
 
-    fn answer(&mut self, mut call: Words<'_>, out: &mut String) -> Result<(), Stop> {
+    fn answer(&mut self, mut call: Words<'_>, out: &mut String) -> Result<(), CaseStop> {
         match call.word() {
             "source" => {
                 self.source = source(self.alloc, call)?;
@@ -35,13 +35,13 @@ impl Subject for Memory {
             "read" => push_read(self.alloc, &mut self.source, call, out),
             "write" => push_write(&mut self.sink, call.rest().as_bytes(), out),
             "taken" => Ok(push_taken(self.sink.bytes(), out)?),
-            _ => Err(Stop::Unread),
+            _ => Err(CaseStop::Unread),
         }
     }
 }
 
 // The numbers of the reads that fail, and bytes.
-fn source(alloc: Global, mut call: Words<'_>) -> Result<MemSource, Stop> {
+fn source(alloc: Global, mut call: Words<'_>) -> Result<MemSource, CaseStop> {
     let fails = numbers_of(alloc, call.word())?;
     let content = call.bytes(alloc)?;
     Ok(MemSource::new(content, fails))
@@ -53,10 +53,10 @@ fn push_read(
     source: &mut MemSource,
     mut call: Words<'_>,
     out: &mut String,
-) -> Result<(), Stop> {
+) -> Result<(), CaseStop> {
     let mut into = vec![in alloc; 0u8; usize::try_from(call.number()?)?]?;
     if into.is_empty() {
-        return Err(Stop::Unread);
+        return Err(CaseStop::Unread);
     }
     match source.read(&mut into) {
         Got::Bytes(count) => push_hex(into.get(..count).unwrap_or(&[]), out)?,
@@ -67,9 +67,9 @@ fn push_read(
 }
 
 // What became of one write, and how many writes failed up to now.
-fn push_write(sink: &mut MemSink, piece: &[u8], out: &mut String) -> Result<(), Stop> {
+fn push_write(sink: &mut MemSink, piece: &[u8], out: &mut String) -> Result<(), CaseStop> {
     if piece.is_empty() {
-        return Err(Stop::Unread);
+        return Err(CaseStop::Unread);
     }
     push_put(sink.write(piece), out)?;
     Ok(write!(out, "/{}", sink.faults())?)

@@ -1,35 +1,21 @@
-// Messages and faults as text.
-use crate::spelling::{push_ports, push_tail};
-use case_values::push_match;
+// Messages as text.
+use crate::spelling::push_tail;
+use case_values::{push_actions, push_match};
 use maple_base::Port;
-use of10_codec::{Bad, Body, Message};
+use of10_codec::{Body, Message};
 use std::alloc::AllocError;
 
 /// Appends a message, behind its transaction id.
 pub fn push_message(message: &Message, out: &mut String) -> Result<(), AllocError> {
     write!(out, "{} ", message.xid)?;
-    push_body(&message.body, out)
-}
-
-/// Appends a fault.
-pub fn push_bad(bad: Bad, out: &mut String) -> Result<(), AllocError> {
-    match bad {
-        Bad::Short => out.push_str("Short"),
-        Bad::Version => out.push_str("Version"),
-        Bad::Length => out.push_str("Length"),
-        Bad::Body { kind, offset } => write!(out, "Body {kind} {offset}"),
-    }
-}
-
-fn push_body(body: &Body, out: &mut String) -> Result<(), AllocError> {
-    match body {
+    match &message.body {
         Body::Hello { version } => write!(out, "hello {version}"),
         Body::FeaturesRequest => out.push_str("features_request"),
         Body::SetConfig { miss_send_len } => write!(out, "set_config {miss_send_len}"),
         Body::BarrierRequest => out.push_str("barrier_request"),
         Body::BarrierReply => out.push_str("barrier_reply"),
         Body::Other { kind } => write!(out, "other {kind}"),
-        _ => push_long_body(body, out),
+        body => push_long_body(body, out),
     }
 }
 
@@ -49,26 +35,22 @@ fn push_long_body(body: &Body, out: &mut String) -> Result<(), AllocError> {
         }
         Body::FeaturesReply { dpid, ports } => {
             write!(out, "features_reply {dpid}")?;
-            push_each_port(ports.items(), out)
+            push_ports(ports.items(), out)
         }
         Body::PortStatus { reason, port } => {
             write!(out, "port_status {reason}")?;
-            push_port(*port, out)
+            push_ports(&[*port], out)
         }
         _ => push_packet(body, out),
     }
 }
 
-fn push_each_port(ports: &[Port], out: &mut String) -> Result<(), AllocError> {
+fn push_ports(ports: &[Port], out: &mut String) -> Result<(), AllocError> {
     for port in ports {
-        push_port(*port, out)?;
+        let state = if port.up { "up" } else { "down" };
+        write!(out, " {}:{state}", port.number)?;
     }
     Ok(())
-}
-
-fn push_port(port: Port, out: &mut String) -> Result<(), AllocError> {
-    let state = if port.up { "up" } else { "down" };
-    write!(out, " {}:{state}", port.number)
 }
 
 fn push_packet(body: &Body, out: &mut String) -> Result<(), AllocError> {
@@ -90,7 +72,7 @@ fn push_packet(body: &Body, out: &mut String) -> Result<(), AllocError> {
             bytes,
         } => {
             write!(out, "packet_out {buffer} {in_port} ")?;
-            push_ports(actions.items(), out)?;
+            push_actions(actions, out)?;
             push_tail(bytes.items(), out)
         }
         _ => push_rule(body, out),
@@ -126,7 +108,7 @@ fn push_rule(body: &Body, out: &mut String) -> Result<(), AllocError> {
             push_match(of, out)?;
             write!(out, " {cookie} {command} {idle} {hard} {priority} ")?;
             write!(out, "{buffer} {out_port} {flags} ")?;
-            push_ports(actions.items(), out)
+            push_actions(actions, out)
         }
         _ => out.push_str("another"),
     }

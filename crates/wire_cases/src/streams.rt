@@ -1,6 +1,6 @@
 // Streams of messages, piece by piece.
-use crate::messages::{push_bad, push_message};
-use case_text::{Stop, Subject, Words};
+use crate::messages::push_message;
+use case_text::{CaseStop, Subject, Words};
 use maple_base::NoMemory;
 use of10_stream::{Next, Reassembly};
 use std::alloc::Global;
@@ -18,11 +18,11 @@ impl Subject for Streams {
         Ok(Streams { alloc, stream })
     }
 
-    fn answer(&mut self, mut call: Words<'_>, out: &mut String) -> Result<(), Stop> {
+    fn answer(&mut self, mut call: Words<'_>, out: &mut String) -> Result<(), CaseStop> {
         match call.word() {
             "feed" => feed(self.alloc, &mut self.stream, call, out),
             "next" => push_next(&self.stream.next(), out),
-            _ => Err(Stop::Unread),
+            _ => Err(CaseStop::Unread),
         }
     }
 }
@@ -32,20 +32,17 @@ fn feed(
     stream: &mut Reassembly,
     call: Words<'_>,
     out: &mut String,
-) -> Result<(), Stop> {
+) -> Result<(), CaseStop> {
     let piece = call.bytes(alloc)?;
     stream.feed(&piece)?;
     Ok(out.push_str("ok")?)
 }
 
-fn push_next(next: &Next, out: &mut String) -> Result<(), Stop> {
+fn push_next(next: &Next, out: &mut String) -> Result<(), CaseStop> {
     match next {
         Next::Message(message) => Ok(push_message(message, out)?),
         Next::More => Ok(out.push_str("More")?),
-        Next::Bad { place, bad } => {
-            push_bad(*bad, out)?;
-            Ok(write!(out, " from {place}")?)
-        }
-        Next::NoMemory => Err(Stop::NoMemory),
+        Next::Bad { place, bad } => { Ok(write!(out, "{bad:?} from {place}")?) }
+        Next::NoMemory => Err(CaseStop::NoMemory),
     }
 }

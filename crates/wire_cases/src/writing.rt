@@ -3,7 +3,7 @@ ghost use Rattle.std.specs.Prelude.{◌≡◌, true, IsTrue};
 ghost use Rattle.of10_codec.specs.Lent.{body_of};
 ghost use Rattle.of10_codec.specs.Written.{is_address, match_fits_fields, fits_fields};
 
-use case_text::{Stop, push_hex};
+use case_text::{CaseStop, push_hex};
 use maple_base::Match;
 use of10_codec::{BodyRef, EncodeError, MessageRef, encode, encode_ref};
 use std::alloc::{AllocError, Global};
@@ -16,20 +16,17 @@ pub enum Form {
     Grown,
 }
 
-/// How messages are written, and their transaction id.
-#[derive(Clone, Copy)]
-pub struct Writing {
-    pub alloc: Global,
-    pub form: Form,
-    pub xid: u32,
-}
-
 /// Appends what is written of a message.
-pub fn push_written(to: Writing, message: &MessageRef<'_>, out: &mut String) -> Result<(), Stop> {
-    match to.form {
-        Form::Lent => push_lent(to.alloc, message, out),
-        Form::Own => push_own(to.alloc, message, true, out),
-        Form::Grown => push_own(to.alloc, message, false, out),
+pub fn push_written(
+    alloc: Global,
+    form: Form,
+    message: &MessageRef<'_>,
+    out: &mut String,
+) -> Result<(), CaseStop> {
+    match form {
+        Form::Lent => push_lent(alloc, message, out),
+        Form::Own => push_own(alloc, message, true, out),
+        Form::Grown => push_own(alloc, message, false, out),
     }
 }
 
@@ -63,16 +60,16 @@ fn may_be_written(body: &BodyRef<'_>) -> bool
 }
 
 // A byte 7, with room for so many behind it.
-fn seven(alloc: Global, len: u128) -> Result<Vec<u8>, Stop> {
+fn seven(alloc: Global, len: u128) -> Result<Vec<u8>, CaseStop> {
     let room = usize::try_from(len)?;
     let mut out = Vec::with_capacity(alloc, room.saturating_add(1))?;
     out.push(7)?;
     Ok(out)
 }
 
-fn push_lent(alloc: Global, message: &MessageRef<'_>, out: &mut String) -> Result<(), Stop> {
+fn push_lent(alloc: Global, message: &MessageRef<'_>, out: &mut String) -> Result<(), CaseStop> {
     if !may_be_written(&message.body) {
-        return Err(Stop::Unread);
+        return Err(CaseStop::Unread);
     }
     let mut bytes = seven(alloc, message.encoded_len())?;
     let answer = encode_ref(message, &mut bytes);
@@ -84,9 +81,9 @@ fn push_own(
     message: &MessageRef<'_>,
     has_room: bool,
     out: &mut String,
-) -> Result<(), Stop> {
+) -> Result<(), CaseStop> {
     if !may_be_written(&message.body) {
-        return Err(Stop::Unread);
+        return Err(CaseStop::Unread);
     }
     let own = message.to_message(alloc)?;
     let room = if has_room { own.encoded_len() } else { 0 };
@@ -101,12 +98,12 @@ fn push_answer(
     bytes: &Vec<u8>,
     had_room: bool,
     out: &mut String,
-) -> Result<(), Stop> {
+) -> Result<(), CaseStop> {
     match answer {
         Ok(()) if had_room => push_room(bytes, out)?,
         Ok(()) => {}
         Err(EncodeError::TooLong(len)) => write!(out, "TooLong {len}, ")?,
-        Err(EncodeError::NoMemory) => return Err(Stop::NoMemory),
+        Err(EncodeError::NoMemory) => return Err(CaseStop::NoMemory),
     }
     Ok(push_bytes(bytes, out)?)
 }
