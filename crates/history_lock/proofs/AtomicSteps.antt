@@ -1,5 +1,5 @@
 -- What each kind of step owes.
-use Rattle.std.proofs.Common.{◌≡◌, ◌≢◌, ℕ, ◌+◌, ◌^◌, ◌%◌, ◌<◌, ◌≤◌, nat_lt, inl, inr, Bool, true, false, List, [], ◌∷◌, ◌++◌, length, length-append, set, slice_index, sym, refl, ap, ◌∙◌, subst, arith, append-nil, Some, mod-eq_of_lt}
+use Rattle.std.proofs.Common.{◌≡◌, ◌≢◌, ℕ, ◌+◌, ◌^◌, ◌%◌, ◌<◌, ◌≤◌, nat_lt, inl, inr, Bool, true, false, IsTrue, List, [], ◌∷◌, ◌++◌, length, length-append, set, slice_index, sym, refl, ap, ◌∙◌, subst, arith, append-nil, Some, mod-eq_of_lt}
 use Rattle.std.proofs.lemmas.List.{set-get_or}
 use Rattle.std.proofs.lemmas.Bool.Decides.{nat_tests}
 use mathlib.Core.Logic.{dite}
@@ -13,14 +13,16 @@ use Rattle.history_lock.specs.declared.view.Slot.{Slot}
 use Rattle.history_lock.specs.declared.view.Standing.{Standing}
 use Rattle.history_lock.specs.declared.view.Standing.TheVariants.{Idle, Looked, Waits, Turn, Recorded}
 use Rattle.history_lock.specs.declared.view.View.{View}
-use Rattle.history_lock.specs.Histories.{times, once_below, event, Replays}
+use Rattle.history_lock.specs.Histories.{times, once_below, event, state_behind, Replays, IsAllowed}
 use Rattle.history_lock.specs.Rule.{total, waiting, pending, HasTicket, HasTurn, InStep, look_stage, staged, reads, records, IsHome, Kept, Looks, Draws, Turns, Writes, Hands, Compares, Answered, calls_of, machines_of}
 use Rattle.history_lock.proofs.Totals.{total_le, one_le}
 use Rattle.history_lock.proofs.Lists.{times_more, once_more, below_more, are_positions, starts_short, starts_more, starts_of, at_set_same, same_at}
 use Rattle.history_lock.proofs.Stages.{turn_ticket, stands_next, stands_else, stands_on, ticket_below, fewer_one, pends_idle, no_turn}
+use Rattle.history_lock.proofs.States.{replays_more, replays_begins}
+use Rattle.history_lock.proofs.Leads.{not_leading, since_same, since_more, since_rest, since_cut, leads_alone, all_seen}
 use Rattle.history_lock.proofs.Keeps.{Moves, kept_set}
 
-module _ {M E R : Type 0} (steps : M → E → R → M → Type 0) where
+module _ {M E R : Type 0} (steps : M → E → R → M → Type 0) (allows : List (Event M E R) → E → Type 0) where
   abbrev V : Type 0
   V = View M E R
 
@@ -39,14 +41,14 @@ module _ {M E R : Type 0} (steps : M → E → R → M → Type 0) where
       (λ ne. (gone, port, u, set_else views id port w ne ∙ there, has)))
 
   -- the table is as it was
-  kept_again : (opening : M) (s : State S V) (k : Kept steps opening s) (id : ℕ) (v : V) → get_elem? s.views id ≡ some v → (words : List ℕ) → words ≡ s.words → Kept steps opening record { words = words; homes = s.homes; views = set s.views id v }
-  kept_again opening s k id v at words are = let P : State S V → Type 0 = Kept steps opening in subst P (λ i. record { words = sym are i; homes = s.homes; views = sym (set_again s.views id v at) i }) k
+  kept_again : (opening : M) (s : State S V) (k : Kept steps allows opening s) (id : ℕ) (v : V) → get_elem? s.views id ≡ some v → (words : List ℕ) → words ≡ s.words → Kept steps allows opening record { words = words; homes = s.homes; views = set s.views id v }
+  kept_again opening s k id v at words are = let P : State S V → Type 0 = Kept steps allows opening in subst P (λ i. record { words = sym are i; homes = s.homes; views = sym (set_again s.views id v at) i }) k
 
   -- the length is read
-  look_moves : (opening : M) (s : State S V) (k : Kept steps opening s) (id : ℕ) (v : V) → get_elem? s.views id ≡ some v → v.stage ≡ Idle → 0 < v.known.parts
+  look_moves : (opening : M) (s : State S V) (k : Kept steps allows opening s) (id : ℕ) (v : V) → get_elem? s.views id ≡ some v → v.stage ≡ Idle → 0 < v.known.parts
       → (r : ℕ) → r ≡ length k.log → (words : List ℕ) → words ≡ s.words → (stage : Standing M) → waiting stage ≡ 0 → (HasTurn stage → ⊥) → ((t : ℕ) → HasTicket stage t → ⊥) → InStep k.machine k.turn k.next stage
       → ((m n : ℕ) → n ≡ m + pending stage → r + m ≤ 2 ^ 62 + 1024 → n ≤ 1024 → r + n ≤ 2 ^ 62 + 1024)
-      → Moves steps opening s k id v (record v { known = record (v.known) { number = r }; stage = stage }) k.log k.machine k.next k.turn k.home words s.homes
+      → Moves steps allows opening s k id v (record v { known = record (v.known) { number = r }; stage = stage }) k.log k.machine k.next k.turn k.home words s.homes
   look_moves opening s k id v at idle some_part r is words are stage waits turn ticket in_step small =
       let mine = k.knows id v at in
       let none_waits : waiting v.stage ≡ 0 = ap waiting idle in
@@ -61,6 +63,9 @@ module _ {M E R : Type 0} (steps : M → E → R → M → Type 0) where
         others_know = λ known told f. f;
         others_stand = λ j u o e f. f;
         apart = λ j u t o e h h'. ticket t h;
+        led = k.led id v at;
+        others_led = λ j u o e f. f;
+        leads = refl;
         order = k.order;
         parts = refl;
         owners = λ x. refl;
@@ -68,36 +73,36 @@ module _ {M E R : Type 0} (steps : M → E → R → M → Type 0) where
         room = λ m n e f g. (let a = small m n (omega arith) (omega arith) g in omega arith);
       }
 
-  look_cases : (opening : M) (s : State S V) (k : Kept steps opening s) (id : ℕ) (v : V) → get_elem? s.views id ≡ some v → v.stage ≡ Idle → 0 < v.known.parts
+  look_cases : (opening : M) (s : State S V) (k : Kept steps allows opening s) (id : ℕ) (v : V) → get_elem? s.views id ≡ some v → v.stage ≡ Idle → 0 < v.known.parts
       → (r : ℕ) → r ≡ length k.log → (words : List ℕ) → words ≡ s.words → (b : Bool) → nat_lt r (2 ^ 62) ≡ b
-      → Moves steps opening s k id v (record v { known = record (v.known) { number = r }; stage = look_stage b }) k.log k.machine k.next k.turn k.home words s.homes
+      → Moves steps allows opening s k id v (record v { known = record (v.known) { number = r }; stage = look_stage b }) k.log k.machine k.next k.turn k.home words s.homes
   look_cases opening s k id v at idle some_part r is words are true below =
       let small : r < 2 ^ 62 = grind (arith, nat_tests) in
       look_moves opening s k id v at idle some_part r is words are Looked refl (λ h. h) (λ t h. h) tt (λ m n e f g. omega arith)
   look_cases opening s k id v at idle some_part r is words are false below =
       look_moves opening s k id v at idle some_part r is words are Idle refl (λ h. h) (λ t h. h) tt (λ m n e f g. omega arith)
 
-  pub looks : (opening : M) (count id : ℕ) (v : V) (c : Held) → v.stage ≡ Idle → 0 < v.known.parts → Allows (Kept steps opening) count id (v, c) 0 (λ n. n) (Looks steps (step count 0 0 0 none) (v, c))
+  pub looks : (opening : M) (count id : ℕ) (v : V) (c : Held) → v.stage ≡ Idle → 0 < v.known.parts → Allows (Kept steps allows opening) count id (v, c) 0 (λ n. n) (Looks steps (step count 0 0 0 none) (v, c))
   looks opening count id v c idle some_part s k slots at fits =
       let r : ℕ = slice_index s.words 0 in (
         reads v r,
         keeps,
         tt,
-        kept_set steps opening s k id v (reads v r) k.log k.machine k.next k.turn k.home _ s.homes at
+        kept_set steps allows opening s k id v (reads v r) k.log k.machine k.next k.turn k.home _ s.homes at
             (look_cases opening s k id v at idle some_part r (ap (λ ws. slice_index ws 0) k.words) _ (set-get_or s.words 0 0) (nat_lt r (2 ^ 62)) refl),
         refl,
       )
 
   -- the tickets that are out are few
-  next_small : (opening : M) (s : State S V) (k : Kept steps opening s) → k.next + 1 < 2 ^ 64
+  next_small : (opening : M) (s : State S V) (k : Kept steps allows opening s) → k.next + 1 < 2 ^ 64
   next_small opening s k =
       let fewer : total (λ (u : V). waiting u.stage) s.views ≤ total (λ (u : V). pending u.stage) s.views = total_le (λ (u : V). waiting u.stage) (λ (u : V). pending u.stage) s.views (λ j u e. fewer_one u.stage) in
       let a = k.tickets in let b = k.room in omega arith
 
   -- a ticket is drawn
-  draw_moves : (opening : M) (s : State S V) (k : Kept steps opening s) (id : ℕ) (v : V) → get_elem? s.views id ≡ some v → v.stage ≡ Looked
+  draw_moves : (opening : M) (s : State S V) (k : Kept steps allows opening s) (id : ℕ) (v : V) → get_elem? s.views id ≡ some v → v.stage ≡ Looked
       → (r : ℕ) → r ≡ k.next → (words : List ℕ) → words ≡ length k.log ∷ (k.next + 1) ∷ k.turn ∷ []
-      → Moves steps opening s k id v (staged v (Waits r)) k.log k.machine (k.next + 1) k.turn k.home words s.homes
+      → Moves steps allows opening s k id v (staged v (Waits r)) k.log k.machine (k.next + 1) k.turn k.home words s.homes
   draw_moves opening s k id v at looked r is words are =
       let no_waits : waiting v.stage ≡ 0 = ap waiting looked in
       let one_pends : pending v.stage ≡ 1 = ap pending looked in
@@ -112,6 +117,9 @@ module _ {M E R : Type 0} (steps : M → E → R → M → Type 0) where
         others_know = λ known told f. f;
         others_stand = λ j u o e f. record { in_step = stands_next k.machine k.turn k.next u.stage f.in_step; out = f.out; spent = f.spent };
         apart = λ j u t o e h h'. let low = ticket_below k.machine k.turn k.next t u.stage (k.stands j u e).in_step h' in let h'' : r ≡ t = h in omega arith;
+        led = k.led id v at;
+        others_led = λ j u o e f. f;
+        leads = refl;
         order = omega arith;
         parts = refl;
         owners = λ x. refl;
@@ -119,7 +127,7 @@ module _ {M E R : Type 0} (steps : M → E → R → M → Type 0) where
         room = λ m n e f g. omega arith;
       }
 
-  pub draws : (opening : M) (count id : ℕ) (v : V) (c : Held) → v.stage ≡ Looked → Allows (Kept steps opening) count id (v, c) 1 (λ n. (n + 1) % 2 ^ 64) (Draws steps (step count 1 1 0 none) (v, c))
+  pub draws : (opening : M) (count id : ℕ) (v : V) (c : Held) → v.stage ≡ Looked → Allows (Kept steps allows opening) count id (v, c) 1 (λ n. (n + 1) % 2 ^ 64) (Draws steps (step count 1 1 0 none) (v, c))
   draws opening count id v c looked s k slots at fits =
       let r : ℕ = slice_index s.words 1 in
       let is : r ≡ k.next = ap (λ ws. slice_index ws 1) k.words in
@@ -128,24 +136,24 @@ module _ {M E R : Type 0} (steps : M → E → R → M → Type 0) where
         staged v (Waits r),
         keeps,
         tt,
-        kept_set steps opening s k id v (staged v (Waits r)) k.log k.machine (k.next + 1) k.turn k.home _ s.homes at
+        kept_set steps allows opening s k id v (staged v (Waits r)) k.log k.machine (k.next + 1) k.turn k.home _ s.homes at
             (draw_moves opening s k id v at looked r is _ (ap (λ n. set s.words 1 n) wraps ∙ ap (λ ws. set ws 1 (k.next + 1)) k.words)),
         (refl, (let P : ℕ → Type 0 = λ n. n + 1 < 2 ^ 64 in subst P (sym is) small)),
       )
 
   -- another pass hasn't the turn
-  others_wait : (opening : M) (s : State S V) (k : Kept steps opening s) (id : ℕ) (v : V) → get_elem? s.views id ≡ some v → HasTicket v.stage k.turn
+  others_wait : (opening : M) (s : State S V) (k : Kept steps allows opening s) (id : ℕ) (v : V) → get_elem? s.views id ≡ some v → HasTicket v.stage k.turn
       → (j : ℕ) (u : V) → j ≢ id → get_elem? s.views j ≡ some u → HasTicket u.stage k.turn → ⊥
   others_wait opening s k id v at mine j u other e theirs = other (k.apart j id u v k.turn e at theirs mine)
 
-  others_free : (opening : M) (s : State S V) (k : Kept steps opening s) (id : ℕ) (v : V) → get_elem? s.views id ≡ some v → HasTicket v.stage k.turn
+  others_free : (opening : M) (s : State S V) (k : Kept steps allows opening s) (id : ℕ) (v : V) → get_elem? s.views id ≡ some v → HasTicket v.stage k.turn
       → (j : ℕ) (u : V) → j ≢ id → get_elem? s.views j ≡ some u → HasTurn u.stage → ⊥
   others_free opening s k id v at mine j u other e turn = others_wait opening s k id v at mine j u other e (turn_ticket k.machine k.turn k.next u.stage (k.stands j u e).in_step turn)
 
   -- the turn is read, and the machine taken
-  take_moves : (opening : M) (s : State S V) (k : Kept steps opening s) (id : ℕ) (v : V) → get_elem? s.views id ≡ some v → (t : ℕ) → v.stage ≡ Waits t → t ≡ k.turn
+  take_moves : (opening : M) (s : State S V) (k : Kept steps allows opening s) (id : ℕ) (v : V) → get_elem? s.views id ≡ some v → (t : ℕ) → v.stage ≡ Waits t → t ≡ k.turn
       → (words : List ℕ) → words ≡ s.words → (homes : List (Maybe S)) → homes ≡ none ∷ []
-      → Moves steps opening s k id v (staged v (Turn t k.machine)) k.log k.machine k.next k.turn none words homes
+      → Moves steps allows opening s k id v (staged v (Turn t k.machine)) k.log k.machine k.next k.turn none words homes
   take_moves opening s k id v at t waits now words are homes out =
       let there = k.stands id v at in
       let has : HasTicket v.stage k.turn = (let P : Standing M → Type 0 = λ x. HasTicket x k.turn in subst P (sym waits) now) in
@@ -162,6 +170,9 @@ module _ {M E R : Type 0} (steps : M → E → R → M → Type 0) where
         others_know = λ known told f. f;
         others_stand = λ j u o e f. record { in_step = f.in_step; out = λ h. refl; spent = f.spent };
         apart = λ j u t' o e h h'. others_wait opening s k id v at has j u o e (let P : ℕ → Type 0 = λ x. HasTicket u.stage x in subst P (sym h ∙ now) h');
+        led = k.led id v at;
+        others_led = λ j u o e f. f;
+        leads = refl;
         order = k.order;
         parts = refl;
         owners = λ x. refl;
@@ -169,9 +180,9 @@ module _ {M E R : Type 0} (steps : M → E → R → M → Type 0) where
         room = λ m n e f g. omega arith;
       }
 
-  takes_home : (opening : M) (s : State S V) (k : Kept steps opening s) (count id : ℕ) (v : V) → get_elem? s.views id ≡ some v → 0 < v.known.parts → (t : ℕ) → v.stage ≡ Waits t
+  takes_home : (opening : M) (s : State S V) (k : Kept steps allows opening s) (count id : ℕ) (v : V) → get_elem? s.views id ≡ some v → 0 < v.known.parts → (t : ℕ) → v.stage ≡ Waits t
       → (r : ℕ) → r ≡ k.turn → (words : List ℕ) → words ≡ s.words → t ≡ r → IsHome steps k.machine s.views k.home
-      → (w : V) × (a : Act S) × Valid s.homes [] a × Kept steps opening record { words = words; homes = homes_after s.homes [] a; views = set s.views id w } × Turns steps (step count 2 0 0 none) (v, []) r (w, carried_after [] a)
+      → (w : V) × (a : Act S) × Valid s.homes [] a × Kept steps allows opening record { words = words; homes = homes_after s.homes [] a; views = set s.views id w } × Turns steps allows (step count 2 0 0 none) (v, []) r (w, carried_after [] a)
   takes_home opening s k count id v at some_part t waits r is words are now (inl (slot, there, has)) =
       let mine = k.knows id v at in
       let homes : s.homes ≡ some slot ∷ [] = k.slots ∙ ap (λ h. h ∷ []) there in
@@ -179,7 +190,7 @@ module _ {M E R : Type 0} (steps : M → E → R → M → Type 0) where
         w,
         takes 0 slot,
         ap (λ hs. get_elem? hs 0) homes,
-        kept_set steps opening s k id v w k.log k.machine k.next k.turn none words _ at (take_moves opening s k id v at t waits (now ∙ is) words are _ (ap (λ hs. set hs 0 none) homes)),
+        kept_set steps allows opening s k id v w k.log k.machine k.next k.turn none words _ at (take_moves opening s k id v at t waits (now ∙ is) words are _ (ap (λ hs. set hs 0 none) homes)),
         (
           (λ h. record {
             opening = opening;
@@ -189,6 +200,8 @@ module _ {M E R : Type 0} (steps : M → E → R → M → Type 0) where
             log = k.log;
             later = mine.prefix;
             legal = k.replays;
+            led = λ lead. (k.led id v at lead).0;
+            alone = λ all. sym (all_seen steps allows opening s k id v at all);
             has = has;
             mine = (let P : ℕ → Type 0 = λ x. Path (V × Held) (w, (0, slot) ∷ []) (staged v (Turn x k.machine), (0, slot) ∷ []) in subst P now refl);
           }),
@@ -201,27 +214,23 @@ module _ {M E R : Type 0} (steps : M → E → R → M → Type 0) where
       (λ e. (let P : Standing M → Type 0 = HasTurn in subst P waits (let Q : V → Type 0 = λ x. HasTurn x.stage in subst Q (same_at s.views id port u v e there at) turn)))
       (λ ne. others_free opening s k id v at has port u ne there turn))
 
-  takes_turn : (opening : M) (count id : ℕ) (v : V) (t : ℕ) → v.stage ≡ Waits t → 0 < v.known.parts → Allows (Kept steps opening) count id (v, []) 2 (λ n. n) (Turns steps (step count 2 0 0 none) (v, []))
+  takes_turn : (opening : M) (count id : ℕ) (v : V) (t : ℕ) → v.stage ≡ Waits t → 0 < v.known.parts → Allows (Kept steps allows opening) count id (v, []) 2 (λ n. n) (Turns steps allows (step count 2 0 0 none) (v, []))
   takes_turn opening count id v t waits some_part s k slots at fits =
       let r : ℕ = slice_index s.words 2 in
       dite (ℕ_discrete t r)
       (λ e. takes_home opening s k count id v at some_part t waits r (ap (λ ws. slice_index ws 2) k.words) _ (set-get_or s.words 2 0) e k.is_home)
       (λ ne. (v, keeps, tt, kept_again opening s k id v at _ (set-get_or s.words 2 0), ((λ h. absurd (ne (let P : Standing M → Type 0 = λ x. HasTicket x r in subst P waits h))), λ h. refl)))
 
-  pub takes_me : (opening : M) (count id : ℕ) (me : Me S V) (t : ℕ) → me.1 ≡ [] → me.0.stage ≡ Waits t → 0 < me.0.known.parts → Allows (Kept steps opening) count id me 2 (λ n. n) (Turns steps (step count 2 0 0 none) me)
+  pub takes_me : (opening : M) (count id : ℕ) (me : Me S V) (t : ℕ) → me.1 ≡ [] → me.0.stage ≡ Waits t → 0 < me.0.known.parts → Allows (Kept steps allows opening) count id me 2 (λ n. n) (Turns steps allows (step count 2 0 0 none) me)
   takes_me opening count id (v, c) t none_held waits some_part =
-      let P : Held → Type 0 = λ x. Allows (Kept steps opening) count id (v, x) 2 (λ n. n) (Turns steps (step count 2 0 0 none) (v, x)) in
+      let P : Held → Type 0 = λ x. Allows (Kept steps allows opening) count id (v, x) 2 (λ n. n) (Turns steps allows (step count 2 0 0 none) (v, x)) in
       subst P (sym none_held) (takes_turn opening count id v t waits some_part)
 
-  replays_more : (m : M) (log : List (Event E R)) (n : M) (call : Event E R) (m' : M) → Replays steps m log n → steps n call.entry call.reply m' → Replays steps m (log ++ call ∷ []) m'
-  replays_more m [] n call m' same step = (m', (let P : M → Type 0 = λ x. steps x call.entry call.reply m' in subst P same step), refl)
-  replays_more m (e ∷ es) n call m' (mid, first, rest) step = (mid, first, replays_more mid es n call m' rest step)
-
   -- the entry is recorded
-  write_moves : (opening : M) (s : State S V) (k : Kept steps opening s) (id : ℕ) (v : V) → get_elem? s.views id ≡ some v → (t : ℕ) (m m' : M) (call : Event E R) → v.stage ≡ Turn t m
-      → Replays steps opening (k.log ++ call ∷ []) m' → (words : List ℕ) → words ≡ (length k.log + 1) ∷ k.next ∷ k.turn ∷ []
-      → Moves steps opening s k id v (records v k.log call (Recorded t m')) (k.log ++ call ∷ []) m' k.next k.turn k.home words s.homes
-  write_moves opening s k id v at t m m' call turn legal words are =
+  write_moves : (opening : M) (s : State S V) (k : Kept steps allows opening s) (id : ℕ) (v : V) → get_elem? s.views id ≡ some v → (t : ℕ) (m : M) (call : Event M E R) → v.stage ≡ Turn t m
+      → ((IsTrue v.known.leads → ⊥) → allows k.log call.entry) → Replays steps opening (k.log ++ call ∷ []) call.behind → (words : List ℕ) → words ≡ (length k.log + 1) ∷ k.next ∷ k.turn ∷ []
+      → Moves steps allows opening s k id v (records v k.log call (Recorded t call.behind)) (k.log ++ call ∷ []) call.behind k.next k.turn k.home words s.homes
+  write_moves opening s k id v at t m call turn entered legal words are =
       let mine = k.knows id v at in
       let there = k.stands id v at in
       let stands : (t ≡ k.turn) × (t < k.next) × (m ≡ k.machine) = (let P : Standing M → Type 0 = InStep k.machine k.turn k.next in subst P turn there.in_step) in
@@ -233,7 +242,7 @@ module _ {M E R : Type 0} (steps : M → E → R → M → Type 0) where
       let busy : v.known.parts ≡ 0 → ⊥ = (λ z. pends_idle v.stage one_pends (there.spent z)) in
       let long : length (k.log ++ call ∷ []) ≡ length k.log + 1 = length-append k.log (call ∷ []) in
       let short = starts_short k.log v.known.seen mine.prefix in
-      let w : V = records v k.log call (Recorded t m') in
+      let w : V = records v k.log call (Recorded t call.behind) in
       let before = mine.before in
       record {
         are = are ∙ ap (λ n. n ∷ k.next ∷ k.turn ∷ []) (sym long);
@@ -257,8 +266,11 @@ module _ {M E R : Type 0} (steps : M → E → R → M → Type 0) where
           before = (let b = f.before in omega arith);
           spent = f.spent;
         };
-        others_stand = λ j u o e f. record { in_step = stands_else k.machine m' k.turn k.next u.stage (others_free opening s k id v at has j u o e) f.in_step; out = f.out; spent = f.spent };
+        others_stand = λ j u o e f. record { in_step = stands_else k.machine call.behind k.turn k.next u.stage (others_free opening s k id v at has j u o e) f.in_step; out = f.out; spent = f.spent };
         apart = λ j u t' o e h h'. others_wait opening s k id v at has j u o e (let P : ℕ → Type 0 = λ x. HasTicket u.stage x in subst P (sym h ∙ now) h');
+        led = λ lead. (since_same allows (k.log ++ call ∷ []), since_same allows (k.log ++ call ∷ []));
+        others_led = λ j u o e f lead. (let ok = entered (leads_alone s.views id j v u o at e k.leaders lead) in let l = f lead in (since_more allows k.log u.known.seen call l.0 ok, since_more allows k.log u.mark call l.1 ok));
+        leads = refl;
         order = k.order;
         parts = refl;
         owners = λ x. (let a = times_more x v.known.own (length k.log) in let b = once_more x (length k.log) (length (k.log ++ call ∷ [])) long in omega arith);
@@ -266,48 +278,54 @@ module _ {M E R : Type 0} (steps : M → E → R → M → Type 0) where
         room = λ m n e f g. omega arith;
       }
 
-  writes : (opening : M) (count id : ℕ) (v : V) (c : Held) (t : ℕ) (m m' : M) (call : Event E R) → v.stage ≡ Turn t m → 0 < v.known.parts → calls_of c ≡ call ∷ [] → machines_of c ≡ Some m'
-      → steps m call.entry call.reply m' → Allows (Kept steps opening) count id (v, c) 0 (λ n. (n + 1) % 2 ^ 64) (Writes steps (step count 0 1 0 none) (v, c))
-  writes opening count id v c t m m' call turn some_part is_call is_machine steps' s k slots at fits =
+  writes : (opening : M) (count id : ℕ) (v : V) (c : Held) (t : ℕ) (m : M) (call : Event M E R) → v.stage ≡ Turn t m → 0 < v.known.parts → calls_of c ≡ call ∷ [] → machines_of c ≡ Some call.behind
+      → steps m call.entry call.reply call.behind → IsAllowed steps allows v.known call.entry → Allows (Kept steps allows opening) count id (v, c) 0 (λ n. (n + 1) % 2 ^ 64) (Writes steps allows (step count 0 1 0 none) (v, c))
+  writes opening count id v c t m call turn some_part is_call is_machine steps' allowed s k slots at fits =
       let r : ℕ = slice_index s.words 0 in
       let is : r ≡ length k.log = ap (λ ws. slice_index ws 0) k.words in
       let a = k.room in
       let small : length k.log + 1 < 2 ^ 64 = omega arith in
       let wraps : (r + 1) % 2 ^ 64 ≡ length k.log + 1 = ap (λ n. (n + 1) % 2 ^ 64) is ∙ mod-eq_of_lt small in
       let mine = k.knows id v at in
-      let w : V = records v k.log call (Recorded t m') in
+      let w : V = records v k.log call (Recorded t call.behind) in
+      let entered : (IsTrue v.known.leads → ⊥) → allows k.log call.entry = (λ unled. allowed (not_leading v.known.leads unled) opening k.machine k.log (mine.begins some_part) mine.prefix k.replays) in
       let stands : (t ≡ k.turn) × (t < k.next) × (m ≡ k.machine) = (let P : Standing M → Type 0 = InStep k.machine k.turn k.next in subst P turn (k.stands id v at).in_step) in
-      let legal = replays_more opening k.log k.machine call m' k.replays (let P : M → Type 0 = λ x. steps x call.entry call.reply m' in subst P stands.2 steps') in (
+      let stepped : steps k.machine call.entry call.reply call.behind = (let P : M → Type 0 = λ x. steps x call.entry call.reply call.behind in subst P stands.2 steps') in
+      let legal = replays_more steps opening k.log k.machine call k.replays stepped in (
         w,
         keeps,
         tt,
-        kept_set steps opening s k id v w (k.log ++ call ∷ []) m' k.next k.turn k.home _ s.homes at
-            (write_moves opening s k id v at t m m' call turn legal _ (ap (λ n. set s.words 0 n) wraps ∙ ap (λ ws. set ws 0 (length k.log + 1)) k.words)),
+        kept_set steps allows opening s k id v w (k.log ++ call ∷ []) call.behind k.next k.turn k.home _ s.homes at
+            (write_moves opening s k id v at t m call turn entered legal _ (ap (λ n. set s.words 0 n) wraps ∙ ap (λ ws. set ws 0 (length k.log + 1)) k.words)),
         record {
           opening = opening;
           opens = mine.begins some_part;
           log = k.log;
           call = call;
           ticket = t;
-          machine = m';
+          machine = call.behind;
           has_ticket = (let P : Standing M → Type 0 = λ x. HasTicket x t in subst P (sym turn) refl);
           is_call = is_call;
           is_machine = is_machine;
           later = mine.prefix;
-          legal = legal;
+          before = k.machine;
+          legal = k.replays;
+          led = λ lead. since_rest allows k.log v.known.seen mine.prefix (k.led id v at lead).0;
+          alone = λ all. sym (all_seen steps allows opening s k id v at all);
+          step = stepped;
           mine = refl;
         },
       )
 
-  pub writes_answered : (opening : M) (count id : ℕ) (v : V) (c : Held) (t : ℕ) (entry : E) (reply : R) → 0 < v.known.parts → Answered steps v c t entry reply
-      → Allows (Kept steps opening) count id (v, c) 0 (λ n. (n + 1) % 2 ^ 64) (Writes steps (step count 0 1 0 none) (v, c))
-  writes_answered opening count id v c t entry reply some_part a =
-      writes opening count id v c t a.before a.after (event entry reply) a.stage some_part (ap calls_of a.carries ∙ a.is_call) (ap machines_of a.carries ∙ a.has) a.stepped
+  pub writes_answered : (opening : M) (count id : ℕ) (v : V) (c : Held) (t : ℕ) (entry : E) (reply : R) → 0 < v.known.parts → Answered steps v c t entry reply → IsAllowed steps allows v.known entry
+      → Allows (Kept steps allows opening) count id (v, c) 0 (λ n. (n + 1) % 2 ^ 64) (Writes steps allows (step count 0 1 0 none) (v, c))
+  writes_answered opening count id v c t entry reply some_part a allowed =
+      writes opening count id v c t a.before (event entry reply a.after) a.stage some_part (ap calls_of a.carries ∙ a.is_call) (ap machines_of a.carries ∙ a.has) a.stepped allowed
 
   -- the turn is handed on, and the machine is back in its place
-  hand_moves : (opening : M) (s : State S V) (k : Kept steps opening s) (id : ℕ) (v : V) → get_elem? s.views id ≡ some v → (t : ℕ) (m : M) (slot : S) → v.stage ≡ Recorded t m
+  hand_moves : (opening : M) (s : State S V) (k : Kept steps allows opening s) (id : ℕ) (v : V) → get_elem? s.views id ≡ some v → (t : ℕ) (m : M) (slot : S) → v.stage ≡ Recorded t m
       → slot.machine ≡ Some m → (words : List ℕ) → words ≡ length k.log ∷ k.next ∷ (t + 1) ∷ [] → (homes : List (Maybe S)) → homes ≡ some slot ∷ []
-      → Moves steps opening s k id v (staged v Idle) k.log k.machine k.next (k.turn + 1) (some slot) words homes
+      → Moves steps allows opening s k id v (staged v Idle) k.log k.machine k.next (k.turn + 1) (some slot) words homes
   hand_moves opening s k id v at t m slot done holds words are homes back =
       let stands : (t ≡ k.turn) × (t < k.next) × (m ≡ k.machine) = (let P : Standing M → Type 0 = InStep k.machine k.turn k.next in subst P done (k.stands id v at).in_step) in
       let now : t ≡ k.turn = stands.0 in
@@ -330,6 +348,9 @@ module _ {M E R : Type 0} (steps : M → E → R → M → Type 0) where
           spent = f.spent;
         };
         apart = λ j u t' o e h h'. h;
+        led = k.led id v at;
+        others_led = λ j u o e f. f;
+        leads = refl;
         order = omega arith;
         parts = refl;
         owners = λ x. refl;
@@ -338,24 +359,24 @@ module _ {M E R : Type 0} (steps : M → E → R → M → Type 0) where
       }
 
   hands : (opening : M) (count id : ℕ) (v : V) (t : ℕ) (m : M) (slot : S) → v.stage ≡ Recorded t m → slot.machine ≡ Some m
-      → Allows (Kept steps opening) count id (v, (0, slot) ∷ []) 2 (λ _. t + 1) (λ _. Hands steps (step count 2 (t + 1) 0 none) (v, (0, slot) ∷ []) (t + 1))
+      → Allows (Kept steps allows opening) count id (v, (0, slot) ∷ []) 2 (λ _. t + 1) (λ _. Hands steps (step count 2 (t + 1) 0 none) (v, (0, slot) ∷ []) (t + 1))
   hands opening count id v t m slot done holds s k slots at fits = (
     staged v Idle,
     gives,
     tt,
-    kept_set steps opening s k id v (staged v Idle) k.log k.machine k.next (k.turn + 1) (some slot) _ _ at
+    kept_set steps allows opening s k id v (staged v Idle) k.log k.machine k.next (k.turn + 1) (some slot) _ _ at
         (hand_moves opening s k id v at t m slot done holds _ (ap (λ ws. set ws 2 (t + 1)) k.words) _ (ap (λ hs. set hs 0 (some slot)) k.slots)),
     refl,
   )
 
   pub hands_me : (opening : M) (count id : ℕ) (me : Me S V) (t : ℕ) (m : M) (slot : S) → me.1 ≡ (0, slot) ∷ [] → me.0.stage ≡ Recorded t m → slot.machine ≡ Some m
-      → Allows (Kept steps opening) count id me 2 (λ _. t + 1) (λ _. Hands steps (step count 2 (t + 1) 0 none) me (t + 1))
+      → Allows (Kept steps allows opening) count id me 2 (λ _. t + 1) (λ _. Hands steps (step count 2 (t + 1) 0 none) me (t + 1))
   hands_me opening count id (v, c) t m slot held done holds =
-      let P : Held → Type 0 = λ x. Allows (Kept steps opening) count id (v, x) 2 (λ _. t + 1) (λ _. Hands steps (step count 2 (t + 1) 0 none) (v, x) (t + 1)) in
+      let P : Held → Type 0 = λ x. Allows (Kept steps allows opening) count id (v, x) 2 (λ _. t + 1) (λ _. Hands steps (step count 2 (t + 1) 0 none) (v, x) (t + 1)) in
       subst P (sym held) (hands opening count id v t m slot done holds)
 
   -- two histories are compared
-  pub compares : (opening : M) (count id : ℕ) (me : Me S V) → Allows (Kept steps opening) count id me 0 (λ n. n) (Compares steps (step count 0 0 0 none) me)
+  pub compares : (opening : M) (count id : ℕ) (me : Me S V) → Allows (Kept steps allows opening) count id me 0 (λ n. n) (Compares steps allows (step count 0 0 0 none) me)
   compares opening count id (v, c) s k slots at fits =
       let mine = k.knows id v at in
       let some_of : (x : ℕ) → times x v.known.own ≤ once_below x (length k.log) = (λ x. let a = one_le (λ (u : V). times x u.known.own) s.views id v at in let b = k.owners x in omega arith) in (
@@ -363,7 +384,7 @@ module _ {M E R : Type 0} (steps : M → E → R → M → Type 0) where
         keeps,
         tt,
         kept_again opening s k id v at _ (set-get_or s.words 0 0),
-        (refl, starts_of k.log v.told v.known.seen mine.heard mine.prefix, λ x. are_positions x (length v.known.seen) (length k.log) v.known.own (some_of x) (mine.below x) (nat_lt x (length v.known.seen)) refl),
+        (refl, starts_of k.log v.told v.known.seen mine.heard mine.prefix, (λ lead le. (since_cut allows k.log v.mark v.known.seen (k.led id v at lead).1 mine.prefix le).0), (λ some_part. (state_behind opening v.known.seen, (opening, mine.begins some_part, replays_begins steps opening k.log v.known.seen k.machine mine.prefix k.replays))), λ x. are_positions x (length v.known.seen) (length k.log) v.known.own (some_of x) (mine.below x) (nat_lt x (length v.known.seen)) refl),
       )
 
   pub slot_first : (me : Me S V) (v : V) (x : S) (r : Held) → me ≡ (v, (0, x) ∷ r) → me.1 ≡ (0, x) ∷ rest me.1

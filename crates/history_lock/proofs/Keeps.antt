@@ -12,8 +12,9 @@ use Rattle.history_lock.specs.declared.view.Standing.{Standing}
 use Rattle.history_lock.specs.declared.view.Standing.TheVariants.{Idle, Looked, Waits, Turn, Recorded}
 use Rattle.history_lock.specs.declared.view.View.{View}
 use Rattle.history_lock.specs.Histories.{times, once_below, Replays}
-use Rattle.history_lock.specs.Rule.{total, waiting, pending, HasTicket, opened, Knows, Stands, IsHome, Kept}
+use Rattle.history_lock.specs.Rule.{total, leader, waiting, pending, HasTicket, opened, Knows, Stands, IsHome, IsLed, Kept}
 use Rattle.history_lock.proofs.Totals.{all_set, total_set, total_le}
+use Rattle.history_lock.proofs.Leads.{since_same}
 
 only_view : {X : Type 0} (v u : X) (j : ℕ) → get_elem? (v ∷ []) j ≡ some u → (j ≡ 0) × (v ≡ u)
 only_view v u zero e = (refl, some-injective v u e)
@@ -32,14 +33,14 @@ module _ {M : Type 0} where
   pending_parts zero stage idle = let e : pending stage ≡ 0 = ap pending (idle refl) in omega arith
   pending_parts (suc n) stage idle = let e = pending_one stage in omega arith
 
-module _ {M E R : Type 0} (steps : M → E → R → M → Type 0) where
+module _ {M E R : Type 0} (steps : M → E → R → M → Type 0) (allows : List (Event M E R) → E → Type 0) where
   abbrev VV : Type 0
   VV = View M E R
 
   abbrev SS : Type 0
   SS = Slot M E R
 
-  begins : (m : M) (slot : SS) → slot.machine ≡ Some m → Kept steps m (table_opening (0 ∷ 0 ∷ 0 ∷ []) (slot ∷ []) (opened m))
+  begins : (m : M) (slot : SS) → slot.machine ≡ Some m → Kept steps allows m (table_opening (0 ∷ 0 ∷ 0 ∷ []) (slot ∷ []) (opened m))
   begins m slot has = record {
     log = [];
     machine = m;
@@ -63,6 +64,8 @@ module _ {M E R : Type 0} (steps : M → E → R → M → Type 0) where
       out = λ h. absurd h;
       spent = λ h. refl;
     };
+    led = λ port v e. let P : VV → Type 0 = λ u. IsLed steps allows [] u in subst P (only_view (opened m) v port e).1 (λ lead. (since_same allows [], since_same allows []));
+    leaders = omega arith;
     apart = λ i j u v t a b h k. (only_view (opened m) u i a).0 ∙ sym (only_view (opened m) v j b).0;
     order = omega arith;
     parts = refl;
@@ -71,9 +74,9 @@ module _ {M E R : Type 0} (steps : M → E → R → M → Type 0) where
     room = omega arith;
   }
 
-  pub begins_at : (m n : M) (slots : List SS) (slot : SS) → slots ≡ slot ∷ [] → slot.machine ≡ Some n → m ≡ n → Kept steps m (table_opening (0 ∷ 0 ∷ 0 ∷ []) slots (opened m))
+  pub begins_at : (m n : M) (slots : List SS) (slot : SS) → slots ≡ slot ∷ [] → slot.machine ≡ Some n → m ≡ n → Kept steps allows m (table_opening (0 ∷ 0 ∷ 0 ∷ []) slots (opened m))
   begins_at m n slots slot one has same =
-      let P : List SS → Type 0 = λ xs. Kept steps m (table_opening (0 ∷ 0 ∷ 0 ∷ []) xs (opened m)) in
+      let P : List SS → Type 0 = λ xs. Kept steps allows m (table_opening (0 ∷ 0 ∷ 0 ∷ []) xs (opened m)) in
       subst P (sym one) (begins m slot (has ∙ ap Some (sym same)))
 
   abbrev pub Apart : List VV → Type 0
@@ -95,31 +98,36 @@ module _ {M E R : Type 0} (steps : M → E → R → M → Type 0) where
       (at_set views id i w a at)
 
   -- what a step owes that changes the view v of the pass id to w
-  pub record Moves (opening : M) (s : State SS VV) (k : Kept steps opening s) (id : ℕ) (v w : VV) (log : List (Event E R)) (machine : M) (next turn : ℕ) (home : Maybe SS) (words : List ℕ) (homes : List (Maybe SS)) : Type 0 where
+  pub record Moves (opening : M) (s : State SS VV) (k : Kept steps allows opening s) (id : ℕ) (v w : VV) (log : List (Event M E R)) (machine : M) (next turn : ℕ) (home : Maybe SS) (words : List ℕ) (homes : List (Maybe SS)) : Type 0 where
     pub are : words ≡ length log ∷ next ∷ turn ∷ []
     pub slots : homes ≡ home ∷ []
     pub replays : Replays steps opening log machine
     pub is_home : IsHome steps machine (set s.views id w) home
     pub knows : Knows opening log w.known w.told
     pub stands : Stands machine turn next home w.known.parts w.stage
-    pub others_know : (known : Known M E R) (told : List (Event E R)) → Knows opening k.log known told → Knows opening log known told
+    pub others_know : (known : Known M E R) (told : List (Event M E R)) → Knows opening k.log known told → Knows opening log known told
     pub others_stand : (j : ℕ) (u : VV) → j ≢ id → get_elem? s.views j ≡ some u → Stands k.machine k.turn k.next k.home u.known.parts u.stage → Stands machine turn next home u.known.parts u.stage
     pub apart : (j : ℕ) (u : VV) (t : ℕ) → j ≢ id → get_elem? s.views j ≡ some u → HasTicket w.stage t → HasTicket u.stage t → ⊥
+    pub led : IsLed steps allows log w
+    pub others_led : (j : ℕ) (u : VV) → j ≢ id → get_elem? s.views j ≡ some u → IsLed steps allows k.log u → IsLed steps allows log u
+    pub leads : w.known.leads ≡ v.known.leads
     pub order : turn ≤ next
     pub parts : w.known.parts ≡ v.known.parts
     pub owners : (x : ℕ) → times x w.known.own + once_below x (length k.log) ≡ times x v.known.own + once_below x (length log)
     pub tickets : next + length k.log + waiting v.stage ≤ k.next + length log + waiting w.stage
     pub room : (m n : ℕ) → n + pending v.stage ≡ m + pending w.stage → length k.log + m ≤ 2 ^ 62 + 1024 → n ≤ 1024 → length log + n ≤ 2 ^ 62 + 1024
 
-  pub kept_set : (opening : M) (s : State SS VV) (k : Kept steps opening s) (id : ℕ) (v w : VV) (log : List (Event E R)) (machine : M) (next turn : ℕ) (home : Maybe SS) (words : List ℕ) (homes : List (Maybe SS))
+  pub kept_set : (opening : M) (s : State SS VV) (k : Kept steps allows opening s) (id : ℕ) (v w : VV) (log : List (Event M E R)) (machine : M) (next turn : ℕ) (home : Maybe SS) (words : List ℕ) (homes : List (Maybe SS))
       → get_elem? s.views id ≡ some v → Moves opening s k id v w log machine next turn home words homes
-      → Kept steps opening record { words = words; homes = homes; views = set s.views id w }
+      → Kept steps allows opening record { words = words; homes = homes; views = set s.views id w }
   kept_set opening s k id v w log machine next turn home words homes at o =
       let views : List VV = set s.views id w in
       let Know : ℕ → VV → Type 0 = λ j u. Knows opening log u.known u.told in
       let Stand : ℕ → VV → Type 0 = λ j u. Stands machine turn next home u.known.parts u.stage in
+      let Led : ℕ → VV → Type 0 = λ j u. IsLed steps allows log u in
       let stands : (j : ℕ) (u : VV) → get_elem? views j ≡ some u → Stand j u = all_set Stand s.views id w o.stands (λ j u other e. o.others_stand j u other e (k.stands j u e)) in
       let parts : total (λ u. u.known.parts) views + v.known.parts ≡ total (λ u. u.known.parts) s.views + w.known.parts = total_set (λ u. u.known.parts) s.views id v w at in
+      let leading : total (λ u. leader u.known.leads) views + leader v.known.leads ≡ total (λ u. leader u.known.leads) s.views + leader w.known.leads = total_set (λ u. leader u.known.leads) s.views id v w at in
       let old = k.parts in
       let same = o.parts in
       let all : total (λ u. u.known.parts) views ≡ 1024 = omega arith in
@@ -139,6 +147,8 @@ module _ {M E R : Type 0} (steps : M → E → R → M → Type 0) where
         knows = all_set Know s.views id w o.knows (λ j u other e. o.others_know u.known u.told (k.knows j u e));
         stands = stands;
         apart = apart_set s.views id w k.apart o.apart;
+        led = all_set Led s.views id w o.led (λ j u other e. o.others_led j u other e (k.led j u e));
+        leaders = (let a = ap leader o.leads in let b = k.leaders in omega arith);
         order = o.order;
         parts = all;
         owners = λ x. (let a : total (λ u. times x u.known.own) views + times x v.known.own ≡ total (λ u. times x u.known.own) s.views + times x w.known.own = total_set (λ u. times x u.known.own) s.views id v w at in let b = o.owners x in let c = k.owners x in omega arith);

@@ -1,8 +1,8 @@
 //! The steps of a call, over a bare seat.
-ghost use Rattle.std.specs.Prelude.{◌≡◌, ◌<◌, ◌≤◌, ◌+◌, ◌^◌, None, ℕ, IfOk, IfErr, IsSome, Some, [], ◌∷◌};
+ghost use Rattle.std.specs.Prelude.{◌≡◌, ◌<◌, ◌≤◌, ◌+◌, ◌^◌, None, ℕ, IfOk, IfErr, IsSome, IsTrue, IsFalse, Some, [], ◌∷◌};
 ghost use Rattle.history_lock.specs.declared.view.Slot.{Slot};
 ghost use Rattle.history_lock.specs.declared.view.Standing.TheVariants.{Idle, Looked, Waits, Turn, Recorded};
-ghost use Rattle.history_lock.specs.Histories.{Calls, IsAdmitted, StartsWith};
+ghost use Rattle.history_lock.specs.Histories.{Calls, HasSeenLegal, IsAdmitted, IsAllowed, IsAllowedSince, StartsWith};
 ghost use Rattle.history_lock.specs.Rule.{Acts, Adds, Answered, HasRecorded, Holds, IsFree, IsKept, Takes, joined, less, reads, share, staged};
 
 use crate::law::{Compare, Count, Cut, Draw, Glue, Hand, Look, Take, Write};
@@ -82,7 +82,7 @@ impl<M: Machine> Hall<M> {
         requires hall { pass.old.table_id ≡ self.now.table.shared.table_id }
         requires waits { (pass.old.me.0.stage ≡ Waits ticket) × (0 < pass.old.me.0.known.parts) × (pass.old.me.1 ≡ []) }
         ensures same { (pass.new.table_id ≡ pass.old.table_id) × (pass.new.id ≡ pass.old.id) }
-        ensures took { Takes M.steps pass.old.me.0 ticket pass.new.me }
+        ensures took { Takes M.steps M.allows pass.old.me.0 ticket pass.new.me }
     {
         for _ in rt.forever() {
             let turn = self.table.shared.load::<Take<M>>(pass, TURN);
@@ -133,8 +133,9 @@ impl<M: Machine> Hall<M> {
         requires hall { pass.old.table_id ≡ self.now.table.shared.table_id }
         requires part { 0 < pass.old.me.0.known.parts }
         requires answered { Answered M.steps pass.old.me.0 pass.old.me.1 ticket entry.now.value reply.now }
+        requires allowed { IsAllowed M.steps M.allows pass.old.me.0.known entry.now.value }
         ensures same { (pass.new.table_id ≡ pass.old.table_id) × (pass.new.id ≡ pass.old.id) }
-        ensures adds { Adds M.steps pass.old.me.0 pass.old.me.1 pass.new.me }
+        ensures adds { Adds M.steps M.allows pass.old.me.0 pass.old.me.1 pass.new.me }
     {
         let _ = ticket;
         let _ = entry;
@@ -157,10 +158,11 @@ impl<M: Machine> Hall<M> {
     fn act(&self, pass: &mut Stand<M>, ticket: u64, entry: M::Entry) -> M::Reply
         requires hall { pass.old.table_id ≡ self.now.table.shared.table_id }
         requires turn { Holds M.steps M.admits pass.old.me.0 pass.old.me.1 ticket entry }
+        requires allowed { IsAllowed M.steps M.allows pass.old.me.0.known entry }
         requires part { 0 < pass.old.me.0.known.parts }
         requires small { ticket + 1 < 2 ^ 64 }
         ensures same { (pass.new.table_id ≡ pass.old.table_id) × (pass.new.id ≡ pass.old.id) }
-        ensures call { Acts M.steps pass.old.me.0 entry result pass.new.me.0 }
+        ensures call { Acts M.steps M.allows pass.old.me.0 entry result pass.new.me.0 }
         ensures back { pass.new.me.1 ≡ [] }
     {
         let asked = Snapshot::of(&entry);
@@ -179,11 +181,13 @@ impl<M: Machine> Hall<M> {
     ) -> Result<M::Reply, M::Entry>
         requires hall { pass.old.table_id ≡ self.now.table.shared.table_id }
         requires free { IsFree pass.old }
-        requires admitted { IsAdmitted M.steps M.admits pass.old.me.0.known entry }
+        requires admitted { IsAdmitted M.steps M.allows M.admits pass.old.me.0.known entry }
+        requires allowed { IsAllowed M.steps M.allows pass.old.me.0.known entry }
         ensures same { (pass.new.table_id ≡ pass.old.table_id) × (pass.new.id ≡ pass.old.id) }
         ensures free { IsFree pass.new }
         ensures stays { (pass.new.me.0.known.opening ≡ pass.old.me.0.known.opening) × (pass.new.me.0.known.parts ≡ pass.old.me.0.known.parts) }
-        ensures call { IfOk result (λ reply. Calls M.steps pass.old.me.0.known entry reply pass.new.me.0.known) }
+        ensures leads { pass.new.me.0.known.leads ≡ pass.old.me.0.known.leads }
+        ensures call { IfOk result (λ reply. Calls M.steps M.allows pass.old.me.0.known entry reply pass.new.me.0.known) }
         ensures worn { IfErr result (λ back. (back ≡ entry) × (2 ^ 62 ≤ pass.new.me.0.known.number) × IsKept pass.old.me.0.known pass.new.me.0.known) }
     {
         let length = self.look(pass);
@@ -229,6 +233,9 @@ impl<M: Machine> Hall<M> {
         ensures both { pass.new.me ≡ (joined pass.old.me.0 other.me.0, []) }
         ensures free { IsFree pass.new }
         ensures begins { StartsWith pass.new.me.0.known.seen pass.old.me.0.known.seen × StartsWith pass.new.me.0.known.seen other.me.0.known.seen }
+        ensures legal { HasSeenLegal M.steps pass.new.me.0.known }
+        ensures led { IsTrue pass.old.me.0.known.leads → IsAllowedSince M.allows pass.new.me.0.known.seen pass.old.me.0.known.seen }
+        ensures other { IsFalse pass.old.me.0.known.leads → IsTrue other.me.0.known.leads → IsAllowedSince M.allows pass.new.me.0.known.seen other.me.0.known.seen }
     {
         self.table.shared.join_seat::<Glue>(pass, other);
         self.table.shared.load::<Compare<M>>(pass, LENGTH);
