@@ -144,7 +144,7 @@ more_traces switch r old kept e q =
     (λ other. starts_same (traces_of q old) (traces_of q kept) (ap (λ ls. traces_in ls q) e ∙ traces_beside switch all q other old.learned))
     (cases_eq q switch)
 
-module _ (old : State) (sound : IsSound old) (entry : Entry) (j : Job) (run : Running old entry j) (d : Decision) (l : Learnt) (new : State) where
+module _ (old : State) (entry : Entry) (j : Job) (run : Running old entry j) (d : Decision) (l : Learnt) (new : State) where
   -- in the place of the session of the job's connection there is this one, which was led
   answered : (s t : Session) → is_of j.connection s ≡ true → LedBy l (traces_of j.switch new) (sends j d s) t → (x y : Session) → Put s t x y → IsAnswered old entry d l new x y
   answered s t of led x y (inl (is, now)) =
@@ -162,11 +162,11 @@ module _ (old : State) (sound : IsSound old) (entry : Entry) (reply : Reply) (ne
 
   module _ (j : Job) (items : List Item) (cells : List (Cell × Value)) (d : Decision) (run : Running old entry j) where
     -- the session of the job's connection is replaced by this one
-    replaced : (s t : Session) (l : Learnt) → is_of j.connection s ≡ true → t.connection ≡ s.connection → reply ≡ Answered d l → LedBy l (traces_of j.switch new) (sends j d s) t
+    replaced : (s t : Session) (l : Learnt) → is_of j.connection s ≡ true → reply ≡ Answered d l → LedBy l (traces_of j.switch new) (sends j d s) t
         → AllZip (Put s t) old.sessions new.sessions → AllZip (DoesTo old entry reply new) old.sessions new.sessions
-    replaced s t l of same r led zip =
+    replaced s t l of r led zip =
         let P : Reply → Type 0 = λ x. AllZip (DoesTo old entry x new) old.sessions new.sessions in
-        subst P (sym r) (zip_weaker (Put s t) (IsAnswered old entry d l new) (answered old sound entry j run d l new s t of led) old.sessions new.sessions zip)
+        subst P (sym r) (zip_weaker (Put s t) (IsAnswered old entry d l new) (answered old entry j run d l new s t of led) old.sessions new.sessions zip)
 
     answers : Answers j items cells d old reply new → Doing
     answers a = go a.learns a.replies a.keeps
@@ -187,7 +187,7 @@ module _ (old : State) (sound : IsSound old) (entry : Entry) (reply : Reply) (ne
             let ss : new.sessions ≡ map (λ (x : Session). if x.connection == sent.connection then sent else x) old.sessions =
             ap (λ (m : State). m.sessions) a.now_is ∙ ap (λ (m : State). m.sessions) e in
             record {
-              sessions = replaced a.session sent l of same r led (zipped sent same ss);
+              sessions = replaced a.session sent l of r led (zipped sent same ss);
               traces = λ q. starts_same (traces_of q old) (traces_of q new) (ap (traces_of q) a.now_is ∙ ap (traces_of q) e);
             }
 
@@ -200,7 +200,7 @@ module _ (old : State) (sound : IsSound old) (entry : Entry) (reply : Reply) (ne
             let ls : new.learned ≡ put_traces j.switch all old.learned = ap (λ (m : State). m.learned) a.now_is ∙ ap (λ (m : State). m.learned) e in
             let now : traces_of j.switch new ≡ all = ap (λ xs. traces_in xs j.switch) ls ∙ traces_put j.switch all old.learned in
             record {
-              sessions = replaced a.session t Learned of same r (subst (λ rs. HeadsFor rs sent t) (sym now) heads) (zipped t same ss);
+              sessions = replaced a.session t Learned of r (subst (λ rs. HeadsFor rs sent t) (sym now) heads) (zipped t same ss);
               traces = more_traces j.switch (next_trace items cells d old) old new ls;
             }
         go other r e = stays other r refl e

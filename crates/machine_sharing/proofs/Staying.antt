@@ -1,9 +1,11 @@
 -- What allowed entries leave as it is.
-use Rattle.std.proofs.Common.{◌≡◌, Bool, true, false, List, [], ◌∷◌, ◌++◌, refl, sym, ap, ◌∙◌, subst, inl, inr}
+use Rattle.std.proofs.Common.{◌≡◌, ◌⊎◌, ℕ, Bool, true, false, List, [], ◌∷◌, ◌++◌, refl, sym, ap, ◌∙◌, subst, inl, inr}
 use Rattle.std.specs.Prelude.{◌&&◌, filter}
 use Rattle.std.specs.List.{AllZip}
-use Rattle.history_lock.specs.Histories.{StartsWith, Replays, AreAllowed}
+use Rattle.history_lock.specs.Histories.{StartsWith, Replays, AreAllowed, state_behind}
+use Rattle.history_lock.proofs.States.{replays_since}
 use Rattle.machine_steps.specs.declared.entry.Entry.{Entry}
+use Rattle.machine_steps.specs.declared.entry.Entry.TheVariants as entries
 use Rattle.machine_steps.specs.declared.reply.Reply.{Reply}
 use Rattle.machine_steps.specs.Machine.{Job, State, traces_of}
 use Rattle.machine_steps.specs.Sound.{IsSound}
@@ -13,7 +15,7 @@ use Rattle.machine_steps.proofs.Changes.Follows.{Next, Renewed, Stays as StaysSo
 use Rattle.machine_steps.proofs.Changes.JobsBy.{Added, AreMany, Left}
 use Rattle.machine_steps.proofs.Effects.{effect_of}
 use Rattle.machine_steps.proofs.Sound.Zipped.{zip_refl, zip_then, zip_weaker}
-use Rattle.machine_sharing.specs.Between.{DoesTo, EachDoesSo, MostStays, OnlyGrows, Stays}
+use Rattle.machine_sharing.specs.Between.{DoesTo, EachDoesSo, MostStays, OnlyGrows, SinceStays, Stays}
 use Rattle.machine_sharing.specs.Sharing.{Allows, Call, Turns}
 use Rattle.machine_sharing.proofs.Doing.{Does, IsShared, does_by, does_grows, found_both, grows_same, grows_then, may_share, shared_of}
 use Rattle.machine_sharing.proofs.Lists.{filter_all, filter_twice, starts_same, starts_then}
@@ -80,11 +82,11 @@ module _ (old : State) (entry : Entry) (reply : Reply) (new : State) (shared : I
       grow : AllZip OnlyGrows old.sessions new.sessions
       grow = zip_weaker (DoesTo old entry reply new) OnlyGrows (does_grows old entry reply new) old.sessions new.sessions does.sessions
 
-      opened : _ → new.opened ≡ old.opened
+      opened : (new.opened ≡ old.opened) ⊎ ((d : ℕ) × (entry ≡ entries.Open d)) → new.opened ≡ old.opened
       opened (inl e) = e
       opened (inr (d, is)) = let f = sym shared.shared ∙ ap may_share is in absurd (cc)
 
-      lines : _ → StartsWith new.lines old.lines
+      lines : (entry ≡ entries.TakeReport) ⊎ Extends old new → StartsWith new.lines old.lines
       lines (inl is) = let f = sym shared.shared ∙ ap may_share is in absurd (cc)
       lines (inr x) = (x.more, x.are)
 
@@ -135,3 +137,6 @@ pub most_stays : MostStays
 most_stays log [] old new same all = stays_same old new same
 most_stays log (e ∷ es) old new (turn, rest) (is, all) =
     stays_then old e.behind new (one_stays old e.entry e.reply e.behind (shared_of log e.entry is) turn.sound turn.steps) (most_stays (log ++ e ∷ []) es e.behind new rest all)
+
+pub since_stays : SinceStays
+since_stays opening m log seen all (rest, is, allowed) = most_stays seen rest (state_behind opening seen) m (replays_since Turns opening log seen m (rest, is) all) allowed

@@ -5,7 +5,7 @@ use Rattle.maple_base.specs.declared.decision.Decision.{Decision}
 use Rattle.report_text.specs.declared.line.Learnt.{Learnt}
 use Rattle.report_text.specs.declared.line.Learnt.TheVariants.{Learned}
 use Rattle.trace_tree.specs.declared.node.Trace.{Trace}
-use Rattle.history_lock.specs.Histories.{StartsWith, Replays, AreAllowed}
+use Rattle.history_lock.specs.Histories.{StartsWith, Replays, AreAllowed, IsAllowedSince, state_behind}
 use Rattle.machine_steps.specs.declared.entry.Entry.{Entry}
 use Rattle.machine_steps.specs.declared.reply.Reply.{Reply}
 use Rattle.machine_steps.specs.declared.reply.Reply.TheVariants.{Answered}
@@ -89,6 +89,11 @@ NothingChanges =
 -- whatever jobs are open, they leave all this
 abbrev pub MostStays : Type 0
 MostStays = (log rest : List Call) (old new : State) → Replays Turns old rest new → AreAllowed Allows log rest → Stays old new
+
+-- so that stands of the machine behind what a pass has seen, in every legal history that begins with that and since which all was allowed
+abbrev pub SinceStays : Type 0
+SinceStays =
+    (opening m : State) (log seen : List Call) → Replays Turns opening log m → IsAllowedSince Allows log seen → Stays (state_behind opening seen) m
 
 -- and each of them does this to each session
 abbrev pub EachDoesSo : Type 0

@@ -1,5 +1,5 @@
 // What holds of the histories of threads that share the machine.
-ghost use Rattle.machine_sharing.specs.Between.{EachDoesSo, MostStays, NothingChanges};
+ghost use Rattle.machine_sharing.specs.Between.{EachDoesSo, MostStays, NothingChanges, SinceStays};
 ghost use Rattle.machine_sharing.specs.Legal.{CallsAreTurns, StatesAreSound, TurnsAreCalls};
 ghost use Rattle.machine_sharing.specs.Longer.{AllowedStays, PoliciesStay, RunsAreAdmitted, SettingsStay, ThreeStay, ToldStays};
 
@@ -10,6 +10,7 @@ use machine_steps::machine_laws;
 pub fn between_laws()
     ensures frozen { NothingChanges }
     ensures stays { MostStays }
+    ensures since { SinceStays }
     ensures does { EachDoesSo }
 {}
 
