@@ -4,6 +4,7 @@
 pub mod Due
 pub mod Ends
 pub mod Lines
+pub mod Program
 pub mod Refusals
 pub mod Running
 pub mod Runs
