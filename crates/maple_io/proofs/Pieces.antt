@@ -24,8 +24,11 @@ piece_more old mid new bytes at n h i e =
 -- no more than a front
 pub front_kept : (old mid new : SinkView) (bytes : List ℕ) (at : ℕ) → Wrote old mid (take at bytes) → Keeps mid.taken new.taken → new.took ≡ mid.took ++ []
     → (front : List ℕ) × IsFront front bytes × Wrote old new front
-front_kept old mid new bytes at h k e =
-    (take at bytes, (drop at bytes, take-append-drop at bytes), record {
-      taken = Appends-kept old.taken mid.taken new.taken (take at bytes) h.taken k;
-      took = e ∙ append-nil mid.took ∙ h.took;
-    })
+front_kept old mid new bytes at h k e = (
+  take at bytes,
+  (drop at bytes, take-append-drop at bytes),
+  record {
+    taken = Appends-kept old.taken mid.taken new.taken (take at bytes) h.taken k;
+    took = e ∙ append-nil mid.took ∙ h.took;
+  },
+)

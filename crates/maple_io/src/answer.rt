@@ -18,18 +18,14 @@ pub enum Answer {
 }
 
 /// Those answers, and then the one of a read that said this and left these bytes in its slice.
-pub(crate) fn answered(
-    answers: &GhostList<Answer>,
-    got: Got,
-    into: &[u8],
-) -> GhostList<Answer>
+pub fn answered(answers: &GhostList<Answer>, got: Got, into: &[u8]) -> GhostList<Answer>
     ensures { result.value ≡ answers.now.value ++ answer_of got into.now ∷ [] }
 {
     Witness::picked(&(answers, got, into))
 }
 
 /// Those bytes, and then the ones that a write of this piece took.
-pub(crate) fn took(bytes: &GhostList<u8>, put: Put, piece: &[u8]) -> GhostList<u8>
+pub fn took(bytes: &GhostList<u8>, put: Put, piece: &[u8]) -> GhostList<u8>
     ensures { result.value ≡ bytes.now.value ++ taken_of put piece.now }
 {
     Witness::picked(&(bytes, put, piece))

@@ -69,12 +69,7 @@ pub fn run_program<R: Read, W: Write>(
 }
 
 // Runs these words from a source to a sink, over the devices of the program.
-fn run_over<I: Source, O: Sink>(
-    alloc: Global,
-    words: &Words,
-    from: &mut I,
-    to: &mut O,
-) -> Status
+fn run_over<I: Source, O: Sink>(alloc: Global, words: &Words, from: &mut I, to: &mut O) -> Status
     ensures ran { RunsOver (I.tells from.old) (I.tells from.new) (O.tells to.old) (O.tells to.new) words.now result }
 {
     match run_made(alloc, words, from, to) {

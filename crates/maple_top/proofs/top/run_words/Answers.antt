@@ -55,7 +55,7 @@ returns-in-Err-Failed-clause-run g c =
     let heard = rw (c.in-Err-Failed.is ∙ ap Err c.in-Err-Failed.field-0-is) at c.read_all.ensures.heard in
     of_any (g.I.Source.tells c.args.from.now) (g.I.Source.tells c.read_all.new.input) _ _
     (λ ended bytes. failed_read refl (c.in-Some.command, sym c.in-Some.ensures) (c.read_all.ensures.cause (c.in-Err-Failed.is ∙ ap Err c.in-Err-Failed.field-0-is), heard)
-      c.finish-in-Err-Failed.ensures.ends) heard
+    c.finish-in-Err-Failed.ensures.ends) heard
 
 pub returns-in-Err-Failed-clause-first : goal.returns-in-Err-Failed-clause-first
 returns-in-Err-Failed-clause-first g c = λ n. ends_front (g.O.Sink.tells c.args.to.now) (g.O.Sink.tells c.finish-in-Err-Failed.new.output) ReadFault (last_line ReadFault) c.finish-in-Err-Failed.result c.finish-in-Err-Failed.ensures.ends
@@ -63,7 +63,7 @@ returns-in-Err-Failed-clause-first g c = λ n. ends_front (g.O.Sink.tells c.args
 pub returns-in-Err-Failed-clause-failed : goal.returns-in-Err-Failed-clause-failed
 returns-in-Err-Failed-clause-failed g c =
     heard_so _ (λ heard h f. ends_front (g.O.Sink.tells c.args.to.now) (g.O.Sink.tells c.finish-in-Err-Failed.new.output) ReadFault (last_line ReadFault)
-      c.finish-in-Err-Failed.result c.finish-in-Err-Failed.ensures.ends) c.read_all.ensures.heard
+    c.finish-in-Err-Failed.result c.finish-in-Err-Failed.ensures.ends) c.read_all.ensures.heard
 
 pub returns-in-Err-TooLong-clause-run : goal.returns-in-Err-TooLong-clause-run
 returns-in-Err-TooLong-clause-run g c =
