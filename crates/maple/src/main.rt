@@ -2,6 +2,7 @@
 #![tactic(auto)]
 
 use maple_base::{Bytes, NoMemory, Words};
+use maple_io::{ReadSource, WriteSink};
 use maple_top::{Status, run_program};
 use std::env;
 use std::io::ErrorKind;
@@ -30,7 +31,11 @@ fn words_of<R: Env + AllocGlobal>(rt: &R) -> Result<Words, NoMemory> {
 
 fn main(rt: HostRuntime) -> ExitCode {
     let status = match words_of(&rt) {
-        Ok(words) => run_program(rt.alloc(), &words, rt.stdin(), rt.stdout()).status,
+        Ok(words) => {
+            let mut input = ReadSource::new(rt.stdin());
+            let mut output = WriteSink::new(rt.stdout());
+            run_program(rt.alloc(), &words, &mut input, &mut output)
+        }
         Err(NoMemory) => Status::NoMemory,
     };
     ExitCode::from(status.number())

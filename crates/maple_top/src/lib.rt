@@ -12,6 +12,6 @@ pub mod top;
 pub mod words;
 
 pub use devices::{DEVICES, MOST_RULES, PORTS, program_device, push_idle};
-pub use program::{Ran, run_program};
+pub use program::run_program;
 pub use status::Status;
 pub use top::maple;

@@ -18,54 +18,42 @@ use maple_io::{ReadSource, Sink, Source, WriteSink};
 use std::alloc::Global;
 use std::io::{Read, Write};
 
-/// How a run of the program ended, and what it read from and wrote to.
-#[derive(Drop)]
-pub struct Ran<R, W> {
-    pub status: Status,
-    pub input: ReadSource<R>,
-    pub output: WriteSink<W>,
-}
-
-/// Runs Maple with the words of a command line, from a reader to a writer, over the devices of the
-/// program, which it makes. The reader and the writer may be any: what is said of the input speaks of
-/// the bytes that the reader's reads gave, and what is said of the report of those that the writer's
-/// writes took.
+/// Runs Maple with the words of a command line, from a reader to a writer of std, over the devices of
+/// the program, which it makes. The reader and the writer may be any: what is said of the input speaks
+/// of the bytes that the source gave, and what is said of the report of those that the sink took.
 pub fn run_program<R: Read, W: Write>(
     alloc: Global,
     words: &Words,
-    reader: R,
-    writer: W,
-) -> Ran<R, W>
-    // The headline: the text is the report of a run that is due, and right.
-    ensures done { result.status ≡ Status.Done → Reports Status.Done words.now (answers_of result.input) (took_of result.output) }
+    input: &mut ReadSource<R>,
+    output: &mut WriteSink<W>,
+) -> Status
+    // Nothing was read or written yet.
+    requires unread { answers_of input.old ≡ [] }
+    requires unwritten { took_of output.old ≡ [] }
+
+    // The headline: what was written is the report of a run that is due, and right.
+    ensures done { result ≡ Status.Done → Reports Status.Done words.now (answers_of input.new) (took_of output.new) }
 
     // With each status: what was given, and what was written.
-    ensures run { HasRun result.status words.now (answers_of result.input) (took_of result.output) }
+    ensures run { HasRun result words.now (answers_of input.new) (took_of output.new) }
 
     // Each status comes exactly where it is due, but for a fault or want of memory.
-    ensures exact { IsExact result.status (length program_devices) words.now (given (answers_of result.input)) }
+    ensures exact { IsExact result (length program_devices) words.now (given (answers_of input.new)) }
 
     // How far the input is read, and what a failed read leaves to write.
-    ensures reading { IsReading (answers_of result.input) }
-    ensures unread { ¬ (AreWords words.now) → answers_of result.input ≡ [] }
-    ensures first { fails (answers_of result.input) ≡ true → IsFront (took_of result.output) (last_line Status.ReadFault) }
+    ensures reading { IsReading (answers_of input.new) }
+    ensures unread { ¬ (AreWords words.now) → answers_of input.new ≡ [] }
+    ensures first { fails (answers_of input.new) ≡ true → IsFront (took_of output.new) (last_line Status.ReadFault) }
 
     // A fault is one of the reader or the writer.
-    ensures read_fault { result.status ≡ Status.ReadFault → HasRisen 0 (read_faults result.input) }
-    ensures write_fault { result.status ≡ Status.WriteFault → HasRisen 0 (write_faults result.output) }
+    ensures read_fault { result ≡ Status.ReadFault → HasRisen (read_faults input.old) (read_faults input.new) }
+    ensures write_fault { result ≡ Status.WriteFault → HasRisen (write_faults output.old) (write_faults output.new) }
 
     // Each device of the program keeps the specification of a switch, and no message waits in it at first.
     ensures keep { AllKeep program_devices }
     ensures idle { AllIdle program_devices }
 {
-    let mut input = ReadSource::new(reader);
-    let mut output = WriteSink::new(writer);
-    let status = run_over(alloc, words, &mut input, &mut output);
-    Ran {
-        status,
-        input,
-        output,
-    }
+    run_over(alloc, words, input, output)
 }
 
 // Runs these words from a source to a sink, over the devices of the program.

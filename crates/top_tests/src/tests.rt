@@ -1,7 +1,7 @@
 // An input without an end, and a script whose numbers begin elsewhere.
 use device_port::Device;
 use maple_base::{Bytes, NoMemory, Settings, Words};
-use maple_io::MemSink;
+use maple_io::{MemSink, ReadSource, WriteSink};
 use maple_top::{Status, program_device, push_idle, run_program};
 use policy_text::read_policy;
 use report_text::ScriptRefusal;
@@ -27,7 +27,9 @@ fn stops_at_an_endless_input(rt: HostRuntime) -> Result<(), Fail> {
     let alloc = rt.alloc();
     let words = sim_alone(alloc)?;
     let mut bytes = Vec::new(alloc);
-    let status = run_program(alloc, &words, Endless, &mut bytes).status;
+    let mut input = ReadSource::new(Endless);
+    let mut output = WriteSink::new(&mut bytes);
+    let status = run_program(alloc, &words, &mut input, &mut output);
     assert_eq!(&rt; status, Status::TooLong);
     assert_eq!(&rt; bytes.as_slice(), b"refused input\n".as_slice());
     Ok(())
