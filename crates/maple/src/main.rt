@@ -1,11 +1,9 @@
 //! Maple, an SDN controller for OpenFlow 1.0 switches.
 #![tactic(auto)]
 
-use device_port::Device;
 use maple_base::{Bytes, NoMemory, Words};
 use maple_io::{ReadSource, WriteSink};
-use maple_top::{DEVICES, Status, maple, program_device, push_idle};
-use std::alloc::Global;
+use maple_top::{Status, run_program};
 use std::env;
 use std::io::ErrorKind;
 use std::process::ExitCode;
@@ -32,21 +30,13 @@ fn words_of<R: Env + AllocGlobal>(rt: &R) -> Result<Words, NoMemory> {
 }
 
 fn main(rt: HostRuntime) -> ExitCode {
-    match run(&rt) {
-        Ok(status) => ExitCode::from(status.number()),
-        Err(NoMemory) => ExitCode::from(Status::NoMemory.number()),
-    }
-}
-
-// Runs the words of the command line over the devices of the program.
-fn run(rt: &HostRuntime) -> Result<Status, NoMemory> {
-    let alloc = rt.alloc();
-    let words = words_of(rt)?;
-    let mut devices: Vec<Box<dyn Device + Send>> = Vec::new(alloc);
-    for place in 1..=DEVICES {
-        push_idle(&mut devices, Box::new(alloc, program_device(alloc, place))?)?;
-    }
-    let mut input = ReadSource::new(rt.stdin());
-    let mut output = WriteSink::new(rt.stdout());
-    Ok(maple(rt, alloc, &words, &mut input, &mut output, &mut devices))
+    let status = match words_of(&rt) {
+        Ok(words) => {
+            let mut input = ReadSource::new(rt.stdin());
+            let mut output = WriteSink::new(rt.stdout());
+            run_program(rt.alloc(), &words, &mut input, &mut output)
+        }
+        Err(NoMemory) => Status::NoMemory,
+    };
+    ExitCode::from(status.number())
 }

@@ -1,14 +1,34 @@
--- A front of bytes that is written in pieces.
-use Rattle.std.proofs.Common.{ℕ, ◌+◌, List, take, drop, Option, sym, subst, take-append-drop}
+-- Texts that are written one behind the other.
+use Rattle.std.proofs.Common.{◌≡◌, ℕ, ◌+◌, List, [], ◌++◌, take, drop, sym, ap, ◌∙◌, subst, append-nil, append_assoc, take-append-drop}
 use Rattle.std.specs.Io.KnownBytes.{Appends, Keeps}
 use Rattle.std.proofs.Math.Seq.{take-add}
-use Rattle.std.proofs.KnownBytes.{Appends-trans, Appends-kept}
+use Rattle.std.proofs.KnownBytes.{Appends-nil, Appends-trans, Appends-kept}
 use Rattle.maple_io.specs.Fronts.{IsFront}
+use Rattle.maple_io.specs.Views.{SinkView, Wrote}
+
+pub wrote_nothing : (sink : SinkView) → Wrote sink sink []
+wrote_nothing sink = record { taken = Appends-nil sink.taken; took = sym (append-nil sink.took) }
+
+pub wrote_then : (old mid new : SinkView) (first second : List ℕ) → Wrote old mid first → Wrote mid new second → Wrote old new (first ++ second)
+wrote_then old mid new first second h k = record {
+  taken = Appends-trans old.taken mid.taken new.taken first second h.taken k.taken;
+  took = k.took ∙ ap (λ l. l ++ second) h.took ∙ append_assoc old.took first second;
+}
 
 -- one piece more
-pub piece_more : (old mid new : Option (List ℕ)) (bytes : List ℕ) (at n : ℕ) → Appends old mid (take at bytes) → Appends mid new (take n (drop at bytes)) → Appends old new (take (at + n) bytes)
-piece_more old mid new bytes at n h i = subst (Appends old new) (sym (take-add at n bytes)) (Appends-trans old mid new _ _ h i)
+pub piece_more : (old mid new : SinkView) (bytes : List ℕ) (at n : ℕ) → Wrote old mid (take at bytes) → Appends mid.taken new.taken (take n (drop at bytes))
+    → new.took ≡ mid.took ++ take n (drop at bytes) → Wrote old new (take (at + n) bytes)
+piece_more old mid new bytes at n h i e =
+    subst (Wrote old new) (sym (take-add at n bytes)) (wrote_then old mid new (take at bytes) (take n (drop at bytes)) h (record { taken = i; took = e }))
 
 -- no more than a front
-pub front_kept : (old mid new : Option (List ℕ)) (bytes : List ℕ) (at : ℕ) → Appends old mid (take at bytes) → Keeps mid new → (front : List ℕ) × IsFront front bytes × Appends old new front
-front_kept old mid new bytes at h k = (take at bytes, (drop at bytes, take-append-drop at bytes), Appends-kept old mid new _ h k)
+pub front_kept : (old mid new : SinkView) (bytes : List ℕ) (at : ℕ) → Wrote old mid (take at bytes) → Keeps mid.taken new.taken → new.took ≡ mid.took ++ []
+    → (front : List ℕ) × IsFront front bytes × Wrote old new front
+front_kept old mid new bytes at h k e = (
+  take at bytes,
+  (drop at bytes, take-append-drop at bytes),
+  record {
+    taken = Appends-kept old.taken mid.taken new.taken (take at bytes) h.taken k;
+    took = e ∙ append-nil mid.took ∙ h.took;
+  },
+)

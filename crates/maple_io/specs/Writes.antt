@@ -1,5 +1,5 @@
 -- What a write says of a sink.
-use Rattle.std.specs.Prelude.{ℕ, ◌≤◌, List, take, ⊤, ◌≡◌, Option}
+use Rattle.std.specs.Prelude.{ℕ, ◌≤◌, List, [], take, ⊤, ◌≡◌, Option}
 use Rattle.std.specs.Io.KnownBytes.{Appends, Keeps}
 use Rattle.maple_base.specs.Counts.{next_count}
 use Rattle.maple_io.specs.declared.sink.Put.{Put}
@@ -16,6 +16,12 @@ abbrev pub WritesBytes : Option (List ℕ) → Option (List ℕ) → Put → Lis
 WritesBytes old new (Took n) piece = Appends old new (take n piece)
 WritesBytes old new Failed piece = Keeps old new
 WritesBytes old new NoMemory piece = Keeps old new
+
+-- the bytes of a piece that a write took
+abbrev pub taken_of : Put → List ℕ → List ℕ
+taken_of (Took n) piece = take n piece
+taken_of Failed piece = []
+taken_of NoMemory piece = []
 
 -- how many writes failed after one more write
 abbrev pub failed_writes : ℕ → Put → ℕ

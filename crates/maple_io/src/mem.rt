@@ -1,11 +1,14 @@
 // A source and a sink over memory, whose failures are chosen ahead.
-ghost use Rattle.std.specs.Prelude.{◌≡◌, ◌≢◌, ◌<◌, ◌≤◌, ◌↔◌, [], IsTrue, Some, length, min, take, drop, ◌++◌, ◌+◌, ◌-◌};
+ghost use Rattle.std.specs.Prelude.{◌≡◌, ◌≢◌, ◌<◌, ◌≤◌, ◌↔◌, [], ◌∷◌, IsTrue, Some, length, min, take, drop, ◌++◌, ◌+◌, ◌-◌};
 ghost use Rattle.std.specs.List.{Contains};
 ghost use Rattle.maple_base.specs.Counts.{HasRisen, next_count};
+ghost use Rattle.maple_io.specs.Answers.{answer_of};
 ghost use Rattle.maple_io.specs.Reads.{FillsUp, GivesWithin, ReadsBytes, failed_reads};
-ghost use Rattle.maple_io.specs.Writes.{TakesAll, TakesWithin, WritesBytes, failed_writes};
+ghost use Rattle.maple_io.specs.Writes.{TakesAll, TakesWithin, WritesBytes, failed_writes, taken_of};
 
+use crate::answer::{Answer, answered};
 use crate::{Got, Put, Sink, Source};
+use maple_base::GhostList;
 use std::marker::Model;
 
 /// A source over bytes in memory, whose failures are chosen ahead: a read fails exactly where its
@@ -17,6 +20,8 @@ pub struct MemSource {
     fails: Vec<u64>,
     calls: u64,
     faults: u64,
+    /// What it answered.
+    answers: GhostList<Answer>,
 }
 
 impl Model for MemSource {
@@ -25,7 +30,7 @@ impl Model for MemSource {
 
     ghost Value = { Feed };
 
-    ghost view = { λ a. record { left = drop a.at a.content.items; fails = a.fails.items; calls = a.calls; failed = a.faults } };
+    ghost view = { λ a. record { left = drop a.at a.content.items; fails = a.fails.items; calls = a.calls; failed = a.faults; answers = a.answers.value } };
 
     ghost invariant = { λ a. a.at ≤ length a.content.items };
 }
@@ -38,6 +43,7 @@ impl MemSource {
         ensures fails { result.fails ≡ fails.items }
         ensures calls { result.calls ≡ 0 }
         ensures failed { result.failed ≡ 0 }
+        ensures answers { result.answers ≡ [] }
     {
         MemSource {
             content,
@@ -45,14 +51,12 @@ impl MemSource {
             fails,
             calls: 0,
             faults: 0,
+            answers: GhostList::none(),
         }
     }
-}
 
-impl Source for MemSource {
-    ghost tells = { λ s. record { left = Some s.left; failed = s.failed } };
-
-    fn read(&mut self, into: &mut [u8]) -> Got
+    // One read: it fails where its number is listed, and else gives all that fits.
+    fn read_once(&mut self, into: &mut [u8]) -> Got
         requires { 0 < length into.old }
         ensures room { GivesWithin result (length into.old) }
         ensures bytes { ReadsBytes (Some self.old.left) (Some self.new.left) result into.new }
@@ -68,6 +72,7 @@ impl Source for MemSource {
         ensures calls { self.new.calls ≡ next_count self.old.calls }
         ensures failed { self.new.failed ≡ failed_reads self.old.failed result }
         ensures fails { self.new.fails ≡ self.old.fails }
+        ensures answers { self.new.answers ≡ self.old.answers }
     {
         self.calls = self.calls.saturating_add(1);
         if is_listed(&self.fails, self.calls) {
@@ -80,6 +85,33 @@ impl Source for MemSource {
         }
         self.at += given;
         Got::Bytes(given)
+    }
+}
+
+impl Source for MemSource {
+    ghost tells = { λ s. record { left = Some s.left; failed = s.failed; answers = s.answers } };
+
+    fn read(&mut self, into: &mut [u8]) -> Got
+        requires { 0 < length into.old }
+        ensures room { GivesWithin result (length into.old) }
+        ensures bytes { ReadsBytes (Some self.old.left) (Some self.new.left) result into.new }
+        ensures answers { self.new.answers ≡ self.old.answers ++ answer_of result into.new ∷ [] }
+        ensures cause { result ≡ Got.Failed → HasRisen self.old.failed self.new.failed }
+        ensures count { self.old.failed ≤ self.new.failed }
+        ensures spared { result ≢ Got.Failed → self.new.failed ≡ self.old.failed }
+
+        // The read fails where its number is listed, and else gives all that fits.
+        ensures listed { (result ≡ Got.Failed) ↔ Contains self.old.fails self.new.calls }
+        ensures fills { FillsUp result self.old.left (length into.old) }
+
+        // What is counted, and what stays.
+        ensures calls { self.new.calls ≡ next_count self.old.calls }
+        ensures failed { self.new.failed ≡ failed_reads self.old.failed result }
+        ensures fails { self.new.fails ≡ self.old.fails }
+    {
+        let got = self.read_once(into);
+        self.answers = answered(&self.answers, got, into);
+        got
     }
 
     fn faults(&self) -> u64 {
@@ -131,12 +163,13 @@ impl MemSink {
 }
 
 impl Sink for MemSink {
-    ghost tells = { λ s. record { taken = Some s.taken; failed = s.failed } };
+    ghost tells = { λ s. record { taken = Some s.taken; failed = s.failed; took = s.taken } };
 
     fn write(&mut self, piece: &[u8]) -> Put
         requires { 0 < length piece.now }
         ensures room { TakesWithin result (length piece.now) }
         ensures bytes { WritesBytes (Some self.old.taken) (Some self.new.taken) result piece.now }
+        ensures took { self.new.taken ≡ self.old.taken ++ taken_of result piece.now }
         ensures cause { result ≡ Put.Failed → HasRisen self.old.failed self.new.failed }
         ensures count { self.old.failed ≤ self.new.failed }
         ensures spared { result ≢ Put.Failed → self.new.failed ≡ self.old.failed }

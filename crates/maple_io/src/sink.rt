@@ -1,7 +1,7 @@
 // What takes bytes.
-ghost use Rattle.std.specs.Prelude.{◌≡◌, ◌≢◌, ◌<◌, ◌≤◌, length};
+ghost use Rattle.std.specs.Prelude.{◌≡◌, ◌≢◌, ◌<◌, ◌≤◌, ◌++◌, length};
 ghost use Rattle.maple_io.specs.Views.{NoWriteFailed, SinkView, WriteFailed};
-ghost use Rattle.maple_io.specs.Writes.{TakesWithin, WritesBytes};
+ghost use Rattle.maple_io.specs.Writes.{TakesWithin, WritesBytes, taken_of};
 
 /// What became of a piece.
 #[derive(Clone, Copy, Debug, PartialEq, Eq)]
@@ -16,8 +16,9 @@ pub enum Put {
 
 /// What takes bytes.
 pub trait Sink {
-    /// The bytes that were taken, in order, where the sink tells them (`None` claims nothing), and
-    /// how many writes failed. That count stands still at 2^64 - 1, where a failure counts as a rise.
+    /// The bytes that are held, in order, where the sink tells them (`None` claims nothing), how many
+    /// writes failed, and what was taken in all writes so far, which every sink tells. That count
+    /// stands still at 2^64 - 1, where a failure counts as a rise.
     ghost tells: { Self → SinkView };
 
     /// Writes a piece that is not empty, once. `Put::Took(n)` says that its first n bytes were taken,
@@ -27,6 +28,7 @@ pub trait Sink {
         requires { 0 < length piece.now }
         ensures room { TakesWithin result (length piece.now) }
         ensures bytes { WritesBytes (tells self.old).taken (tells self.new).taken result piece.now }
+        ensures took { (tells self.new).took ≡ (tells self.old).took ++ taken_of result piece.now }
         ensures cause { result ≡ Put.Failed → WriteFailed (tells self.old) (tells self.new) }
         ensures count { (tells self.old).failed ≤ (tells self.new).failed }
         ensures spared { result ≢ Put.Failed → NoWriteFailed (tells self.old) (tells self.new) };

@@ -1,5 +1,6 @@
 // What gives bytes.
-ghost use Rattle.std.specs.Prelude.{◌≡◌, ◌≢◌, ◌<◌, ◌≤◌, length};
+ghost use Rattle.std.specs.Prelude.{◌≡◌, ◌≢◌, ◌<◌, ◌≤◌, ◌++◌, ◌∷◌, [], length};
+ghost use Rattle.maple_io.specs.Answers.{answer_of};
 ghost use Rattle.maple_io.specs.Reads.{GivesWithin, ReadsBytes};
 ghost use Rattle.maple_io.specs.Views.{NoReadFailed, ReadFailed, SourceView};
 
@@ -16,8 +17,9 @@ pub enum Got {
 
 /// What gives bytes.
 pub trait Source {
-    /// The bytes that are left, in order, where the source tells them (`None` claims nothing), and
-    /// how many reads failed. That count stands still at 2^64 - 1, where a failure counts as a rise.
+    /// The bytes that are left, in order, where the source tells them (`None` claims nothing), how
+    /// many reads failed, and what was answered to each read so far, which every source tells. That
+    /// count stands still at 2^64 - 1, where a failure counts as a rise.
     ghost tells: { Self → SourceView };
 
     /// Reads once into a slice that is not empty. `Got::Bytes(n)` says that its first n bytes are the
@@ -28,6 +30,7 @@ pub trait Source {
         requires { 0 < length into.old }
         ensures room { GivesWithin result (length into.old) }
         ensures bytes { ReadsBytes (tells self.old).left (tells self.new).left result into.new }
+        ensures answers { (tells self.new).answers ≡ (tells self.old).answers ++ answer_of result into.new ∷ [] }
         ensures cause { result ≡ Got.Failed → ReadFailed (tells self.old) (tells self.new) }
         ensures count { (tells self.old).failed ≤ (tells self.new).failed }
         ensures spared { result ≢ Got.Failed → NoReadFailed (tells self.old) (tells self.new) };

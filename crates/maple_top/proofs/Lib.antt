@@ -2,8 +2,10 @@ pub mod Budgets
 pub mod Commands
 pub mod Endings
 pub mod Faults
+pub mod Hearing
 pub mod Known
 pub mod OptionWords
 pub mod Prefixes
+pub mod Programs
 pub mod Runs
 pub mod Tops

@@ -1,8 +1,8 @@
 -- How the run of a script ends.
 use Rattle.std.proofs.Common.{◌≡◌, ℕ, List, ◌++◌, Option, Some, None, refl, sym, subst, inl, inr}
-use Rattle.std.proofs.KnownBytes.{Appends-trans}
 use Rattle.maple_base.specs.Counts.{HasRisen}
 use Rattle.maple_io.specs.Views.{SinkView, WriteFailed, Wrote}
+use Rattle.maple_io.proofs.Pieces.{wrote_then}
 use Rattle.report_text.specs.declared.line.ScriptRefusal.{ScriptRefusal}
 use Rattle.device_port.specs.Devices.{Meaning}
 use Rattle.sim_driver.specs.declared.drive.SimEnd.{SimEnd}
@@ -36,12 +36,12 @@ module _ (g : Given) (after : List Meaning) (old mid new : SinkView) (report : L
   -- the report, and the whole last line
   whole : (s due : Status) → (s ≡ due) × Wrote mid new (end_of (refused_of g)) → (s ≡ due) × WroteSome old new (IsTold g after)
   whole s due (is, w) =
-      (is, (report ++ end_of (refused_of g), (report, followed, refl), Appends-trans old.taken mid.taken new.taken report (end_of (refused_of g)) wrote w))
+      (is, (report ++ end_of (refused_of g), (report, followed, refl), wrote_then old mid new report (end_of (refused_of g)) wrote w))
 
   -- the report, and a front of it
   part : (end : SimEnd) → WroteFront mid new (end_of (refused_of g)) → WroteSome old new (IsCutShort end g after)
   part end (front, is, w) =
-      (report ++ front, inr (report, front, followed, is, refl), Appends-trans old.taken mid.taken new.taken report front wrote w)
+      (report ++ front, inr (report, front, followed, is, refl), wrote_then old mid new report front wrote w)
 
   told : (WriteFailed mid new → WriteFailed old new) → (s : Status) → Ends mid new (due_of (refused_of g)) (end_of (refused_of g)) s → RunsScript g after old new s
   told f Done e = whole Done (due_of (refused_of g)) e

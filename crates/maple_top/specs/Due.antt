@@ -1,6 +1,9 @@
 -- Which status a run of the program is due, and what it writes.
-use Rattle.std.specs.Prelude.{◌≡◌, ◌⊎◌, ℕ, ◌<◌, ◌≤◌, List, [], length, Option, Some, None, IfSome}
-use Rattle.maple_io.specs.Views.{SourceView, SinkView, ReadFailed, NoReadFailed, Gave}
+use Rattle.std.specs.Prelude.{◌≡◌, ◌⊎◌, ℕ, ◌<◌, ◌≤◌, ◌+◌, true, List, [], length, Option, Some, None, IfSome}
+use Rattle.std.specs.Io.KnownBytes.{IsAtEnd}
+use Rattle.maple_io.specs.Answers.{ends as tells_end, fails, given, gives}
+use Rattle.maple_io.specs.declared.answer.Answer.{Answer}
+use Rattle.maple_io.specs.Views.{SourceView, SinkView, ReadFailed, NoReadFailed, Gave, Heard}
 use Rattle.policy_lang.specs.declared.Policy.{Policy}
 use Rattle.device_port.specs.Devices.{Meaning}
 use Rattle.maple_base.specs.declared.decision.Settings.{Settings}
@@ -41,9 +44,27 @@ AreWords words = (command : Command) × HasCommand command words
 abbrev pub most_bytes : ℕ
 most_bytes = 67108864
 
+-- the most that one read gives
+abbrev pub most_piece : ℕ
+most_piece = 4096
+
 -- some bytes were read, none of them lost and none twice
 abbrev pub ReadSome : SourceView → SourceView → Type 0
 ReadSome before after = (bytes : List ℕ) × Gave before after bytes
+
+-- of the input it is so, as far as it is known: by the bytes that the source told to be left, where it told them, and by those that it gave. `ended` says that the
+-- input has no more
+pub record OfInput (source left : SourceView) (Of : Type 0 → List ℕ → Type 0) : Type 0 where
+  pub told : IfSome source.left (λ bytes. Of (IsAtEnd left.left) bytes)
+  pub heard : Heard source left (λ heard. Of (tells_end heard ≡ true) (given heard))
+
+-- bytes were given, few more than an input may have, and nothing was read behind the end or a failure
+abbrev pub IsReading : List Answer → Type 0
+IsReading heard = (length (given heard) ≤ most_bytes + most_piece) × ((gives heard ≡ true) ⊎ ((tells_end heard ≡ true) ⊎ (fails heard ≡ true)))
+
+-- a read failed, and it was the last
+abbrev pub IsUnread : SourceView → SourceView → Type 0
+IsUnread source left = ReadFailed source left × Heard source left (λ heard. fails heard ≡ true)
 
 -- more bytes were read than an input may have
 abbrev pub ReadOver : SourceView → SourceView → Type 0
@@ -109,6 +130,10 @@ IsDue NoMemory places words input = ⊥
 abbrev pub IsOrFails : Status → Status → Type 0
 IsOrFails status result = (result ≡ status) ⊎ ((result ≡ ReadFault) ⊎ ((result ≡ WriteFault) ⊎ (result ≡ NoMemory)))
 
+-- each status that is due comes, or a fault of a stream or want of memory that came before it
+abbrev pub IsExact : Status → ℕ → List (List ℕ) → List ℕ → Type 0
+IsExact result places words input = (status : Status) → IsDue status places words input → IsOrFails status result
+
 -- the same, where nothing is read
 abbrev pub IsOrUnwritten : Status → Status → Type 0
 IsOrUnwritten status result = (result ≡ status) ⊎ ((result ≡ WriteFault) ⊎ (result ≡ NoMemory))
@@ -122,13 +147,13 @@ IsReport words input before after text =
 abbrev pub IsRefusalText : List (List ℕ) → List ℕ → List ℕ → Type 0
 IsRefusalText words input text = (command : Command) × HasCommand command words × (l : Line) × IsRefusal (policy_part input) l × (text ≡ spelled l)
 
--- what a run writes that ends with this status and a line of its own, where `unread` says that a read failed
-abbrev pub IsText : Type 0 → Status → List (List ℕ) → List ℕ → List ℕ → Type 0
-IsText unread Usage words input text = ¬ (AreWords words) × (text ≡ last_line Usage)
-IsText unread TooLong words input text = AreWords words × (most_bytes < length input) × (text ≡ last_line TooLong)
-IsText unread PolicyRefused words input text = IsFit input × HasNone input × IsRefusalText words input text
-IsText unread ReadFault words input text = AreWords words × unread × (text ≡ last_line ReadFault)
-IsText unread status words input text = ⊥
+-- what a run writes that ends with this status and a line of its own, where `ended` says that the input has no more, and `unread` that a read failed
+abbrev pub IsText : Type 0 → Type 0 → Status → List (List ℕ) → List ℕ → List ℕ → Type 0
+IsText ended unread Usage words input text = ¬ (AreWords words) × (text ≡ last_line Usage)
+IsText ended unread TooLong words input text = AreWords words × (most_bytes < length input) × (text ≡ last_line TooLong)
+IsText ended unread PolicyRefused words input text = ended × IsFit input × HasNone input × IsRefusalText words input text
+IsText ended unread ReadFault words input text = AreWords words × unread × (text ≡ last_line ReadFault)
+IsText ended unread status words input text = ⊥
 
 -- nothing, where memory ran out ahead of all that is written
 abbrev pub IsNothing : SimEnd → List ℕ → Type 0
@@ -142,10 +167,10 @@ IsShort end words input before after text =
     × IsReportCut end policy command input before after text
 
 -- what a run writes in which a write fails or memory runs out: a front of a status's line, or nothing, or a report cut short
-abbrev pub IsCut : SimEnd → Type 0 → List (List ℕ) → List ℕ → List Meaning → List ℕ → Type 0
-IsCut end unread words input before text =
-    ((status : Status) × (whole : List ℕ) × IsText unread status words input whole × IsFront text whole)
-    ⊎ (IsNothing end text ⊎ ((after : List Meaning) × IsShort end words input before after text))
+abbrev pub IsCut : SimEnd → Type 0 → Type 0 → List (List ℕ) → List ℕ → List Meaning → List ℕ → Type 0
+IsCut end ended unread words input before text =
+    ((status : Status) × (whole : List ℕ) × IsText ended unread status words input whole × IsFront text whole)
+    ⊎ (IsNothing end text ⊎ (ended × (after : List Meaning) × IsShort end words input before after text))
 
 -- the line was written by which the command refuses the input's policy
 abbrev pub Refuses : List (List ℕ) → SinkView → SinkView → List ℕ → Type 0
@@ -155,34 +180,21 @@ Refuses words old new input = WroteSome old new (IsRefusalText words input)
 abbrev pub StopsAtRead : SourceView → SourceView → SinkView → SinkView → Type 0
 StopsAtRead before after old new = ¬ (NoReadFailed before after) → WroteFront old new (last_line ReadFault)
 
--- of the input that the source told ahead of the run: the line was written that refuses its policy
-abbrev pub WritesRefusal : List (List ℕ) → SourceView → SinkView → SinkView → Type 0
-WritesRefusal words source old new = IfSome source.left (λ input. Refuses words old new input)
+-- where the last answer was a failure, the same
+abbrev pub StopsAtFailure : SourceView → SourceView → SinkView → SinkView → Type 0
+StopsAtFailure before after old new = Heard before after (λ heard. fails heard ≡ true → WroteFront old new (last_line ReadFault))
 
--- the report of its policy was written, where the devices were so ahead of the run and are so behind it
-abbrev pub WritesReport : List (List ℕ) → SourceView → List Meaning → List Meaning → SinkView → SinkView → Type 0
-WritesReport words source before after old new = IfSome source.left (λ input. WroteSome old new (IsReport words input before after))
-
--- a text was written that was cut short
-abbrev pub WritesCut : SimEnd → List (List ℕ) → SourceView → SourceView → List Meaning → SinkView → SinkView → Type 0
-WritesCut end words source left devices old new =
-    IfSome source.left (λ input. WroteSome old new (IsCut end (ReadFailed source left) words input devices))
-
--- the devices are as they were ahead of the run, or as it left them whose report was written, cut short
-abbrev pub LeavesShort : SimEnd → List (List ℕ) → SourceView → List Meaning → List Meaning → SinkView → SinkView → Type 0
-LeavesShort end words source before after old new =
-    IfSome source.left (λ input. (after ≡ before) ⊎ WroteSome old new (IsShort end words input before after))
-
--- what a run wrote that is done, or whose script is refused, and the devices behind it; of a run in which a write failed or memory ran out the devices
-abbrev pub Tells : Status → List (List ℕ) → SourceView → List Meaning → List Meaning → SinkView → SinkView → Type 0
-Tells Done words source before after old new = WritesReport words source before after old new
-Tells Script words source before after old new = WritesReport words source before after old new
-Tells WriteFault words source before after old new = LeavesShort ends.WriteFault words source before after old new
-Tells NoMemory words source before after old new = LeavesShort ends.NoMemory words source before after old new
-Tells status words source before after old new = Unit {0}
+-- what a run wrote that is done, or whose script is refused, and the devices behind it; of a run in which a write failed or memory ran out the devices: they are
+-- as they were ahead of the run, or as it left them whose report was written, cut short
+abbrev pub Tells : Status → Type 0 → List (List ℕ) → List ℕ → List Meaning → List Meaning → SinkView → SinkView → Type 0
+Tells Done ended words input before after old new = WroteSome old new (IsReport words input before after)
+Tells Script ended words input before after old new = WroteSome old new (IsReport words input before after)
+Tells WriteFault ended words input before after old new = (after ≡ before) ⊎ (ended × WroteSome old new (IsShort ends.WriteFault words input before after))
+Tells NoMemory ended words input before after old new = (after ≡ before) ⊎ (ended × WroteSome old new (IsShort ends.NoMemory words input before after))
+Tells status ended words input before after old new = Unit {0}
 
 -- what a run wrote in which a write failed or memory ran out, the devices aside
-abbrev pub Cuts : Status → List (List ℕ) → SourceView → SourceView → List Meaning → SinkView → SinkView → Type 0
-Cuts WriteFault words source left devices old new = WritesCut ends.WriteFault words source left devices old new
-Cuts NoMemory words source left devices old new = WritesCut ends.NoMemory words source left devices old new
-Cuts status words source left devices old new = Unit {0}
+abbrev pub Cuts : Status → Type 0 → Type 0 → List (List ℕ) → List ℕ → List Meaning → SinkView → SinkView → Type 0
+Cuts WriteFault ended unread words input devices old new = WroteSome old new (IsCut ends.WriteFault ended unread words input devices)
+Cuts NoMemory ended unread words input devices old new = WroteSome old new (IsCut ends.NoMemory ended unread words input devices)
+Cuts status ended unread words input devices old new = Unit {0}

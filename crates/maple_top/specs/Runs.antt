@@ -1,10 +1,14 @@
 -- The ways in which a run of the program goes.
-use Rattle.std.specs.Prelude.{◌≡◌, ◌⊎◌, ℕ, ◌<◌, List, [], length, IfSome}
-use Rattle.std.specs.Io.KnownBytes.{IsAtEnd}
-use Rattle.maple_io.specs.Views.{SourceView, SinkView, ReadFailed, Wrote}
+use Rattle.std.specs.Prelude.{◌≡◌, ◌⊎◌, ℕ, ◌<◌, true, List, [], length, Result, Ok, Err}
+use Rattle.std.specs.declared.vec.Vec.{Vec}
+use Rattle.maple_io.specs.Answers.{ends as tells_end, fails, given, gives}
+use Rattle.maple_io.specs.declared.answer.Answer.{Answer}
+use Rattle.maple_io.specs.Views.{SinkView, Wrote}
 use Rattle.policy_lang.specs.declared.Policy.{Policy}
 use Rattle.maple_top.specs.declared.status.Status.{Status}
 use Rattle.maple_top.specs.declared.status.Status.TheVariants.{Usage, Policy as PolicyRefused, ReadFault, NoMemory, TooLong}
+use Rattle.maple_top.specs.declared.input.ReadStop.{ReadStop}
+use Rattle.maple_top.specs.declared.input.ReadStop.TheVariants.{Failed as ReadStopFailed, TooLong as StopTooLong, NoMemory as StopNoMemory}
 use Rattle.maple_top.specs.declared.policies.PolicyStop.{PolicyStop}
 use Rattle.maple_top.specs.declared.policies.PolicyStop.TheVariants.{Refused, NoMemory as StoppedNoMemory}
 use Rattle.maple_top.specs.declared.words.Command.{Command}
@@ -31,19 +35,26 @@ RunsText old new before after command input result =
     ⊎ (((after ≡ before) × HasNone input × (l : Line) × IsRefusal (policy_part input) l × Ends old new PolicyRefused (spelled l) result)
     ⊎ ((after ≡ before) × (result ≡ NoMemory) × Wrote old new []))
 
--- a run whose words are refused, whose input can't be read, is too long or finds no memory, or which runs the input that was read
-pub data IsRun (source left : SourceView) (old new : SinkView) (before after : List Meaning) (words : List (List ℕ)) (result : Status) : Type 0 where
-  refused_words : after ≡ before → ¬ (AreWords words) → Ends old new Usage (last_line Usage) result → IsRun source left old new before after words result
-  failed_read : after ≡ before → AreWords words → ReadFailed source left → Ends old new ReadFault (last_line ReadFault) result
-      → IsRun source left old new before after words result
-  read_too_long : after ≡ before → AreWords words → IfSome source.left (λ bytes. most_bytes < length bytes) → Ends old new TooLong (last_line TooLong) result
-      → IsRun source left old new before after words result
-  lacked_memory : after ≡ before → AreWords words → result ≡ NoMemory → Wrote old new [] → IsRun source left old new before after words result
-  ran : (command : Command) → HasCommand command words → (input : List ℕ) → IsFit input → IfSome source.left (λ bytes. input ≡ bytes)
-      → IfSome source.left (λ bytes. IsAtEnd left.left) → RunsText old new before after command input result
-      → IsRun source left old new before after words result
+-- a run whose words are refused, whose input can't be read, is too long or finds no memory, or which runs the input. `ended` says that the input has no more
+-- than these bytes, `unread` that a read failed
+pub data IsRun (ended unread : Type 0) (input : List ℕ) (old new : SinkView) (before after : List Meaning) (words : List (List ℕ)) (result : Status) : Type 0 where
+  refused_words : after ≡ before → ¬ (AreWords words) → Ends old new Usage (last_line Usage) result → IsRun ended unread input old new before after words result
+  failed_read : after ≡ before → AreWords words → unread → Ends old new ReadFault (last_line ReadFault) result
+      → IsRun ended unread input old new before after words result
+  read_too_long : after ≡ before → AreWords words → most_bytes < length input → Ends old new TooLong (last_line TooLong) result
+      → IsRun ended unread input old new before after words result
+  lacked_memory : after ≡ before → AreWords words → result ≡ NoMemory → Wrote old new [] → IsRun ended unread input old new before after words result
+  ran : (command : Command) → HasCommand command words → IsFit input → ended → RunsText old new before after command input result
+      → IsRun ended unread input old new before after words result
 
 -- a text gives no policy: by the line that refuses it, or for want of memory
 abbrev pub IsPolicyStop : List ℕ → PolicyStop → Type 0
 IsPolicyStop text (Refused l) = IsRefusal text l
 IsPolicyStop text StoppedNoMemory = Unit {0}
+
+-- what the answers are where an input was read, by what that gave: all its bytes and its end, or why not
+abbrev pub ReadsBy : {Alloc : Type 0} → Result (Vec ℕ Alloc) ReadStop → List Answer → Type 0
+ReadsBy (Ok all) heard = (tells_end heard ≡ true) × (given heard ≡ all.items)
+ReadsBy (Err ReadStopFailed) heard = fails heard ≡ true
+ReadsBy (Err StopTooLong) heard = (gives heard ≡ true) × (most_bytes < length (given heard))
+ReadsBy (Err StopNoMemory) heard = gives heard ≡ true

@@ -1,8 +1,9 @@
 // How an input is read to its end.
 ghost use Rattle.std.specs.Prelude.{◌≡◌, ◌≢◌, ◌<◌, ◌≤◌, length, IfOk, OnOk, IfSome};
 ghost use Rattle.std.specs.Io.KnownBytes.{IsAtEnd};
-ghost use Rattle.maple_io.specs.Views.{NoReadFailed, ReadFailed};
-ghost use Rattle.maple_top.specs.Due.{IsFit, ReadOver, ReadSome, most_bytes};
+ghost use Rattle.maple_io.specs.Views.{Heard, NoReadFailed, ReadFailed};
+ghost use Rattle.maple_top.specs.Due.{IsFit, IsReading, ReadOver, ReadSome, most_bytes};
+ghost use Rattle.maple_top.specs.Runs.{ReadsBy};
 
 use maple_io::{Got, Source};
 use std::alloc::Global;
@@ -28,6 +29,10 @@ pub fn read_all<I: Source>(alloc: Global, input: &mut I) -> Result<Vec<u8>, Read
     ensures fit { IfOk result (λ all. IsFit all.items) }
     ensures long { result ≡ Err ReadStop.TooLong → IfSome (I.tells input.old).left (λ bytes. most_bytes < length bytes) }
     ensures cause { result ≡ Err ReadStop.Failed → ReadFailed (I.tells input.old) (I.tells input.new) }
+
+    // What was answered, and that it is all that was read.
+    ensures heard { Heard (I.tells input.old) (I.tells input.new) (ReadsBy result) }
+    ensures reading { Heard (I.tells input.old) (I.tells input.new) IsReading }
 
     // What was read, and what of it failed.
     ensures over { result ≡ Err ReadStop.TooLong → ReadOver (I.tells input.old) (I.tells input.new) }

@@ -1,13 +1,12 @@
 // The top call.
-ghost use Rattle.std.specs.Prelude.{◌≡◌, ◌≢◌, ◌≤◌, IfSome, length, map};
-ghost use Rattle.std.specs.Io.KnownBytes.{IsAtEnd};
-ghost use Rattle.maple_io.specs.Views.{NoReadFailed, NoWriteFailed, ReadFailed, WriteFailed, Wrote};
+ghost use Rattle.std.specs.Prelude.{◌≡◌, ◌≢◌, ◌≤◌, length, map};
+ghost use Rattle.maple_io.specs.Views.{Heard, NoReadFailed, NoWriteFailed, WriteFailed, Wrote};
 ghost use Rattle.sim_driver.specs.Runs.{over};
 ghost use Rattle.sim_steps.specs.Showing.{AllIdle};
-ghost use Rattle.maple_top.specs.declared.status.Status.{Status as StatusOf};
 ghost use Rattle.maple_top.specs.Ends.{IsAside, IsOfWhole, IsUnhindered, WroteFront};
 ghost use Rattle.maple_top.specs.Runs.{IsRun, RunsText};
-ghost use Rattle.maple_top.specs.Due.{AreSim, AreWords, Cuts, IsDue, IsFit, IsOrFails, IsOrUnwritten, ReadOver, ReadSome, StopsAtRead, Tells, WritesRefusal};
+ghost use Rattle.maple_top.specs.Due.{AreSim, AreWords, Cuts, IsDue, IsExact, IsFit, IsOrUnwritten, IsReading, IsUnread, OfInput, ReadOver, ReadSome};
+ghost use Rattle.maple_top.specs.Due.{Refuses, StopsAtFailure, StopsAtRead, Tells};
 ghost use Rattle.maple_top.specs.Statuses.{last_line};
 ghost use Rattle.maple_top.specs.Words.{IsCommand};
 
@@ -50,27 +49,29 @@ pub fn maple<R, I: Source, O: Sink>(
     ensures unread { ¬ (AreWords words.now) → I.tells input.new ≡ I.tells input.old }
 
     // A read that fails, and an input that is too long.
-    ensures read_fault { result ≡ Status.ReadFault → ReadFailed (I.tells input.old) (I.tells input.new) }
+    ensures read_fault { result ≡ Status.ReadFault → IsUnread (I.tells input.old) (I.tells input.new) }
     ensures read_text { result ≡ Status.ReadFault → Wrote (O.tells output.old) (O.tells output.new) (last_line Status.ReadFault) }
-    ensures too_long { result ≡ Status.TooLong → IfSome (I.tells input.old).left (λ bytes. IsDue Status.TooLong (length devices.old.items) words.now bytes) }
+    ensures too_long { result ≡ Status.TooLong → OfInput (I.tells input.old) (I.tells input.new) (λ ended bytes. IsDue Status.TooLong (length devices.old.items) words.now bytes) }
     ensures too_long_read { result ≡ Status.TooLong → ReadOver (I.tells input.old) (I.tells input.new) }
     ensures too_long_text { result ≡ Status.TooLong → Wrote (O.tells output.old) (O.tells output.new) (last_line Status.TooLong) }
 
     // The policy, and then the script.
-    ensures policy { result ≡ Status.Policy → IfSome (I.tells input.old).left (λ bytes. IsDue Status.Policy (length devices.old.items) words.now bytes) }
-    ensures policy_text { result ≡ Status.Policy → WritesRefusal words.now (I.tells input.old) (O.tells output.old) (O.tells output.new) }
-    ensures script { result ≡ Status.Script → IfSome (I.tells input.old).left (λ bytes. IsDue Status.Script (length devices.old.items) words.now bytes) }
-    ensures done { result ≡ Status.Done → IfSome (I.tells input.old).left (λ bytes. IsDue Status.Done (length devices.old.items) words.now bytes) }
+    ensures policy { result ≡ Status.Policy → OfInput (I.tells input.old) (I.tells input.new) (λ ended bytes. IsDue Status.Policy (length devices.old.items) words.now bytes) }
+    ensures policy_text { result ≡ Status.Policy → OfInput (I.tells input.old) (I.tells input.new) (λ ended bytes. Refuses words.now (O.tells output.old) (O.tells output.new) bytes) }
+    ensures script { result ≡ Status.Script → OfInput (I.tells input.old) (I.tells input.new) (λ ended bytes. IsDue Status.Script (length devices.old.items) words.now bytes) }
+    ensures done { result ≡ Status.Done → OfInput (I.tells input.old) (I.tells input.new) (λ ended bytes. IsDue Status.Done (length devices.old.items) words.now bytes) }
 
     // What a run writes whose policy stands, and the devices behind it; which runs leave them as they were.
-    ensures told { Tells result words.now (I.tells input.old) (over meaning devices.old) (over meaning devices.new) (O.tells output.old) (O.tells output.new) }
+    ensures told { OfInput (I.tells input.old) (I.tells input.new) (λ ended bytes. Tells result ended words.now bytes (over meaning devices.old) (over meaning devices.new) (O.tells output.old) (O.tells output.new)) }
     ensures aside { IsAside result → over meaning devices.new ≡ over meaning devices.old }
     ensures uncalled { ¬ (AreSim words.now) → over meaning devices.new ≡ over meaning devices.old }
 
     // What was read, and the first cause: after a read that fails nothing but its line is written.
-    ensures read_whole { IsOfWhole result → IfSome (I.tells input.old).left (λ bytes. IsAtEnd (I.tells input.new).left) }
+    ensures read_whole { IsOfWhole result → OfInput (I.tells input.old) (I.tells input.new) (λ ended bytes. ended) }
     ensures read_some { ReadSome (I.tells input.old) (I.tells input.new) }
     ensures read_first { StopsAtRead (I.tells input.old) (I.tells input.new) (O.tells output.old) (O.tells output.new) }
+    ensures read_failed { StopsAtFailure (I.tells input.old) (I.tells input.new) (O.tells output.old) (O.tells output.new) }
+    ensures read_last { Heard (I.tells input.old) (I.tells input.new) IsReading }
 
     // The counts of faults.
     ensures reads_spared { IsUnhindered result → NoReadFailed (I.tells input.old) (I.tells input.new) }
@@ -78,11 +79,11 @@ pub fn maple<R, I: Source, O: Sink>(
     ensures writes_spared { result ≢ Status.WriteFault → NoWriteFailed (O.tells output.old) (O.tells output.new) }
 
     // Each of these comes exactly where it is due, but for a fault or want of memory.
-    ensures exact { IfSome (I.tells input.old).left (λ bytes. (s : StatusOf) → IsDue s (length devices.old.items) words.now bytes → IsOrFails s result) }
+    ensures exact { OfInput (I.tells input.old) (I.tells input.new) (λ ended bytes. IsExact result (length devices.old.items) words.now bytes) }
 
     // A write that fails, and want of memory.
     ensures write_fault { result ≡ Status.WriteFault → WriteFailed (O.tells output.old) (O.tells output.new) }
-    ensures cut { Cuts result words.now (I.tells input.old) (I.tells input.new) (over meaning devices.old) (O.tells output.old) (O.tells output.new) }
+    ensures cut { OfInput (I.tells input.old) (I.tells input.new) (λ ended bytes. Cuts result ended (IsUnread (I.tells input.old) (I.tells input.new)) words.now bytes (over meaning devices.old) (O.tells output.old) (O.tells output.new)) }
 {
     run_words(alloc, words, input, output, devices)
 }
@@ -96,14 +97,15 @@ fn run_words<D: Device, I: Source, O: Sink>(
     all: &mut [D],
 ) -> Status
     requires idle { AllIdle (map D.meaning all.old) }
-    ensures run { IsRun (I.tells from.old) (I.tells from.new) (O.tells to.old) (O.tells to.new) (map D.meaning all.old) (map D.meaning all.new) words.now result }
+    ensures run { OfInput (I.tells from.old) (I.tells from.new) (λ ended bytes. IsRun ended (IsUnread (I.tells from.old) (I.tells from.new)) bytes (O.tells to.old) (O.tells to.new) (map D.meaning all.old) (map D.meaning all.new) words.now result) }
     ensures aside { IsAside result → map D.meaning all.new ≡ map D.meaning all.old }
     ensures uncalled { ¬ (AreSim words.now) → map D.meaning all.new ≡ map D.meaning all.old }
     ensures unread { ¬ (AreWords words.now) → I.tells from.new ≡ I.tells from.old }
-    ensures whole { IsOfWhole result → IfSome (I.tells from.old).left (λ _. IsAtEnd (I.tells from.new).left) }
     ensures over { result ≡ Status.TooLong → ReadOver (I.tells from.old) (I.tells from.new) }
     ensures some { ReadSome (I.tells from.old) (I.tells from.new) }
     ensures first { StopsAtRead (I.tells from.old) (I.tells from.new) (O.tells to.old) (O.tells to.new) }
+    ensures failed { StopsAtFailure (I.tells from.old) (I.tells from.new) (O.tells to.old) (O.tells to.new) }
+    ensures last { Heard (I.tells from.old) (I.tells from.new) IsReading }
     ensures reads { IsUnhindered result → NoReadFailed (I.tells from.old) (I.tells from.new) }
     ensures count { (I.tells from.old).failed ≤ (I.tells from.new).failed }
     ensures spared { result ≢ Status.WriteFault → NoWriteFailed (O.tells to.old) (O.tells to.new) }

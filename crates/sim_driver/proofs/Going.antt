@@ -2,11 +2,11 @@
 use Rattle.std.proofs.Common.{◌≡◌, ◌⊎◌, ℕ, ◌+◌, List, [], ◌∷◌, ◌++◌, append-nil, append_assoc, refl, sym, ap, ◌∙◌, subst, length, inl, inr}
 use Rattle.std.specs.Prelude.{Some, None}
 use Rattle.std.specs.List.{flat_map}
-use Rattle.std.proofs.KnownBytes.{Appends-nil, Appends-trans}
 use Rattle.std.proofs.lemmas.Grind.{flat_map-append}
 use Rattle.std.proofs.lemmas.List.{append_cancel_left}
 use Rattle.maple_base.specs.declared.decision.Settings.{Settings}
 use Rattle.maple_io.specs.Views.{SinkView, Wrote}
+use Rattle.maple_io.proofs.Pieces.{wrote_nothing, wrote_then}
 use Rattle.policy_lang.specs.declared.Policy.{Policy}
 use Rattle.report_text.specs.declared.line.Line.{Line}
 use Rattle.report_text.specs.declared.line.ScriptRefusal.{ScriptRefusal}
@@ -67,7 +67,7 @@ went_none g places old driver devices known n e = record {
   parts = (refl, e, opened_still g);
   orders_are = ap (λ (n : ℕ). orders_of n g.lines) n;
   refused_is = refl;
-  wrote = Appends-nil old.taken;
+  wrote = wrote_nothing old;
   none_waits = ap (λ (b : Bench). b.machine.lines) e;
 }
 
@@ -113,7 +113,7 @@ went_further {g} {places} {old} {now} {driver} {devices} {line} {left} new next 
   parts = parts_then h.done (opened g) h.events (bench driver devices) o k.events (bench next after) h.parts k.part;
   orders_are = orders_on g places left behind h.done o passed h.orders_are leads;
   refused_is = h.refused_is ∙ leads.refused line;
-  wrote = subst (Wrote old new) (sym (report_then h.events k.events)) (Appends-trans old.taken now.taken new.taken (taken_report h.events) (taken_report k.events) h.wrote k.wrote);
+  wrote = subst (Wrote old new) (sym (report_then h.events k.events)) (wrote_then old now new (taken_report h.events) (taken_report k.events) h.wrote k.wrote);
   none_waits = none;
 }
 
@@ -235,7 +235,7 @@ module _ {g : Given} {places : ℕ} {old now : SinkView} {driver : Driver} {devi
     }
 
     pub unwritten : {passed : ℕ} {behind : List (List ℕ)} → Leads places left o passed behind → (text : List ℕ) × IsUnwritten g after text × Wrote old new text
-    unwritten leads = (report h.events ++ u.front, cut leads, Appends-trans old.taken now.taken new.taken (report h.events) u.front written u.wrote)
+    unwritten leads = (report h.events ++ u.front, cut leads, wrote_then old now new (report h.events) u.front written u.wrote)
 
   -- memory ran out in an order, or for the writing of its report
   pub cut_off : {new : SinkView} {after : List Meaning} {o : Order} {passed : ℕ} {behind : List (List ℕ)} → (new ≡ now) ⊎ IsUnreported o (bench driver devices) after now new
@@ -259,4 +259,4 @@ never g known = record {
 }
 
 pub never_begun : (g : Given) → Known g → (after : List Meaning) (old : SinkView) → (text : List ℕ) × (IsBrokenOff g text ⊎ IsUnwritten g after text) × Wrote old old text
-never_begun g known after old = ([], inl (never g known), Appends-nil old.taken)
+never_begun g known after old = ([], inl (never g known), wrote_nothing old)

@@ -1,30 +1,24 @@
 // An input without an end, and a script whose numbers begin elsewhere.
-ghost use Rattle.std.specs.Prelude.{None};
-
 use device_port::Device;
 use maple_base::{Bytes, NoMemory, Settings, Words};
-use maple_io::{Got, MemSink, Source};
-use maple_top::{DEVICES, Status, maple, program_device, push_idle};
+use maple_io::{MemSink, ReadSource, WriteSink};
+use maple_top::{Status, program_device, push_idle, run_program};
 use policy_text::read_policy;
 use report_text::ScriptRefusal;
 use sim_driver::{SimEnd, run_sim};
 use std::alloc::Global;
+use std::io;
+use std::io::Read;
 use std::test::Fail;
 
 // Gives blanks for ever.
 #[derive(Drop)]
 struct Endless;
 
-impl Source for Endless {
-    ghost tells = { λ s. record { left = None; failed = 0 } };
-
-    fn read(&mut self, into: &mut [u8]) -> Got {
-        into.fill(b' ');
-        Got::Bytes(into.len())
-    }
-
-    fn faults(&self) -> u64 {
-        0
+impl Read for Endless {
+    fn read(&mut self, buf: &mut [u8]) -> io::Result<usize> {
+        buf.fill(b' ');
+        Ok(buf.len())
     }
 }
 
@@ -32,14 +26,12 @@ impl Source for Endless {
 fn stops_at_an_endless_input(rt: HostRuntime) -> Result<(), Fail> {
     let alloc = rt.alloc();
     let words = sim_alone(alloc)?;
-    let mut devices: Vec<Box<dyn Device + Send>> = Vec::new(alloc);
-    for place in 1..=DEVICES {
-        push_idle(&mut devices, Box::new(alloc, program_device(alloc, place))?)?;
-    }
-    let mut sink = MemSink::new(Vec::new(alloc));
-    let status = maple(&(), alloc, &words, &mut Endless, &mut sink, &mut devices);
+    let mut bytes = Vec::new(alloc);
+    let mut input = ReadSource::new(Endless);
+    let mut output = WriteSink::new(&mut bytes);
+    let status = run_program(alloc, &words, &mut input, &mut output);
     assert_eq!(&rt; status, Status::TooLong);
-    assert_eq!(&rt; sink.bytes(), b"refused input\n".as_slice());
+    assert_eq!(&rt; bytes.as_slice(), b"refused input\n".as_slice());
     Ok(())
 }
 

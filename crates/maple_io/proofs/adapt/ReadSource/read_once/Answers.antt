@@ -1,6 +1,6 @@
 use Rattle.std.proofs.Common.{arith}
 use Rattle.maple_io.proofs.Ends.{ends_before}
-use Rattle.maple_io.proofs.adapt.ReadSourceSource.read.Goals as goal
+use Rattle.maple_io.proofs.adapt.ReadSource.read_once.Goals as goal
 
 pub returns-in-Ok-eq0-clause-bytes : goal.returns-in-Ok-eq0-clause-bytes
 returns-in-Ok-eq0-clause-bytes g c =

@@ -1,0 +1,6 @@
+use Rattle.std.proofs.Common.{[], ◌∷◌, ◌++◌}
+use Rattle.maple_io.specs.Answers.{answer_of}
+use Rattle.maple_io.proofs.answer.answered.Given as goal
+
+abbrev pub ghost-picked : goal.ghost-picked
+ghost-picked a = a.shown.now.0.now.value ++ answer_of a.shown.now.1 a.shown.now.2.now ∷ []

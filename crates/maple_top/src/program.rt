@@ -1,0 +1,87 @@
+// The program, from a reader to a writer of std.
+ghost use Rattle.std.specs.Prelude.{◌≡◌, [], true, length, IfOk, OnErr};
+ghost use Rattle.maple_base.specs.Counts.{HasRisen};
+ghost use Rattle.maple_io.specs.Adapters.{answers_of, read_faults, took_of, write_faults};
+ghost use Rattle.maple_io.specs.Answers.{fails, given};
+ghost use Rattle.maple_io.specs.Fronts.{IsFront};
+ghost use Rattle.sim_steps.specs.Showing.{AllIdle, AllKeep};
+ghost use Rattle.maple_top.specs.Due.{AreWords, IsExact, IsReading};
+ghost use Rattle.maple_top.specs.Program.{HasRun, Reports, RunsOver, program_devices};
+ghost use Rattle.maple_top.specs.Statuses.{last_line};
+
+use crate::devices::{DEVICES, program_device, push_idle};
+use crate::status::Status;
+use crate::top::maple;
+use device_port::Device;
+use maple_base::{NoMemory, Words};
+use maple_io::{ReadSource, Sink, Source, WriteSink};
+use std::alloc::Global;
+use std::io::{Read, Write};
+
+/// Runs Maple with the words of a command line, from a reader to a writer of std, over the devices of
+/// the program, which it makes. The reader and the writer may be any: what is said of the input speaks
+/// of the bytes that the source gave, and what is said of the report of those that the sink took.
+pub fn run_program<R: Read, W: Write>(
+    alloc: Global,
+    words: &Words,
+    input: &mut ReadSource<R>,
+    output: &mut WriteSink<W>,
+) -> Status
+    // Nothing was read or written yet.
+    requires unread { answers_of input.old ≡ [] }
+    requires unwritten { took_of output.old ≡ [] }
+
+    // The headline: what was written is the report of a run that is due, and right.
+    ensures done { result ≡ Status.Done → Reports Status.Done words.now (answers_of input.new) (took_of output.new) }
+
+    // With each status: what was given, and what was written.
+    ensures run { HasRun result words.now (answers_of input.new) (took_of output.new) }
+
+    // Each status comes exactly where it is due, but for a fault or want of memory.
+    ensures exact { IsExact result (length program_devices) words.now (given (answers_of input.new)) }
+
+    // How far the input is read, and what a failed read leaves to write.
+    ensures reading { IsReading (answers_of input.new) }
+    ensures unread { ¬ (AreWords words.now) → answers_of input.new ≡ [] }
+    ensures first { fails (answers_of input.new) ≡ true → IsFront (took_of output.new) (last_line Status.ReadFault) }
+
+    // A fault is one of the reader or the writer.
+    ensures read_fault { result ≡ Status.ReadFault → HasRisen (read_faults input.old) (read_faults input.new) }
+    ensures write_fault { result ≡ Status.WriteFault → HasRisen (write_faults output.old) (write_faults output.new) }
+
+    // Each device of the program keeps the specification of a switch, and no message waits in it at first.
+    ensures keep { AllKeep program_devices }
+    ensures idle { AllIdle program_devices }
+{
+    run_over(alloc, words, input, output)
+}
+
+// Runs these words from a source to a sink, over the devices of the program.
+fn run_over<I: Source, O: Sink>(alloc: Global, words: &Words, from: &mut I, to: &mut O) -> Status
+    ensures ran { RunsOver (I.tells from.old) (I.tells from.new) (O.tells to.old) (O.tells to.new) words.now result }
+{
+    match run_made(alloc, words, from, to) {
+        Ok(status) => status,
+        Err(NoMemory) => Status::NoMemory,
+    }
+}
+
+// The same, where the devices find memory; where they find none, nothing is done.
+fn run_made<I: Source, O: Sink>(
+    alloc: Global,
+    words: &Words,
+    from: &mut I,
+    to: &mut O,
+) -> Result<Status, NoMemory>
+    ensures ran { IfOk result (RunsOver (I.tells from.old) (I.tells from.new) (O.tells to.old) (O.tells to.new) words.now) }
+    ensures unread { OnErr result (I.tells from.new ≡ I.tells from.old) }
+    ensures unwritten { OnErr result (O.tells to.new ≡ O.tells to.old) }
+{
+    let mut devices: Vec<Box<dyn Device + Send>> = Vec::new(alloc);
+    let mut place = 0;
+    while place < DEVICES {
+        place += 1;
+        push_idle(&mut devices, Box::new(alloc, program_device(alloc, place))?)?;
+    }
+    Ok(maple(&(), alloc, words, from, to, &mut devices))
+}
