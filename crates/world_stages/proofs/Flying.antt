@@ -10,7 +10,7 @@ use Rattle.switch_session.specs.Parts.{change_body, changes_from, barrier_reques
 use Rattle.device_port.specs.Switches.{is_barrier, is_flow_mod, message}
 use Rattle.machine_steps.specs.Machine.{Session}
 use Rattle.world_steps.specs.Worlds.{Link}
-use Rattle.world_stages.specs.Flights.{line_of, back_of, is_signal, controls, signals, IsErrorOf, IsOnItsWay, IsInFlight}
+use Rattle.world_stages.specs.Flights.{line_of, back_of, is_signal, controls, signals, IsErrorOf, IsOnItsWay, IsEachOnce, IsInFlight}
 use Rattle.world_stages.specs.FlightLaws.{StaysClear, StepsStayClear, CarriesOut, FliesOn, StepsFlyOn, FlightsAgree}
 use Rattle.world_stages.proofs.Lists.{filter_takes, all_right, some_there, ahead_of_last}
 use Rattle.world_stages.proofs.Bodies.{change_is_flow_mod, flow_mod_no_barrier, carries_out, error_signal}
@@ -37,20 +37,8 @@ on_its_way barrier due errors line back line' back' e f (inl w) = inl (e ∙ w.0
 on_its_way barrier due errors line back line' back' e f (inr w) = inr (w.0, e ∙ w.1, f ∙ w.2)
 
 pub flights_agree : FlightsAgree
-flights_agree first barrier changes quiet done line back line' back' e f h = record {
-  carried = h.carried;
-  heard = h.heard;
-  unheard = h.unheard;
-  due = h.due;
-  errors = h.errors;
-  above = h.above;
-  numbers = h.numbers;
-  once = h.once;
-  asked = h.asked;
-  noisy = h.noisy;
-  told = h.told;
-  way = on_its_way barrier h.due h.errors line back line' back' e f h.way;
-}
+flights_agree first barrier changes quiet done line back line' back' e f h =
+    record { due = h.due; errors = h.errors; each = h.each; way = on_its_way barrier h.due h.errors line back line' back' e f h.way }
 
 barrier_apart : (barrier : ℕ) (m : Message) → is_flow_mod m.body ≡ true → m ≡ barrier_request barrier → ⊥
 barrier_apart barrier m h e = let f = ap (λ (x : Message). is_flow_mod x.body) e in cc
@@ -67,6 +55,9 @@ due_none first barrier changes (d ∷ due) m ms all h e =
     absurd (cc)
 
 module _ (first barrier : ℕ) (changes : List TableMod) (quiet : Bool) (done : List TableMod) (s : Session) (l k : Link) (h : IsInFlight first barrier changes quiet done (line_of s l) (back_of l)) where
+  abbrev part : IsEachOnce first barrier changes quiet done h.due h.errors
+  part = h.each
+
   -- a change that is taken from the line is one of those that are due, and the others still are
   record TakesDue (m : Message) : Type 0 where
     ahead : List Message
@@ -92,17 +83,15 @@ module _ (first barrier : ℕ) (changes : List TableMod) (quiet : Bool) (done : 
 
   module _ (m : Message) (t : TakesDue m) where
     one_due : IsChangeOf first barrier changes m
-    one_due =
-        let all = subst (AllByRecursion (IsChangeOf first barrier changes)) t.due (due_changes first barrier changes quiet done (line_of s l) (back_of l) h) in
-        (all_right (IsChangeOf first barrier changes) t.ahead (m ∷ t.behind) all).0
+    one_due = (all_right (IsChangeOf first barrier changes) t.ahead (m ∷ t.behind) (subst (AllByRecursion (IsChangeOf first barrier changes)) t.due (due_changes part))).0
 
-    once_taken : IsPermutation (h.carried ++ (h.heard ++ (h.unheard ++ (t.ahead ++ m ∷ t.behind)))) (changes_from first changes)
-    once_taken = subst (λ (due : List Message). IsPermutation (h.carried ++ (h.heard ++ (h.unheard ++ due))) (changes_from first changes)) t.due h.once
+    once_taken : IsPermutation (part.carried ++ (part.heard ++ (part.unheard ++ (t.ahead ++ m ∷ t.behind)))) (changes_from first changes)
+    once_taken = subst (λ (due : List Message). IsPermutation (part.carried ++ (part.heard ++ (part.unheard ++ due))) (changes_from first changes)) t.due part.once
 
     refusal_signal : (kind code : ℕ) (bytes : List ℕ) → signals (message m.xid (Error kind code bytes) ∷ []) ≡ message m.xid (Error kind code bytes) ∷ []
     refusal_signal kind code bytes =
         let from = one_due.from in
-        let above = h.above in
+        let above = part.above in
         filter_takes is_signal (message m.xid (Error kind code bytes)) [] (error_signal m.xid kind code bytes (λ e. absurd (omega arith)))
 
   flies_carrying : (m : Message) → CarriesChange s l k m → CarriesOut first barrier changes quiet done s l k
@@ -116,17 +105,19 @@ module _ (first barrier : ℕ) (changes : List TableMod) (quiet : Bool) (done : 
             among = one.among;
             table = carries_out m.body one.change l.switch.table k.switch.table (ap (λ (x : Message). x.body) one.is) d.leads;
             flight = record {
-              carried = m ∷ h.carried;
-              heard = h.heard;
-              unheard = h.unheard;
               due = t.ahead ++ t.behind;
               errors = h.errors;
-              above = h.above;
-              numbers = h.numbers;
-              once = once_carried h.carried h.heard h.unheard (changes_from first changes) m t.ahead t.behind (once_taken m t);
-              asked = (ap (λ (x : Message). x.body) one.is, h.asked);
-              noisy = h.noisy;
-              told = h.told;
+              each = record {
+                carried = m ∷ part.carried;
+                heard = part.heard;
+                unheard = part.unheard;
+                above = part.above;
+                numbers = part.numbers;
+                once = once_carried part.carried part.heard part.unheard (changes_from first changes) m t.ahead t.behind (once_taken m t);
+                asked = (ap (λ (x : Message). x.body) one.is, part.asked);
+                noisy = part.noisy;
+                told = part.told;
+              };
               way = inl (t.line, d.back ∙ t.back);
             };
           }
@@ -141,43 +132,29 @@ module _ (first barrier : ℕ) (changes : List TableMod) (quiet : Bool) (done : 
       go t = record {
         table = d.table;
         flight = record {
-          carried = h.carried;
-          heard = h.heard;
-          unheard = h.unheard ++ m ∷ [];
           due = t.ahead ++ t.behind;
           errors = h.errors ++ refusal m d ∷ [];
-          above = h.above;
-          numbers = h.numbers;
-          once = once_refused h.carried h.heard h.unheard (changes_from first changes) m t.ahead t.behind (once_taken m t);
-          asked = h.asked;
-          noisy = h.noisy;
-          told = AllZip-push IsErrorOf h.unheard h.errors m (refusal m d) h.told (record { kind = d.kind; code = d.code; bytes = d.bytes; is = refl });
+          each = record {
+            carried = part.carried;
+            heard = part.heard;
+            unheard = part.unheard ++ m ∷ [];
+            above = part.above;
+            numbers = part.numbers;
+            once = once_refused part.carried part.heard part.unheard (changes_from first changes) m t.ahead t.behind (once_taken m t);
+            asked = part.asked;
+            noisy = part.noisy;
+            told = AllZip-push IsErrorOf part.unheard h.errors m (refusal m d) part.told (record { kind = d.kind; code = d.code; bytes = d.bytes; is = refl });
+          };
           way = inl (t.line, d.back ∙ ap₂ (λ (xs ys : List Message). xs ++ ys) t.back (refusal_signal m t d.kind d.code d.bytes));
         };
       }
 
   flies_answering : (m : Message) → AnswersFirst s l k m → FliesOn first barrier changes quiet done s l k
-  flies_answering m d = record {
-    table = d.table;
-    flight = record {
-      carried = h.carried;
-      heard = h.heard;
-      unheard = h.unheard;
-      due = h.due;
-      errors = h.errors;
-      above = h.above;
-      numbers = h.numbers;
-      once = h.once;
-      asked = h.asked;
-      noisy = h.noisy;
-      told = h.told;
-      way = go h.way;
-    };
-  }
+  flies_answering m d = record { table = d.table; flight = record { due = h.due; errors = h.errors; each = part; way = go h.way } }
     where
       go : IsOnItsWay barrier h.due h.errors (line_of s l) (back_of l) → IsOnItsWay barrier h.due h.errors (line_of s k) (back_of k)
       go (inl w) =
-          let t = due_none first barrier changes h.due m (controls (line_of s k)) (due_changes first barrier changes quiet done (line_of s l) (back_of l) h) d.barrier (sym d.was ∙ w.0) in
+          let t = due_none first barrier changes h.due m (controls (line_of s k)) (due_changes part) d.barrier (sym d.was ∙ w.0) in
           inr (t.0, t.2, d.back ∙ ap₂ (λ (ms : List Message) (n : ℕ). ms ++ message n BarrierReply ∷ []) w.1 (ap (λ (x : Message). x.xid) t.1))
       go (inr w) = absurd (some_there [] m (controls (line_of s k)) (sym d.was ∙ w.1))
 

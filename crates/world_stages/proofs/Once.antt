@@ -11,7 +11,7 @@ use Rattle.of10_codec.specs.declared.message.Message.{Message}
 use Rattle.switch_session.specs.Parts.{change_message, changes_from}
 use Rattle.device_port.specs.Switches.{change_of}
 use Rattle.update_plan.proofs.Members.{here, there}
-use Rattle.world_stages.specs.Flights.{Asks, IsInFlight}
+use Rattle.world_stages.specs.Flights.{Asks, IsEachOnce}
 use Rattle.world_stages.proofs.Lists.{all_left, all_right}
 use Rattle.world_stages.proofs.Bodies.{change_is_read}
 
@@ -58,23 +58,23 @@ changes_number first barrier xid all (c ∷ changes) from below among = (
   changes_number first barrier (xid + 1) all changes (omega arith) (omega arith) (λ d e. among d (there c changes d e)),
 )
 
-module _ (first barrier : ℕ) (changes : List TableMod) (quiet : Bool) (done : List TableMod) (line back : List Message) (h : IsInFlight first barrier changes quiet done line back) where
+module _ {first barrier : ℕ} {changes : List TableMod} {quiet : Bool} {done : List TableMod} {due errors : List Message} (h : IsEachOnce first barrier changes quiet done due errors) where
   abbrev Is : Message → Type 0
   Is = IsChangeOf first barrier changes
 
-  refused_or_due : AllByRecursion Is (h.unheard ++ h.due)
+  refused_or_due : AllByRecursion Is (h.unheard ++ due)
   refused_or_due =
       let numbers = h.numbers in
-      let whole = h.carried ++ (h.heard ++ (h.unheard ++ h.due)) in
+      let whole = h.carried ++ (h.heard ++ (h.unheard ++ due)) in
       let sent = All-from_recursion Is (changes_from first changes) (changes_number first barrier first changes changes (omega arith) (omega arith) (λ c d. d)) in
       let each = recursion_from_All Is whole (All-permutation Is (changes_from first changes) whole (IsPermutation-sym whole (changes_from first changes) h.once) sent) in
-      all_right Is h.heard (h.unheard ++ h.due) (all_right Is h.carried (h.heard ++ (h.unheard ++ h.due)) each)
+      all_right Is h.heard (h.unheard ++ due) (all_right Is h.carried (h.heard ++ (h.unheard ++ due)) each)
 
   pub unheard_changes : AllByRecursion Is h.unheard
-  unheard_changes = all_left Is h.unheard h.due refused_or_due
+  unheard_changes = all_left Is h.unheard due refused_or_due
 
-  pub due_changes : AllByRecursion Is h.due
-  due_changes = all_right Is h.unheard h.due refused_or_due
+  pub due_changes : AllByRecursion Is due
+  due_changes = all_right Is h.unheard due refused_or_due
 
 -- ---- the changes that were carried out
 

@@ -83,17 +83,19 @@ module _ (lists : Lists) (part : Part) (parts : List Part) (quiet : Bool) (s : S
   departs : Departs lists part parts quiet s l
   departs = record {
     flight = record {
-      carried = [];
-      heard = [];
-      unheard = [];
       due = changes_from (s.used + 1) (changes_of part);
       errors = [];
-      above = omega arith;
-      numbers = omega arith;
-      once = IsPermutation-refl (changes_from (s.used + 1) (changes_of part));
-      asked = tt;
-      noisy = λ loud. refl;
-      told = tt;
+      each = record {
+        carried = [];
+        heard = [];
+        unheard = [];
+        above = omega arith;
+        numbers = omega arith;
+        once = IsPermutation-refl (changes_from (s.used + 1) (changes_of part));
+        asked = tt;
+        noisy = λ loud. refl;
+        told = tt;
+      };
       way = inl (part_line, clear.back);
     };
     numbered = λ n. record {

@@ -94,21 +94,24 @@ pub record IsErrorOf (m error : Message) : Type 0 where
   pub bytes : List ℕ
   pub is : error ≡ message m.xid (Error kind code bytes)
 
--- a part of an update, of which these changes were carried out: its messages that are under way, and what came back. Its changes were sent with the numbers from
--- the first up to its barrier's. Each of their messages, just once, was carried out, or was refused, or is due. Of each that was refused either the ERROR was
--- heard, and then the session is quiet, or it comes back
-pub record IsInFlight (first barrier : ℕ) (changes : List TableMod) (quiet : Bool) (done : List TableMod) (line back : List Message) : Type 0 where
+-- these changes, sent with the numbers from the first up to the barrier's: each of their messages, just once, was carried out, or was refused, or is due. Of each
+-- that was refused either the ERROR was heard, and then the session is quiet, or it is among those that come back
+pub record IsEachOnce (first barrier : ℕ) (changes : List TableMod) (quiet : Bool) (done : List TableMod) (due errors : List Message) : Type 0 where
   pub carried : List Message
   pub heard : List Message
   pub unheard : List Message
-  pub due : List Message
-  pub errors : List Message
   pub above : 1 ≤ first
   pub numbers : first + length changes ≡ barrier
   pub once : IsPermutation (carried ++ (heard ++ (unheard ++ due))) (changes_from first changes)
   pub asked : AllZip Asks done carried
   pub noisy : quiet ≡ false → heard ≡ []
   pub told : AllZip IsErrorOf unheard errors
+
+-- a part of an update, of which these changes were carried out: its messages that are under way, and what came back
+pub record IsInFlight (first barrier : ℕ) (changes : List TableMod) (quiet : Bool) (done : List TableMod) (line back : List Message) : Type 0 where
+  pub due : List Message
+  pub errors : List Message
+  pub each : IsEachOnce first barrier changes quiet done due errors
   pub way : IsOnItsWay barrier due errors line back
 
 -- ---- what a step of the switch does to its table where it carries out no change
