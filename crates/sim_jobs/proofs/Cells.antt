@@ -27,7 +27,6 @@ use Rattle.tree_prune.proofs.Values.{same_equal, equal_same, none_differs}
 use Rattle.sim_jobs.specs.Knowing.{are_known, asked_of, cells_in, first_unknown, value_in, value_or_blank}
 use Rattle.sim_jobs.proofs.SameCells.{equality, own, same_is}
 
-
 -- ---- one more is known
 
 pub current_push : (env : Cell → Value) (cs : List (Cell × Value)) (c : Cell) (v : Value) → are_current env cs ≡ true → v ≡ env c → are_current env (cs ++ (c, v) ∷ []) ≡ true

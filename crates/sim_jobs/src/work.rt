@@ -159,7 +159,15 @@ fn run_with(
     ensures asked { IfOk result (λ run. run.cells ≡ asked_of policy.now budget item.now (value_in known.now)) }
 {
     let mut view = NowView::new(known);
-    match record(alloc, policy, number, budget, item.switch(), item.key(), &mut view) {
+    match record(
+        alloc,
+        policy,
+        number,
+        budget,
+        item.switch(),
+        item.key(),
+        &mut view,
+    ) {
         Ok(run) => {
             run.law();
             Ok(run)
