@@ -32,22 +32,16 @@ impl Subject for Environment {
             "knows?" => Ok(push_flag(self.env.knows(words.number()?), out)?),
             "links?" => Ok(push_links(self.env.links(), out)?),
             "many" => make_many(&mut self.env, words, out),
-            "copy" => self.take_copy(out),
-            "swap" => self.swap(out),
+            "copy" => {
+                self.copy = self.env.copy()?;
+                Ok(out.push_str("ok")?)
+            }
+            "swap" => {
+                mem::swap(&mut self.env, &mut self.copy);
+                Ok(out.push_str("ok")?)
+            }
             _ => make(self.alloc, &mut self.env, call, out),
         }
-    }
-}
-
-impl Environment {
-    fn take_copy(&mut self, out: &mut String) -> Result<(), CaseStop> {
-        self.copy = self.env.copy()?;
-        Ok(out.push_str("ok")?)
-    }
-
-    fn swap(&mut self, out: &mut String) -> Result<(), CaseStop> {
-        mem::swap(&mut self.env, &mut self.copy);
-        Ok(out.push_str("ok")?)
     }
 }
 

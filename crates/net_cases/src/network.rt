@@ -39,22 +39,16 @@ impl Subject for Network {
             "knows?" => Ok(push_flag(self.scene.knows(words.number()?), out)?),
             "links?" => Ok(push_links(self.scene.links(), out)?),
             "behind?" => tell_behind(self.alloc, &self.scene, words, out),
-            "copy" => self.take_copy(out),
-            "swap" => self.swap(out),
+            "copy" => {
+                self.copy = self.scene.copy()?;
+                Ok(out.push_str("ok")?)
+            }
+            "swap" => {
+                mem::swap(&mut self.scene, &mut self.copy);
+                Ok(out.push_str("ok")?)
+            }
             _ => make(self.alloc, &mut self.scene, call, out),
         }
-    }
-}
-
-impl Network {
-    fn take_copy(&mut self, out: &mut String) -> Result<(), CaseStop> {
-        self.copy = self.scene.copy()?;
-        Ok(out.push_str("ok")?)
-    }
-
-    fn swap(&mut self, out: &mut String) -> Result<(), CaseStop> {
-        mem::swap(&mut self.scene, &mut self.copy);
-        Ok(out.push_str("ok")?)
     }
 }
 

@@ -1,7 +1,6 @@
 // Events as text.
 use crate::tokens::{push_token, push_word};
 use policy_grammar::Event;
-use policy_tokens::Token;
 use std::alloc::AllocError;
 
 /// Appends events, or `nothing`, where there are none.
@@ -22,12 +21,10 @@ fn push_event(event: &Event, out: &mut String) -> Result<(), AllocError> {
     match event {
         Event::Table(name) => push_word("Table ", name.text(), out),
         Event::Name(name) => push_word("Name ", name.text(), out),
-        Event::Single(token) => push_single(token, out),
+        Event::Single(token) => {
+            out.push_str("Single ")?;
+            push_token(token, out)
+        }
         _ => write!(out, "{event:?}"),
     }
-}
-
-fn push_single(token: &Token, out: &mut String) -> Result<(), AllocError> {
-    out.push_str("Single ")?;
-    push_token(token, out)
 }

@@ -11,7 +11,8 @@ pub fn tokens(alloc: Global, words: Words<'_>, out: &mut String) -> Result<(), C
     match read_tokens(alloc, &text) {
         Ok(tokens) => Ok(push_tokens(&tokens, out)?),
         Err(TokensError::Fault { position, kind }) => {
-            Ok(push_fault(position, kind.number(), out)?)
+            push_position(position, out)?;
+            Ok(write!(out, " kind {}", kind.number())?)
         }
         Err(TokensError::NoMemory) => Err(CaseStop::NoMemory),
     }
@@ -25,11 +26,6 @@ fn push_tokens(tokens: &Tokens, out: &mut String) -> Result<(), AllocError> {
         out.push_str(", ")?;
     }
     push_position(tokens.end(), out)
-}
-
-fn push_fault(position: Position, number: u8, out: &mut String) -> Result<(), AllocError> {
-    push_position(position, out)?;
-    write!(out, " kind {number}")
 }
 
 fn push_position(position: Position, out: &mut String) -> Result<(), AllocError> {
