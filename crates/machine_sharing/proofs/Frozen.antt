@@ -6,9 +6,10 @@ use Rattle.update_plan.proofs.Members.{none_in}
 use Rattle.history_lock.specs.Histories.{Replays, AreAllowed}
 use Rattle.machine_steps.specs.declared.entry.Entry.{Entry}
 use Rattle.machine_steps.specs.declared.entry.Entry.TheVariants as entries
+use Rattle.machine_steps.specs.declared.job.Job.{Job}
 use Rattle.machine_steps.specs.declared.reply.Reply.{Reply}
 use Rattle.machine_steps.specs.declared.reply.Reply.TheVariants.{NoMemory, Policy as PolicyLent}
-use Rattle.machine_steps.specs.Machine.{Job, State}
+use Rattle.machine_steps.specs.Machine.{State}
 use Rattle.machine_steps.specs.Steps.{Commits, Decides, LendsPolicy, Steps}
 use Rattle.machine_sharing.specs.Between.{NothingChanges}
 use Rattle.machine_sharing.specs.Sharing.{Allows, Call, Turns}
