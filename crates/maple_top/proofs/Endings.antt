@@ -3,6 +3,7 @@ use Rattle.std.proofs.Common.{◌≡◌, ℕ, List, [], refl, subst}
 use Rattle.std.proofs.lemmas.List.{append-nil}
 use Rattle.maple_io.specs.Views.{SinkView, Wrote}
 use Rattle.maple_io.specs.Fronts.{IsFront}
+use Rattle.maple_io.proofs.Pieces.{wrote_nothing}
 use Rattle.sim_driver.specs.declared.drive.SimEnd.{SimEnd}
 use Rattle.maple_top.specs.declared.status.Status.{Status}
 use Rattle.maple_top.specs.declared.status.Status.TheVariants.{Done, Usage, Policy, Script, ReadFault, WriteFault, NoMemory, TooLong}
@@ -21,6 +22,10 @@ given_ends old new text TooLong h a = (refl, a)
 -- a whole text is a front of itself
 pub wrote_front : (old new : SinkView) (text : List ℕ) → Wrote old new text → WroteFront old new text
 wrote_front old new text a = (text, ([], append-nil text), a)
+
+-- where nothing was written, a front of any text was
+pub nothing_front : (old : SinkView) (text : List ℕ) → WroteFront old old text
+nothing_front old text = ([], (text, refl), wrote_nothing old)
 
 -- however a part ends, it wrote a front of its text
 pub ends_front : (old new : SinkView) (due : Status) (text : List ℕ) (s : Status) → Ends old new due text s → WroteFront old new text

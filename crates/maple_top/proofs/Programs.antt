@@ -64,23 +64,23 @@ words_or words = by (command_of words) refl
     by (Some command) is = inl (command, is)
     by None is = inr (λ h. let both = sym is ∙ h.1 in cc)
 
--- what a run over these devices promises, as far as it is cited here
-pub record Promises (source left : SourceView) (old new : SinkView) (after : List Meaning) (words : List (List ℕ)) (s : Status) : Type 0 where
+-- what a run over devices promises, as far as it is cited here
+pub record Promises (source left : SourceView) (old new : SinkView) (before after : List Meaning) (places : ℕ) (words : List (List ℕ)) (s : Status) : Type 0 where
   pub whole : IsOfWhole s → OfInput source left (λ ended bytes. ended)
-  pub done : s ≡ Done → OfInput source left (λ ended bytes. IsDue Done (length program_devices) words bytes)
-  pub script : s ≡ Script → OfInput source left (λ ended bytes. IsDue Script (length program_devices) words bytes)
-  pub policy : s ≡ PolicyRefused → OfInput source left (λ ended bytes. IsDue PolicyRefused (length program_devices) words bytes)
+  pub done : s ≡ Done → OfInput source left (λ ended bytes. IsDue Done places words bytes)
+  pub script : s ≡ Script → OfInput source left (λ ended bytes. IsDue Script places words bytes)
+  pub policy : s ≡ PolicyRefused → OfInput source left (λ ended bytes. IsDue PolicyRefused places words bytes)
   pub policy_text : s ≡ PolicyRefused → OfInput source left (λ ended bytes. Refuses words old new bytes)
-  pub too_long : s ≡ TooLong → OfInput source left (λ ended bytes. IsDue TooLong (length program_devices) words bytes)
+  pub too_long : s ≡ TooLong → OfInput source left (λ ended bytes. IsDue TooLong places words bytes)
   pub too_long_text : s ≡ TooLong → Wrote old new (last_line TooLong)
   pub usage : s ≡ Usage → ¬ (AreWords words)
   pub usage_text : s ≡ Usage → Wrote old new (last_line Usage)
   pub usage_exact : ¬ (AreWords words) → IsOrUnwritten Usage s
   pub read_fault : s ≡ ReadFault → IsUnread source left
   pub read_text : s ≡ ReadFault → Wrote old new (last_line ReadFault)
-  pub told : OfInput source left (λ ended bytes. Tells s ended words bytes program_devices after old new)
-  pub cut : OfInput source left (λ ended bytes. Cuts s ended (IsUnread source left) words bytes program_devices old new)
-  pub exact : OfInput source left (λ ended bytes. IsExact s (length program_devices) words bytes)
+  pub told : OfInput source left (λ ended bytes. Tells s ended words bytes before after old new)
+  pub cut : OfInput source left (λ ended bytes. Cuts s ended (IsUnread source left) words bytes before old new)
+  pub exact : OfInput source left (λ ended bytes. IsExact s places words bytes)
   pub reading : Heard source left IsReading
   pub failed : StopsAtFailure source left old new
   pub unread : ¬ (AreWords words) → left ≡ source
@@ -137,7 +137,7 @@ module _ (source left : SourceView) (old new : SinkView) (after : List Meaning) 
       by (inl w) = w
       by (inr n) = absurd (none (f n))
 
-  ran_by : (s : Status) → Promises source left old new after words s → Ran s
+  ran_by : (s : Status) → Promises source left old new program_devices after (length program_devices) words s → Ran s
   ran_by Done p =
       let (text, report, wrote) = at_input p.told heard is in
       (text, reports Done (at_input (p.whole tt) heard is) (at_input (p.done refl) heard is) text report, wrote)
@@ -161,7 +161,7 @@ module _ (source left : SourceView) (old new : SinkView) (after : List Meaning) 
   none_heard : left ≡ source → heard ≡ []
   none_heard same = append_cancel_left source.answers heard [] (sym is ∙ ap (λ (s : SourceView). s.answers) same ∙ sym (append-nil source.answers))
 
-  over_by : (s : Status) → Promises source left old new after words s → Ran s → RunsOver source left old new words s
+  over_by : (s : Status) → Promises source left old new program_devices after (length program_devices) words s → Ran s → RunsOver source left old new words s
   over_by s p (text, run, wrote) = record {
     heard = heard;
     were_heard = is;
@@ -176,10 +176,14 @@ module _ (source left : SourceView) (old new : SinkView) (after : List Meaning) 
     write_fault = p.write_fault;
   }
 
-pub runs_over : (source left : SourceView) (old new : SinkView) (after : List Meaning) (words : List (List ℕ)) (s : Status) → Promises source left old new after words s
-    → RunsOver source left old new words s
-runs_over source left old new after words s p =
-    let (heard, is, reading) = p.reading in over_by source left old new after words heard is s p (ran_by source left old new after words heard is s p)
+pub runs_over : (source left : SourceView) (old new : SinkView) (before after : List Meaning) (places : ℕ) (words : List (List ℕ)) (s : Status) → before ≡ program_devices
+    → places ≡ length program_devices → Promises source left old new before after places words s → RunsOver source left old new words s
+runs_over source left old new before after places words s e n p =
+    let q : Promises source left old new program_devices after places words s =
+    subst (λ (b : List Meaning). Promises source left old new b after places words s) e p in
+    let r : Promises source left old new program_devices after (length program_devices) words s =
+    subst (λ (k : ℕ). Promises source left old new program_devices after k words s) n q in
+    let (heard, is, reading) = r.reading in over_by source left old new after words heard is s r (ran_by source left old new after words heard is s r)
 
 -- a run whose devices find no memory
 pub never_run : (source : SourceView) (old : SinkView) (words : List (List ℕ)) → RunsOver source source old old words NoMemory

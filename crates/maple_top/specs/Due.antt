@@ -52,8 +52,8 @@ most_piece = 4096
 abbrev pub ReadSome : SourceView → SourceView → Type 0
 ReadSome before after = (bytes : List ℕ) × Gave before after bytes
 
--- of the input it is so, as far as it is known: by the bytes that the source told to be left, where it told them, and by those that it gave. `ended` says that the
--- input has no more
+-- of the input it is so, as far as it is known: by the bytes that the source told to be left, where it told them, and by those that it gave. `ended` says that
+-- the input has no more
 pub record OfInput (source left : SourceView) (Of : Type 0 → List ℕ → Type 0) : Type 0 where
   pub told : IfSome source.left (λ bytes. Of (IsAtEnd left.left) bytes)
   pub heard : Heard source left (λ heard. Of (tells_end heard ≡ true) (given heard))
@@ -184,8 +184,8 @@ StopsAtRead before after old new = ¬ (NoReadFailed before after) → WroteFront
 abbrev pub StopsAtFailure : SourceView → SourceView → SinkView → SinkView → Type 0
 StopsAtFailure before after old new = Heard before after (λ heard. fails heard ≡ true → WroteFront old new (last_line ReadFault))
 
--- what a run wrote that is done, or whose script is refused, and the devices behind it; of a run in which a write failed or memory ran out the devices: they are
--- as they were ahead of the run, or as it left them whose report was written, cut short
+-- what a run wrote that is done, or whose script is refused, and the devices behind it; of a run in which a write failed or memory ran out the devices: they
+-- are as they were ahead of the run, or as it left them whose report was written, cut short
 abbrev pub Tells : Status → Type 0 → List (List ℕ) → List ℕ → List Meaning → List Meaning → SinkView → SinkView → Type 0
 Tells Done ended words input before after old new = WroteSome old new (IsReport words input before after)
 Tells Script ended words input before after old new = WroteSome old new (IsReport words input before after)
@@ -198,3 +198,20 @@ abbrev pub Cuts : Status → Type 0 → Type 0 → List (List ℕ) → List ℕ 
 Cuts WriteFault ended unread words input devices old new = WroteSome old new (IsCut ends.WriteFault ended unread words input devices)
 Cuts NoMemory ended unread words input devices old new = WroteSome old new (IsCut ends.NoMemory ended unread words input devices)
 Cuts status ended unread words input devices old new = Unit {0}
+
+-- ---- the same of an input, as far as it is known
+
+abbrev pub IsDueBy : SourceView → SourceView → Status → ℕ → List (List ℕ) → Type 0
+IsDueBy source left status places words = OfInput source left (λ ended input. IsDue status places words input)
+
+abbrev pub IsExactBy : SourceView → SourceView → Status → ℕ → List (List ℕ) → Type 0
+IsExactBy source left result places words = OfInput source left (λ ended input. IsExact result places words input)
+
+abbrev pub RefusesBy : SourceView → SourceView → List (List ℕ) → SinkView → SinkView → Type 0
+RefusesBy source left words old new = OfInput source left (λ ended input. Refuses words old new input)
+
+abbrev pub TellsBy : SourceView → SourceView → Status → List (List ℕ) → List Meaning → List Meaning → SinkView → SinkView → Type 0
+TellsBy source left status words before after old new = OfInput source left (λ ended input. Tells status ended words input before after old new)
+
+abbrev pub CutsBy : SourceView → SourceView → Status → List (List ℕ) → List Meaning → SinkView → SinkView → Type 0
+CutsBy source left status words devices old new = OfInput source left (λ ended input. Cuts status ended (IsUnread source left) words input devices old new)

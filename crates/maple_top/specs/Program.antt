@@ -33,8 +33,8 @@ devices_to (suc place) = devices_to place ++ device_at (suc place) ∷ []
 pub program_devices : List Meaning
 program_devices = devices_to 64
 
--- the text is the report of deeds that follow the script, up to its end or its first refused line, and then the last line. The deeds are a run of the world, which is
--- right: each rule that a ready session's switch hits decides as plain evaluation does
+-- the text is the report of deeds that follow the script, up to its end or its first refused line, and then the last line. The deeds are a run of the world,
+-- which is right: each rule that a ready session's switch hits decides as plain evaluation does
 pub record IsRightReport (policy : Policy) (settings : Settings) (input text : List ℕ) : Type 0 where
   pub after : List Meaning
   pub report : List ℕ

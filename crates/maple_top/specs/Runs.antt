@@ -3,7 +3,7 @@ use Rattle.std.specs.Prelude.{◌≡◌, ◌⊎◌, ℕ, ◌<◌, true, List, []
 use Rattle.std.specs.declared.vec.Vec.{Vec}
 use Rattle.maple_io.specs.Answers.{ends as tells_end, fails, given, gives}
 use Rattle.maple_io.specs.declared.answer.Answer.{Answer}
-use Rattle.maple_io.specs.Views.{SinkView, Wrote}
+use Rattle.maple_io.specs.Views.{SinkView, SourceView, Wrote}
 use Rattle.policy_lang.specs.declared.Policy.{Policy}
 use Rattle.maple_top.specs.declared.status.Status.{Status}
 use Rattle.maple_top.specs.declared.status.Status.TheVariants.{Usage, Policy as PolicyRefused, ReadFault, NoMemory, TooLong}
@@ -15,7 +15,7 @@ use Rattle.maple_top.specs.declared.words.Command.{Command}
 use Rattle.device_port.specs.Devices.{Meaning}
 use Rattle.report_text.specs.declared.line.Line.{Line}
 use Rattle.report_text.specs.Report.{spelled}
-use Rattle.maple_top.specs.Due.{HasCommand, AreWords, most_bytes, IsFit, HasPolicy, HasNone, refused, IsReportOf, IsReportCut}
+use Rattle.maple_top.specs.Due.{HasCommand, AreWords, most_bytes, IsFit, HasPolicy, HasNone, refused, IsReportOf, IsReportCut, IsUnread, OfInput}
 use Rattle.maple_top.specs.Ends.{Ends, EndsTelling}
 use Rattle.maple_top.specs.Lines.{policy_part}
 use Rattle.maple_top.specs.Refusals.{IsRefusal}
@@ -46,6 +46,11 @@ pub data IsRun (ended unread : Type 0) (input : List ℕ) (old new : SinkView) (
   lacked_memory : after ≡ before → AreWords words → result ≡ NoMemory → Wrote old new [] → IsRun ended unread input old new before after words result
   ran : (command : Command) → HasCommand command words → IsFit input → ended → RunsText old new before after command input result
       → IsRun ended unread input old new before after words result
+
+-- the same of an input, as far as it is known
+abbrev pub IsRunBy : SourceView → SourceView → SinkView → SinkView → List Meaning → List Meaning → List (List ℕ) → Status → Type 0
+IsRunBy source left old new before after words result =
+    OfInput source left (λ ended input. IsRun ended (IsUnread source left) input old new before after words result)
 
 -- a text gives no policy: by the line that refuses it, or for want of memory
 abbrev pub IsPolicyStop : List ℕ → PolicyStop → Type 0

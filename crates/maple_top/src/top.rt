@@ -4,9 +4,9 @@ ghost use Rattle.maple_io.specs.Views.{Heard, NoReadFailed, NoWriteFailed, Write
 ghost use Rattle.sim_driver.specs.Runs.{over};
 ghost use Rattle.sim_steps.specs.Showing.{AllIdle};
 ghost use Rattle.maple_top.specs.Ends.{IsAside, IsOfWhole, IsUnhindered, WroteFront};
-ghost use Rattle.maple_top.specs.Runs.{IsRun, RunsText};
-ghost use Rattle.maple_top.specs.Due.{AreSim, AreWords, Cuts, IsDue, IsExact, IsFit, IsOrUnwritten, IsReading, IsUnread, OfInput, ReadOver, ReadSome};
-ghost use Rattle.maple_top.specs.Due.{Refuses, StopsAtFailure, StopsAtRead, Tells};
+ghost use Rattle.maple_top.specs.Runs.{IsRunBy, RunsText};
+ghost use Rattle.maple_top.specs.Due.{AreSim, AreWords, CutsBy, IsDueBy, IsExactBy, IsFit, IsOrUnwritten, IsReading, IsUnread, OfInput, ReadOver, ReadSome};
+ghost use Rattle.maple_top.specs.Due.{RefusesBy, StopsAtFailure, StopsAtRead, TellsBy};
 ghost use Rattle.maple_top.specs.Statuses.{last_line};
 ghost use Rattle.maple_top.specs.Words.{IsCommand};
 
@@ -51,18 +51,19 @@ pub fn maple<R, I: Source, O: Sink>(
     // A read that fails, and an input that is too long.
     ensures read_fault { result ≡ Status.ReadFault → IsUnread (I.tells input.old) (I.tells input.new) }
     ensures read_text { result ≡ Status.ReadFault → Wrote (O.tells output.old) (O.tells output.new) (last_line Status.ReadFault) }
-    ensures too_long { result ≡ Status.TooLong → OfInput (I.tells input.old) (I.tells input.new) (λ ended bytes. IsDue Status.TooLong (length devices.old.items) words.now bytes) }
+    ensures too_long { result ≡ Status.TooLong → IsDueBy (I.tells input.old) (I.tells input.new) Status.TooLong (length devices.old.items) words.now }
     ensures too_long_read { result ≡ Status.TooLong → ReadOver (I.tells input.old) (I.tells input.new) }
     ensures too_long_text { result ≡ Status.TooLong → Wrote (O.tells output.old) (O.tells output.new) (last_line Status.TooLong) }
 
     // The policy, and then the script.
-    ensures policy { result ≡ Status.Policy → OfInput (I.tells input.old) (I.tells input.new) (λ ended bytes. IsDue Status.Policy (length devices.old.items) words.now bytes) }
-    ensures policy_text { result ≡ Status.Policy → OfInput (I.tells input.old) (I.tells input.new) (λ ended bytes. Refuses words.now (O.tells output.old) (O.tells output.new) bytes) }
-    ensures script { result ≡ Status.Script → OfInput (I.tells input.old) (I.tells input.new) (λ ended bytes. IsDue Status.Script (length devices.old.items) words.now bytes) }
-    ensures done { result ≡ Status.Done → OfInput (I.tells input.old) (I.tells input.new) (λ ended bytes. IsDue Status.Done (length devices.old.items) words.now bytes) }
+    ensures policy { result ≡ Status.Policy → IsDueBy (I.tells input.old) (I.tells input.new) Status.Policy (length devices.old.items) words.now }
+    ensures policy_text { result ≡ Status.Policy → RefusesBy (I.tells input.old) (I.tells input.new) words.now (O.tells output.old) (O.tells output.new) }
+    ensures script { result ≡ Status.Script → IsDueBy (I.tells input.old) (I.tells input.new) Status.Script (length devices.old.items) words.now }
+    ensures done { result ≡ Status.Done → IsDueBy (I.tells input.old) (I.tells input.new) Status.Done (length devices.old.items) words.now }
 
     // What a run writes whose policy stands, and the devices behind it; which runs leave them as they were.
-    ensures told { OfInput (I.tells input.old) (I.tells input.new) (λ ended bytes. Tells result ended words.now bytes (over meaning devices.old) (over meaning devices.new) (O.tells output.old) (O.tells output.new)) }
+    ensures told { TellsBy (I.tells input.old) (I.tells input.new) result words.now (over meaning devices.old)
+        (over meaning devices.new) (O.tells output.old) (O.tells output.new) }
     ensures aside { IsAside result → over meaning devices.new ≡ over meaning devices.old }
     ensures uncalled { ¬ (AreSim words.now) → over meaning devices.new ≡ over meaning devices.old }
 
@@ -79,11 +80,11 @@ pub fn maple<R, I: Source, O: Sink>(
     ensures writes_spared { result ≢ Status.WriteFault → NoWriteFailed (O.tells output.old) (O.tells output.new) }
 
     // Each of these comes exactly where it is due, but for a fault or want of memory.
-    ensures exact { OfInput (I.tells input.old) (I.tells input.new) (λ ended bytes. IsExact result (length devices.old.items) words.now bytes) }
+    ensures exact { IsExactBy (I.tells input.old) (I.tells input.new) result (length devices.old.items) words.now }
 
     // A write that fails, and want of memory.
     ensures write_fault { result ≡ Status.WriteFault → WriteFailed (O.tells output.old) (O.tells output.new) }
-    ensures cut { OfInput (I.tells input.old) (I.tells input.new) (λ ended bytes. Cuts result ended (IsUnread (I.tells input.old) (I.tells input.new)) words.now bytes (over meaning devices.old) (O.tells output.old) (O.tells output.new)) }
+    ensures cut { CutsBy (I.tells input.old) (I.tells input.new) result words.now (over meaning devices.old) (O.tells output.old) (O.tells output.new) }
 {
     run_words(alloc, words, input, output, devices)
 }
@@ -97,7 +98,8 @@ fn run_words<D: Device, I: Source, O: Sink>(
     all: &mut [D],
 ) -> Status
     requires idle { AllIdle (map D.meaning all.old) }
-    ensures run { OfInput (I.tells from.old) (I.tells from.new) (λ ended bytes. IsRun ended (IsUnread (I.tells from.old) (I.tells from.new)) bytes (O.tells to.old) (O.tells to.new) (map D.meaning all.old) (map D.meaning all.new) words.now result) }
+    ensures run { IsRunBy (I.tells from.old) (I.tells from.new) (O.tells to.old) (O.tells to.new) (map D.meaning all.old)
+        (map D.meaning all.new) words.now result }
     ensures aside { IsAside result → map D.meaning all.new ≡ map D.meaning all.old }
     ensures uncalled { ¬ (AreSim words.now) → map D.meaning all.new ≡ map D.meaning all.old }
     ensures unread { ¬ (AreWords words.now) → I.tells from.new ≡ I.tells from.old }

@@ -1,4 +1,5 @@
-use Rattle.std.proofs.Common.{◌≡◌, ◌+◌, ap, map, sym, ◌∙◌}
+use Rattle.std.proofs.Common.{◌≡◌, ◌+◌, ap, map, refl, sym, inr, ◌∙◌}
+use Rattle.maple_io.proofs.Pieces.{wrote_nothing}
 use Rattle.maple_top.specs.Lines.{first_number}
 use Rattle.maple_top.proofs.Commands.{ran_sim, ran_check, ran_refused}
 use Rattle.sim_driver.specs.Runs.{given}
@@ -30,3 +31,6 @@ returns-in-Err-Refused-clause-run g c =
     ran_refused (g.O.Sink.tells c.args.to.now) (g.O.Sink.tells c.refuse_policy.new.output) (map g.D.Device.meaning c.args.all.now) (map g.D.Device.meaning c.args.all.now)
     c.args.text.now c.args.command c.in-Err-Refused.line c.refuse_policy.result
     (rw c.split_at_mark-lines.ensures.ahead at (rw c.in-Err-Refused.field-0-is at c.in-Err-Refused.ensures.refused)) (rw c.in-Err-Refused.line-is at c.refuse_policy.ensures.ends)
+
+pub returns-in-Err-NoMemory-clause-run : goal.returns-in-Err-NoMemory-clause-run
+returns-in-Err-NoMemory-clause-run g c = inr (inr (refl, refl, wrote_nothing (g.O.Sink.tells c.args.to.now)))
