@@ -55,14 +55,14 @@ impl KnownCells {
     /// # Errors
     ///
     /// `NoMemory`.
-    pub fn push(&mut self, cell: Cell, value: Value) -> Result<(), NoMemory>
-        requires new { given cell self.old ≡ None }
-        requires kind { IsTrue (of_kind cell value) }
-        ensures { OnOk result (self.new ≡ self.old ++ (cell, value) ∷ []) }
+    pub fn push(&mut self, cell: &Cell, value: Value) -> Result<(), NoMemory>
+        requires new { given cell.now self.old ≡ None }
+        requires kind { IsTrue (of_kind cell.now value) }
+        ensures { OnOk result (self.new ≡ self.old ++ (cell.now, value) ∷ []) }
     {
         self.list.reserve(1)?;
-        self.table.insert(cell, value)?;
-        self.list.push_reserved((cell, value));
+        self.table.insert(*cell, value)?;
+        self.list.push_reserved((*cell, value));
         Ok(())
     }
 }

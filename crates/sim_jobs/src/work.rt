@@ -61,7 +61,7 @@ fn recorded(core: &mut Core, budget: u32, item: &JobItem) -> Result<Run, NoMemor
             Ok(run) => return Ok(run),
             Err(Unrecorded::Unknown(cell)) => {
                 let value = read(core, &cell);
-                known.push(cell, value)?;
+                known.push(&cell, value)?;
             }
             Err(Unrecorded::NoMemory) => return Err(NoMemory),
         }
