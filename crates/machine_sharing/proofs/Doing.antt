@@ -1,5 +1,5 @@
 -- What one allowed entry does, by its effect: to each session in its place, and to traces.
-use Rattle.std.proofs.Common.{◌≡◌, ◌≢◌, ◌⊎◌, ℕ, ◌+◌, Bool, true, false, List, [], ◌∷◌, ◌++◌, refl, sym, ap, ap₂, ◌∙◌, subst, inl, inr, ⊎_elim}
+use Rattle.std.proofs.Common.{◌≡◌, ℕ, Bool, true, false, List, [], ◌∷◌, ◌++◌, refl, sym, ap, ap₂, ◌∙◌, subst, inl, inr, ⊎_elim}
 use Rattle.std.specs.Prelude.{◌==◌, ◌&&◌, not, map, if◌then◌else◌, Option, Some, None}
 use Rattle.std.specs.List.{AllZip}
 use Rattle.std.proofs.lemmas.Bool.{and_parts, cases_eq, eq-eqb, eqb-true, ne_eqb}
@@ -23,10 +23,10 @@ use Rattle.machine_steps.specs.declared.entry.Entry.TheVariants as entries
 use Rattle.machine_steps.specs.declared.job.Job.{Job}
 use Rattle.machine_steps.specs.declared.reply.Reply.{Reply}
 use Rattle.machine_steps.specs.declared.reply.Reply.TheVariants.{Answered}
-use Rattle.machine_steps.specs.Effects.{tells_run, telling, may_advance, IsEndOf, IsPlain, Effect, Running}
+use Rattle.machine_steps.specs.Effects.{tells_run, may_advance, IsEndOf, IsPlain, Effect, Running}
 use Rattle.machine_steps.specs.Effects.Effect.{RunsOut, Rests, Misses, Outdates, Tells, Reports, OpensSession, TurnsAway, Empties, Moves, Quiets, Ends, Advances, Renews, Accepts, Overflows, Waits, Spends, AnswersJob}
 use Rattle.machine_steps.specs.Machine.{Session, State, has_ended, is_of, is_open, put_traces, traces_in, traces_of}
-use Rattle.machine_steps.specs.Sound.{AreOthers, IsSound}
+use Rattle.machine_steps.specs.Sound.{IsSound}
 use Rattle.machine_steps.specs.Steps.{Answers, HeadsFor, Keeps, next_trace, sends}
 use Rattle.machine_steps.proofs.Sound.Following.{Put, put_zip}
 use Rattle.machine_steps.proofs.Sound.Kept.{traces_beside, traces_put}

@@ -1,8 +1,8 @@
 -- What allowed entries leave as it is.
-use Rattle.std.proofs.Common.{◌≡◌, ◌⊎◌, ℕ, Bool, true, false, List, [], ◌∷◌, ◌++◌, refl, sym, ap, ◌∙◌, subst, inl, inr}
+use Rattle.std.proofs.Common.{◌≡◌, ◌⊎◌, ℕ, Bool, true, List, [], ◌∷◌, ◌++◌, refl, sym, ap, ◌∙◌, subst, inl, inr}
 use Rattle.std.specs.Prelude.{◌&&◌, filter}
 use Rattle.std.specs.List.{AllZip}
-use Rattle.history_lock.specs.Histories.{StartsWith, Replays, AreAllowed, state_behind}
+use Rattle.history_lock.specs.Histories.{StartsWith, state_behind}
 use Rattle.history_lock.proofs.States.{replays_since}
 use Rattle.machine_steps.specs.declared.entry.Entry.{Entry}
 use Rattle.machine_steps.specs.declared.entry.Entry.TheVariants as entries
@@ -17,7 +17,7 @@ use Rattle.machine_steps.proofs.Changes.JobsBy.{Added, AreMany, Left}
 use Rattle.machine_steps.proofs.Effects.{effect_of}
 use Rattle.machine_steps.proofs.Sound.Zipped.{zip_refl, zip_then, zip_weaker}
 use Rattle.machine_sharing.specs.Between.{DoesTo, EachDoesSo, MostStays, OnlyGrows, SinceStays, Stays}
-use Rattle.machine_sharing.specs.Sharing.{Allows, Call, Turns}
+use Rattle.machine_sharing.specs.Sharing.{Turns}
 use Rattle.machine_sharing.proofs.Doing.{Does, IsShared, does_by, does_grows, found_both, grows_same, grows_then, may_share, never, shared_of}
 use Rattle.machine_sharing.proofs.Lists.{filter_all, filter_twice, starts_same, starts_then}
 
