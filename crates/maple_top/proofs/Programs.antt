@@ -58,11 +58,11 @@ at_input : {source left : SourceView} {Of : Type 0 → List ℕ → Type 0} → 
 at_input h heard is = at_heard h.heard heard is
 
 words_or : (words : List (List ℕ)) → AreWords words ⊎ ¬ (AreWords words)
-words_or words = by (command_of words) refl
+words_or words = cases (command_of words) refl
   where
-    by : (o : Option Command) → command_of words ≡ o → AreWords words ⊎ ¬ (AreWords words)
-    by (Some command) is = inl (command, is)
-    by None is = inr (λ h. let both = sym is ∙ h.1 in cc)
+    cases : (o : Option Command) → command_of words ≡ o → AreWords words ⊎ ¬ (AreWords words)
+    cases (Some command) is = inl (command, is)
+    cases None is = inr (λ h. let both = sym is ∙ h.1 in cc)
 
 -- what a run over devices promises, as far as it is cited here
 pub record Promises (source left : SourceView) (old new : SinkView) (before after : List Meaning) (places : ℕ) (words : List (List ℕ)) (s : Status) : Type 0 where
@@ -126,16 +126,16 @@ module _ (source left : SourceView) (old new : SinkView) (after : List Meaning) 
   cut_heard end text (inr rest) = inr rest
 
   words_are : (s : Status) → s ≡ ReadFault → (¬ (AreWords words) → IsOrUnwritten Usage s) → AreWords words
-  words_are s e f = by (words_or words)
+  words_are s e f = cases (words_or words)
     where
       none : IsOrUnwritten Usage s → ⊥
       none (inl u) = let both = sym u ∙ e in cc
       none (inr (inl u)) = let both = sym u ∙ e in cc
       none (inr (inr u)) = let both = sym u ∙ e in cc
 
-      by : AreWords words ⊎ ¬ (AreWords words) → AreWords words
-      by (inl w) = w
-      by (inr n) = absurd (none (f n))
+      cases : AreWords words ⊎ ¬ (AreWords words) → AreWords words
+      cases (inl w) = w
+      cases (inr n) = absurd (none (f n))
 
   ran_by : (s : Status) → Promises source left old new program_devices after (length program_devices) words s → Ran s
   ran_by Done p =
