@@ -1,5 +1,5 @@
 -- What one allowed entry does, by its effect: to each session in its place, and to traces.
-use Rattle.std.proofs.Common.{◌≡◌, ◌≢◌, ◌⊎◌, ℕ, ◌+◌, Bool, true, false, List, [], ◌∷◌, ◌++◌, refl, sym, ap, ap₂, ◌∙◌, subst, inl, inr, ⊎_elim}
+use Rattle.std.proofs.Common.{◌≡◌, ℕ, Bool, true, false, List, [], ◌∷◌, ◌++◌, refl, sym, ap, ap₂, ◌∙◌, subst, inl, inr, ⊎_elim}
 use Rattle.std.specs.Prelude.{◌==◌, ◌&&◌, not, map, if◌then◌else◌, Option, Some, None}
 use Rattle.std.specs.List.{AllZip}
 use Rattle.std.proofs.lemmas.Bool.{and_parts, cases_eq, eq-eqb, eqb-true, ne_eqb}
@@ -20,12 +20,13 @@ use Rattle.trace_tree.specs.declared.node.Trace.{Trace}
 use Rattle.history_lock.specs.Histories.{StartsWith}
 use Rattle.machine_steps.specs.declared.entry.Entry.{Entry}
 use Rattle.machine_steps.specs.declared.entry.Entry.TheVariants as entries
+use Rattle.machine_steps.specs.declared.job.Job.{Job}
 use Rattle.machine_steps.specs.declared.reply.Reply.{Reply}
 use Rattle.machine_steps.specs.declared.reply.Reply.TheVariants.{Answered}
-use Rattle.machine_steps.specs.Effects.{tells_run, telling, may_advance, IsEndOf, IsPlain, Effect, Running}
+use Rattle.machine_steps.specs.Effects.{tells_run, may_advance, IsEndOf, IsPlain, Effect, Running}
 use Rattle.machine_steps.specs.Effects.Effect.{RunsOut, Rests, Misses, Outdates, Tells, Reports, OpensSession, TurnsAway, Empties, Moves, Quiets, Ends, Advances, Renews, Accepts, Overflows, Waits, Spends, AnswersJob}
-use Rattle.machine_steps.specs.Machine.{Session, Job, State, has_ended, is_of, is_open, put_traces, traces_in, traces_of}
-use Rattle.machine_steps.specs.Sound.{AreOthers, IsSound}
+use Rattle.machine_steps.specs.Machine.{Session, State, has_ended, is_of, is_open, put_traces, traces_in, traces_of}
+use Rattle.machine_steps.specs.Sound.{IsSound}
 use Rattle.machine_steps.specs.Steps.{Answers, HeadsFor, Keeps, next_trace, sends}
 use Rattle.machine_steps.proofs.Sound.Following.{Put, put_zip}
 use Rattle.machine_steps.proofs.Sound.Kept.{traces_beside, traces_put}
@@ -36,8 +37,11 @@ use Rattle.machine_sharing.proofs.Lists.{both_found, starts_same, starts_then}
 
 -- ---- what is allowed
 
+pub never : true ≡ false → ⊥
+never e = cc
+
 -- no pass but that which leads enters any other
-pub may_share : Entry → Bool
+abbrev pub may_share : Entry → Bool
 may_share entries.ReadPolicy = true
 may_share (entries.ReadCell cell) = true
 may_share entries.OpenJobs = true
@@ -207,16 +211,16 @@ module _ (old : State) (sound : IsSound old) (entry : Entry) (reply : Reply) (ne
 
   -- ---- any other effect
 
-  is_answer : Reply → Bool
+  abbrev is_answer : Reply → Bool
   is_answer (Answered d l) = true
   is_answer r = false
 
   no_answer : (r : Reply) → tells_run r ≡ false → is_answer r ≡ false
-  no_answer (Answered d l) f = absurd (cc)
+  no_answer (Answered d l) f = absurd (never f)
   no_answer other f = refl
 
   itself : (r : Reply) → is_answer r ≡ false → (s : Session) → DoesTo old entry r new s s
-  itself (Answered d l) f s = absurd (cc)
+  itself (Answered d l) f s = absurd (never f)
   itself other f s = refl
 
   -- sessions and traces are as before
@@ -234,7 +238,7 @@ module _ (old : State) (sound : IsSound old) (entry : Entry) (reply : Reply) (ne
 
   module _ (shared : IsShared entry) where
     other : (e : Entry) → may_share e ≡ false → entry ≡ e → Doing
-    other e f is = let a = sym shared.shared ∙ ap may_share is ∙ f in absurd (cc)
+    other e f is = absurd (never (sym shared.shared ∙ ap may_share is ∙ f))
 
     pub does_by : Effect old entry reply new → Doing
     does_by (RunsOut (r, e)) = same (ap is_answer r) e
@@ -253,7 +257,7 @@ module _ (old : State) (sound : IsSound old) (entry : Entry) (reply : Reply) (ne
     does_by (Ends t end (inl (c, s, is, found, now)) r more e) = absurd (shared.no_end c is)
     does_by (Ends t end (inr (inl (u, dpid, ports, from, now))) r more e) = other _ refl from.is
     does_by (Ends t end (inr (inr (why, from))) r more e) = other _ refl from.is
-    does_by (Advances u may free r a) = let f = sym may ∙ shared.still in absurd (cc)
+    does_by (Advances u may free r a) = absurd (never (sym may ∙ shared.still))
     does_by (Renews p is r a) = other _ refl is
     does_by (Accepts t dpid ports from r joins) = other _ refl from.is
     does_by (Overflows t buffer frame k taught p many r e) = other _ refl p.hearing.is

@@ -1,17 +1,17 @@
 -- With no job open allowed entries change nothing. What is asked for a job needs the job, which an entry's effect doesn't say of each reply.
-use Rattle.std.proofs.Common.{◌≡◌, ℕ, List, [], ◌∷◌, ◌++◌, refl, sym, ap, ◌∙◌, subst, inl, inr}
+use Rattle.std.proofs.Common.{◌≡◌, ℕ, List, [], ◌∷◌, ◌++◌, ap, ◌∙◌, subst, inl, inr}
 use Rattle.std.specs.Prelude.{Contains}
 use Rattle.trace_record.specs.Runs.{Recorded}
 use Rattle.update_plan.proofs.Members.{none_in}
-use Rattle.history_lock.specs.Histories.{Replays, AreAllowed}
 use Rattle.machine_steps.specs.declared.entry.Entry.{Entry}
 use Rattle.machine_steps.specs.declared.entry.Entry.TheVariants as entries
+use Rattle.machine_steps.specs.declared.job.Job.{Job}
 use Rattle.machine_steps.specs.declared.reply.Reply.{Reply}
 use Rattle.machine_steps.specs.declared.reply.Reply.TheVariants.{NoMemory, Policy as PolicyLent}
-use Rattle.machine_steps.specs.Machine.{Job, State}
+use Rattle.machine_steps.specs.Machine.{State}
 use Rattle.machine_steps.specs.Steps.{Commits, Decides, LendsPolicy, Steps}
 use Rattle.machine_sharing.specs.Between.{NothingChanges}
-use Rattle.machine_sharing.specs.Sharing.{Allows, Call, Turns}
+use Rattle.machine_sharing.specs.Sharing.{Allows, Call}
 
 module _ (old : State) (none : old.jobs ≡ []) (reply : Reply) (new : State) where
   no_job : (j : Job) → Contains old.jobs j → ⊥

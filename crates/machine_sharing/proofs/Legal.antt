@@ -1,13 +1,10 @@
 -- Legal histories of calls and of turns.
-use Rattle.std.proofs.Common.{◌≡◌, List, [], ◌∷◌, refl, sym, ap, ap₂, ◌∙◌, subst}
-use Rattle.std.specs.Prelude.{map}
-use Rattle.history_lock.specs.Histories.{Replays}
-use Rattle.machine_steps.specs.Histories.{IsTurn, Leads, Turn}
+use Rattle.std.proofs.Common.{[], ◌∷◌, refl, sym, ap, ap₂, subst}
 use Rattle.machine_steps.specs.Laws.{KeepsSound}
 use Rattle.machine_steps.specs.Machine.{State}
 use Rattle.machine_steps.specs.Sound.{IsSound}
-use Rattle.machine_sharing.specs.Legal.{AreCalls, AreTurns, CallsAreTurns, StatesAreSound, TurnsAreCalls, call_of, turn_of, turns_of}
-use Rattle.machine_sharing.specs.Sharing.{Call, Turns}
+use Rattle.machine_sharing.specs.Legal.{CallsAreTurns, StatesAreSound, TurnsAreCalls, call_of, turn_of}
+use Rattle.machine_sharing.specs.Sharing.{Turns}
 
 pub calls_are_turns : CallsAreTurns
 calls_are_turns m [] last same = record { leads = same; same = refl }

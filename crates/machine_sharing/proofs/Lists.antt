@@ -1,6 +1,6 @@
 -- Lists that only grow, or of which some are left, and what is found in lists whose elements are others than before.
 use Rattle.std.proofs.Common.{◌≡◌, Bool, true, false, cond, List, [], ◌∷◌, ◌++◌, append-nil, append_assoc, refl, sym, ap, ◌∙◌, subst}
-use Rattle.std.specs.Prelude.{◌&&◌, filter, find, Option, Some, None}
+use Rattle.std.specs.Prelude.{◌&&◌, filter, find, Some}
 use Rattle.std.specs.List.{AllZip}
 use Rattle.history_lock.specs.Histories.{StartsWith}
 use Rattle.machine_steps.specs.Machine.{Session}

@@ -1,12 +1,12 @@
 -- What stands in every longer history.
-use Rattle.std.proofs.Common.{◌≡◌, ℕ, zero, suc, ◌+◌, ◌≤◌, List, [], ◌∷◌, ◌++◌, refl, sym, ap, ◌∙◌, subst, arith, append-nil, append_assoc, Some}
+use Rattle.std.proofs.Common.{◌≡◌, ℕ, zero, suc, ◌+◌, List, [], ◌∷◌, ◌++◌, sym, ap, ◌∙◌, subst, arith, append-nil, append_assoc, Some}
 use Rattle.std.specs.List.{slice_get}
 use Rattle.std.specs.Option.{option_map}
 use Rattle.std.proofs.lemmas.Option.{same_Some}
 use Rattle.maple_base.specs.declared.decision.Settings.{Settings}
 use Rattle.policy_lang.specs.declared.Policy.{Policy}
 use Rattle.policy_lang.specs.PolicyTree.{policy_tree}
-use Rattle.history_lock.specs.Histories.{StartsWith, Replays}
+use Rattle.history_lock.specs.Histories.{Replays}
 use Rattle.machine_steps.specs.declared.entry.Entry.{Entry}
 use Rattle.machine_steps.specs.declared.entry.Entry.TheVariants as entries
 use Rattle.machine_steps.specs.declared.reply.Reply.{Reply}
@@ -15,8 +15,8 @@ use Rattle.machine_steps.specs.Machine.{State, policy_at, policy_number}
 use Rattle.machine_steps.specs.Steps.{LendsPolicy, Steps}
 use Rattle.machine_steps.proofs.Later.{is_later}
 use Rattle.machine_steps.proofs.Running.{policy_last}
-use Rattle.machine_sharing.specs.Longer.{AllowedStays, IsTold, Lends, PoliciesStay, RunsAreAdmitted, SettingsStay, ThreeStay, ToldStays}
-use Rattle.machine_sharing.specs.Sharing.{Allows, Call, Turns, stale_by, stale_count}
+use Rattle.machine_sharing.specs.Longer.{AllowedStays, Lends, PoliciesStay, RunsAreAdmitted, SettingsStay, ThreeStay, ToldStays}
+use Rattle.machine_sharing.specs.Sharing.{Call, Turns, stale_count}
 
 -- ---- three replies Stale
 

@@ -1,13 +1,14 @@
 -- What allowed entries leave as it is.
-use Rattle.std.proofs.Common.{◌≡◌, ◌⊎◌, ℕ, Bool, true, false, List, [], ◌∷◌, ◌++◌, refl, sym, ap, ◌∙◌, subst, inl, inr}
+use Rattle.std.proofs.Common.{◌≡◌, ◌⊎◌, ℕ, Bool, true, List, [], ◌∷◌, ◌++◌, refl, sym, ap, ◌∙◌, subst, inl, inr}
 use Rattle.std.specs.Prelude.{◌&&◌, filter}
 use Rattle.std.specs.List.{AllZip}
-use Rattle.history_lock.specs.Histories.{StartsWith, Replays, AreAllowed, state_behind}
+use Rattle.history_lock.specs.Histories.{StartsWith, state_behind}
 use Rattle.history_lock.proofs.States.{replays_since}
 use Rattle.machine_steps.specs.declared.entry.Entry.{Entry}
 use Rattle.machine_steps.specs.declared.entry.Entry.TheVariants as entries
+use Rattle.machine_steps.specs.declared.job.Job.{Job}
 use Rattle.machine_steps.specs.declared.reply.Reply.{Reply}
-use Rattle.machine_steps.specs.Machine.{Job, State, traces_of}
+use Rattle.machine_steps.specs.Machine.{State, traces_of}
 use Rattle.machine_steps.specs.Sound.{IsSound}
 use Rattle.machine_steps.specs.Steps.{Steps}
 use Rattle.machine_steps.proofs.Changes.{AreLeft, Changes, Extends, Follows, JobsBy, Network, changes, network}
@@ -16,8 +17,8 @@ use Rattle.machine_steps.proofs.Changes.JobsBy.{Added, AreMany, Left}
 use Rattle.machine_steps.proofs.Effects.{effect_of}
 use Rattle.machine_steps.proofs.Sound.Zipped.{zip_refl, zip_then, zip_weaker}
 use Rattle.machine_sharing.specs.Between.{DoesTo, EachDoesSo, MostStays, OnlyGrows, SinceStays, Stays}
-use Rattle.machine_sharing.specs.Sharing.{Allows, Call, Turns}
-use Rattle.machine_sharing.proofs.Doing.{Does, IsShared, does_by, does_grows, found_both, grows_same, grows_then, may_share, shared_of}
+use Rattle.machine_sharing.specs.Sharing.{Turns}
+use Rattle.machine_sharing.proofs.Doing.{Does, IsShared, does_by, does_grows, found_both, grows_same, grows_then, may_share, never, shared_of}
 use Rattle.machine_sharing.proofs.Lists.{filter_all, filter_twice, starts_same, starts_then}
 
 -- some of the jobs
@@ -35,8 +36,8 @@ some_then js ks ls (p, e) (q, f) = ((λ j. p j && q j), f ∙ ap (filter q) e �
 module _ (old : State) (entry : Entry) (reply : Reply) (new : State) (shared : IsShared entry) where
   network_stays : (n : Network) → Follows old entry reply n → n ≡ network old
   network_stays n (StaysSo untold e) = e
-  network_stays n (Next scene may told e) = let f = sym may ∙ shared.still in absurd (cc)
-  network_stays n (Renewed scene p is told e) = let f = sym shared.shared ∙ ap may_share is in absurd (cc)
+  network_stays n (Next scene may told e) = absurd (never (sym may ∙ shared.still))
+  network_stays n (Renewed scene p is told e) = absurd (never (sym shared.shared ∙ ap may_share is))
 
   record JobsGo : Type 0 where
     count : new.job_count ≡ old.job_count
@@ -49,7 +50,7 @@ module _ (old : State) (entry : Entry) (reply : Reply) (new : State) (shared : I
   jobs_go : JobsBy old entry reply new → JobsGo
   jobs_go (Left untold count left) = record { count = count; some = left_go left }
   jobs_go (AreMany r count many e) = record { count = count; some = all_of old.jobs new.jobs e }
-  jobs_go (Added h t j from r its number count e) = let f = sym shared.shared ∙ ap may_share from.is in absurd (cc)
+  jobs_go (Added h t j from r its number count e) = absurd (never (sym shared.shared ∙ ap may_share from.is))
 
   one_stays : IsSound old → Steps old entry reply new → Stays old new
   one_stays sound steps = record {
@@ -84,10 +85,10 @@ module _ (old : State) (entry : Entry) (reply : Reply) (new : State) (shared : I
 
       opened : (new.opened ≡ old.opened) ⊎ ((d : ℕ) × (entry ≡ entries.Open d)) → new.opened ≡ old.opened
       opened (inl e) = e
-      opened (inr (d, is)) = let f = sym shared.shared ∙ ap may_share is in absurd (cc)
+      opened (inr (d, is)) = absurd (never (sym shared.shared ∙ ap may_share is))
 
       lines : (entry ≡ entries.TakeReport) ⊎ Extends old new → StartsWith new.lines old.lines
-      lines (inl is) = let f = sym shared.shared ∙ ap may_share is in absurd (cc)
+      lines (inl is) = absurd (never (sym shared.shared ∙ ap may_share is))
       lines (inr x) = (x.more, x.are)
 
 pub each_does_so : EachDoesSo

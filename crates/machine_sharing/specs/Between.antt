@@ -7,10 +7,11 @@ use Rattle.report_text.specs.declared.line.Learnt.TheVariants.{Learned}
 use Rattle.trace_tree.specs.declared.node.Trace.{Trace}
 use Rattle.history_lock.specs.Histories.{StartsWith, Replays, AreAllowed, IsAllowedSince, state_behind}
 use Rattle.machine_steps.specs.declared.entry.Entry.{Entry}
+use Rattle.machine_steps.specs.declared.job.Job.{Job}
 use Rattle.machine_steps.specs.declared.reply.Reply.{Reply}
 use Rattle.machine_steps.specs.declared.reply.Reply.TheVariants.{Answered}
 use Rattle.machine_steps.specs.Effects.{Running}
-use Rattle.machine_steps.specs.Machine.{Session, Job, State, session_at, traces_of}
+use Rattle.machine_steps.specs.Machine.{Session, State, session_at, traces_of}
 use Rattle.machine_steps.specs.Steps.{HeadsFor, kept_at, sends}
 use Rattle.machine_sharing.specs.Sharing.{Call, Turns, Allows}
 
