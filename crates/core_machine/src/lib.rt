@@ -9,6 +9,7 @@ mod messages;
 mod next;
 mod packet_ins;
 mod policies;
+mod shared;
 mod states;
 mod updates;
 mod view;
