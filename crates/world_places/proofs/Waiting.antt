@@ -1,16 +1,11 @@
 -- What waits in a switch: the messages ahead of the first barrier may be done.
-use Rattle.std.proofs.Common.{◌≡◌, ℕ, suc, ◌<◌, Bool, true, false, List, [], ◌∷◌, ◌++◌, length, get_or, take, drop, Some, refl, sym, ap, ◌∙◌, subst, inl, inr, arith}
-use Rattle.std.specs.Prelude.{◌⊎◌, ◌||◌, if◌then◌else◌, is_some, nat_lt, not}
+use Rattle.std.proofs.Common.{◌≡◌, ℕ, suc, ◌<◌, Bool, true, false, List, [], ◌∷◌, ◌++◌, length, get_or, take, drop, Some, None, refl, sym, ap, ◌∙◌, subst, inr, arith}
+use Rattle.std.specs.Prelude.{Option, ◌||◌, if◌then◌else◌, is_some, nat_lt}
 use Rattle.std.specs.Option.{option_map}
 use Rattle.std.specs.List.{AllByRecursion, remove}
 use Rattle.std.proofs.lemmas.Bool.{lt-ltb}
 use Rattle.std.proofs.lemmas.List.{get_or_at, get_or_default, length-take-le}
 use Rattle.maple_base.specs.declared.decision.Rule.{Rule}
-use Rattle.maple_base.specs.declared.decision.TableMod.{TableMod}
-use Rattle.maple_base.specs.declared.decision.TableMod.TheVariants.{Add, DeleteStrict, DeleteAll}
-use Rattle.flow_table.specs.declared.applied.Applied.{Applied}
-use Rattle.flow_table.specs.declared.applied.Applied.TheVariants.{Added, Replaced, Full}
-use Rattle.flow_table.specs.Effects.{answer_of, has_at}
 use Rattle.of10_codec.specs.declared.message.Message.{Message}
 use Rattle.of10_codec.specs.declared.message.Body.{Body}
 use Rattle.of10_codec.specs.declared.message.Body.TheVariants as body
@@ -19,6 +14,8 @@ use Rattle.device_port.specs.Switches.{AnswersBody, Leads, Switch, change_of, is
 use Rattle.model_switch.specs.Answers.{ports_up, reply_of}
 use Rattle.model_switch.specs.States.{free_count}
 use Rattle.model_switch.proofs.Lists.{NoBarrier, free_apart, free_within, parted}
+use Rattle.world_places.specs.declared.said.Said.{Said}
+use Rattle.world_places.specs.Said.{body_said}
 use Rattle.world_places.specs.Acts.{LacksAt, PendsFree, ProcessesAt, RefusesAt}
 use Rattle.world_places.specs.Answers.{adds_new, answers_to, messages_of, port_count, refusal_to}
 
@@ -117,18 +114,10 @@ module _ (s : Switch) (at : ℕ) (m : Message) (free : at < free_count s.pending
   pub lacks_rule : adds_new (change_of m.body) s.table ≡ true → LacksAt at s
   lacks_rule e = record { message = m; pends = pends s.pending at m free is; takes = ap (λ b. is_some (reply_of s.dpid port_count m.body) || b) e ∙ or_true (is_some (reply_of s.dpid port_count m.body)) }
 
--- a change for which there is no room adds a rule that is new
-is_new : (rules : List Rule) (capacity : ℕ) (r : Rule) (there : Bool) → (a : Applied) → (if there then Replaced else (if nat_lt (length rules) capacity then Added else Full)) ≡ a → (a ≡ Added) ⊎ (a ≡ Full) → not there ≡ true
-is_new rules capacity r true a e (inl added) = cc
-is_new rules capacity r true a e (inr full) = cc
-is_new rules capacity r false a e h = refl
-
-pub wants_new : (change : TableMod) (rules : List Rule) (capacity : ℕ) (a : Applied) → answer_of change rules capacity ≡ a → (a ≡ Added) ⊎ (a ≡ Full) → adds_new (Some change) rules ≡ true
-wants_new (Add r) rules capacity a e h = is_new rules capacity r (has_at r.of r.priority rules) a e h
-wants_new (DeleteStrict of priority) rules capacity a e (inl added) = cc
-wants_new (DeleteStrict of priority) rules capacity a e (inr full) = cc
-wants_new DeleteAll rules capacity a e (inl added) = cc
-wants_new DeleteAll rules capacity a e (inr full) = cc
+-- what is said is an answer
+pub is_said : (said : Option Said) → is_some said ≡ true → is_some (option_map body_said said) ≡ true
+is_said (Some x) e = refl
+is_said None e = cc
 
 -- two messages that stand at one place are one
 pub same_at : (ms : List Message) (at : ℕ) (m n : Message) → at < length ms → m ≡ get_or ms at m → n ≡ get_or ms at n → m ≡ n

@@ -1,5 +1,5 @@
 // A switch deals with a message that waits.
-ghost use Rattle.std.specs.Prelude.{◌≡◌, ℕ, true, false, is_some, MatchBool};
+ghost use Rattle.std.specs.Prelude.{◌≡◌, ◌<◌, ℕ, true, false, is_some, vec_len, vec_capacity, MatchBool};
 ghost use Rattle.std.specs.Option.{option_map};
 ghost use Rattle.device_port.specs.Switches.{Leads, change_of};
 ghost use Rattle.model_switch.specs.Answers.{reply_of};
@@ -11,7 +11,7 @@ ghost use Rattle.world_places.specs.declared.acting.Act.TheVariants.{Process, Re
 use crate::acting::Acted;
 use crate::pending::{begins_with_barrier, is_flow_mod, is_free_at, send};
 use crate::place::Place;
-use crate::said::Said;
+use crate::said::{Said, Sent};
 use flow_table::{Applied, Table};
 use model_switch::change_of;
 use of10_codec::{Body, Message};
@@ -29,7 +29,7 @@ pub fn process(place: &mut Place, at: usize) -> Acted
         return Acted::NotThere;
     }
     let body = &place.pending[at].body;
-    if is_answered(body) && place.sent.reserve(1).is_err() {
+    if !reserve_answer(&mut place.sent, body) {
         return Acted::NoMemory;
     }
     if !change(&mut place.table, body) {
@@ -38,6 +38,18 @@ pub fn process(place: &mut Place, at: usize) -> Acted
     let Message { xid, body } = place.pending.remove(at);
     send(&mut place.sent, xid, reply(place.dpid, PORT_COUNT, body));
     Acted::Done
+}
+
+// Makes room for the answer to a message, where it has one, and tells whether there was memory for that.
+fn reserve_answer(sent: &mut Vec<Sent>, body: &Body) -> bool
+    ensures same { sent.new.items ≡ sent.old.items }
+    ensures room { result ≡ true → (dpid ports : ℕ) → is_some (reply_of dpid ports body.now) ≡ true → vec_len sent.new < vec_capacity sent.new }
+    ensures memory { result ≡ false → (dpid ports : ℕ) → is_some (reply_of dpid ports body.now) ≡ true }
+{
+    if !is_answered(body) {
+        return true;
+    }
+    sent.reserve(1).is_ok()
 }
 
 // Whether a switch says something to a message.
