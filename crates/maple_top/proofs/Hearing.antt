@@ -10,7 +10,7 @@ use Rattle.device_port.specs.Devices.{Meaning}
 use Rattle.maple_top.specs.declared.status.Status.{Status}
 use Rattle.maple_top.specs.declared.status.Status.TheVariants.{ReadFault}
 use Rattle.maple_top.specs.declared.words.Command.{Command}
-use Rattle.maple_top.specs.Due.{HasCommand, IsFit, IsReading, OfInput, StopsAtFailure}
+use Rattle.maple_top.specs.Due.{HasCommand, IsFit, IsReading, OfInput, StopsAtFailure, most_bytes, most_piece}
 use Rattle.maple_top.specs.Ends.{WroteFront}
 use Rattle.maple_top.specs.Runs.{IsRun, RunsText, ran}
 use Rattle.maple_top.specs.Statuses.{last_line}
@@ -19,8 +19,14 @@ use Rattle.maple_top.specs.Statuses.{last_line}
 pub unheard : (source : SourceView) (Are : List Answer → Type 0) → Are [] → Heard source source Are
 unheard source Are h = ([], sym (append-nil source.answers), h)
 
-pub heard_so : {source left : SourceView} {P : List Answer → Type 0} → (Q : List Answer → Type 0) → ((heard : List Answer) → P heard → Q heard) → Heard source left P → Heard source left Q
-heard_so Q f (heard, is, h) = (heard, is, f heard h)
+pub heard_so : (source left : SourceView) {P : List Answer → Type 0} → (Q : List Answer → Type 0) → ((heard : List Answer) → P heard → Q heard) → Heard source left P
+    → Heard source left Q
+heard_so source left Q f (heard, is, h) = (heard, is, f heard h)
+
+-- what was given is as long as these bytes, and only the last answer may have been another
+pub reading_of : (heard : List Answer) (bytes : List ℕ) → length bytes ≤ most_bytes + most_piece → given heard ≡ bytes
+    → (gives heard ≡ true) ⊎ ((ends heard ≡ true) ⊎ (fails heard ≡ true)) → IsReading heard
+reading_of heard bytes within e kind = (subst (λ (b : List ℕ). length b ≤ most_bytes + most_piece) (sym e) within, kind)
 
 -- no answer ends and fails
 pub ended_unfailed : (heard : List Answer) → ends heard ≡ true → fails heard ≡ true → ⊥

@@ -50,12 +50,12 @@ devices_are ds place e n = e ∙ ap devices_to n
 
 -- ---- what was heard
 
-at_heard : {source left : SourceView} {Are : List Answer → Type 0} → Heard source left Are → (heard : List Answer) → left.answers ≡ source.answers ++ heard → Are heard
-at_heard {source} {left} {Are} (other, was, are) heard is = subst Are (append_cancel_left source.answers other heard (sym was ∙ is)) are
+at_heard : (source left : SourceView) {Are : List Answer → Type 0} → Heard source left Are → (heard : List Answer) → left.answers ≡ source.answers ++ heard → Are heard
+at_heard source left {Are} (other, was, are) heard is = subst Are (append_cancel_left source.answers other heard (sym was ∙ is)) are
 
 at_input : {source left : SourceView} {Of : Type 0 → List ℕ → Type 0} → OfInput source left Of → (heard : List Answer) → left.answers ≡ source.answers ++ heard
     → Of (tells_end heard ≡ true) (given heard)
-at_input h heard is = at_heard h.heard heard is
+at_input {source} {left} h heard is = at_heard source left h.heard heard is
 
 words_or : (words : List (List ℕ)) → AreWords words ⊎ ¬ (AreWords words)
 words_or words = cases (command_of words) refl
@@ -115,7 +115,7 @@ module _ (source left : SourceView) (old new : SinkView) (after : List Meaning) 
   unread_text Usage text t = t
   unread_text PolicyRefused text t = t
   unread_text Script text t = absurd t
-  unread_text ReadFault text (w, u, e) = (w, at_heard u.1 heard is, e)
+  unread_text ReadFault text (w, u, e) = (w, at_heard source left u.1 heard is, e)
   unread_text WriteFault text t = absurd t
   unread_text NoMemory text t = absurd t
   unread_text TooLong text t = t
@@ -149,7 +149,7 @@ module _ (source left : SourceView) (old new : SinkView) (after : List Meaning) 
       let (text, refusal, wrote) = at_input (p.policy_text refl) heard is in
       let (fit, command, has, none) = at_input (p.policy refl) heard is in
       (text, (at_input (p.whole tt) heard is, fit, none, refusal), wrote)
-  ran_by ReadFault p = (last_line ReadFault, (words_are ReadFault refl p.usage_exact, at_heard (p.read_fault refl).1 heard is, refl), p.read_text refl)
+  ran_by ReadFault p = (last_line ReadFault, (words_are ReadFault refl p.usage_exact, at_heard source left (p.read_fault refl).1 heard is, refl), p.read_text refl)
   ran_by TooLong p = let due = at_input (p.too_long refl) heard is in (last_line TooLong, (due.0, due.1, refl), p.too_long_text refl)
   ran_by WriteFault p = let (text, cut, wrote) = at_input p.cut heard is in (text, cut_heard ends.WriteFault text cut, wrote)
   ran_by NoMemory p = let (text, cut, wrote) = at_input p.cut heard is in (text, cut_heard ends.NoMemory text cut, wrote)
@@ -169,9 +169,9 @@ module _ (source left : SourceView) (old new : SinkView) (after : List Meaning) 
     wrote = wrote;
     run = run;
     exact = at_input p.exact heard is;
-    reading = at_heard p.reading heard is;
+    reading = at_heard source left p.reading heard is;
     unread = λ n. none_heard (p.unread n);
-    first = λ f. front_of text wrote (at_heard p.failed heard is f);
+    first = λ f. front_of text wrote (at_heard source left p.failed heard is f);
     read_fault = λ e. (p.read_fault e).0;
     write_fault = p.write_fault;
   }

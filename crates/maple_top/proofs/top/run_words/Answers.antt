@@ -39,7 +39,7 @@ returns-in-Ok-clause-run g c =
     c.in-Ok.ensures.end c.in-Ok.ensures.heard
 
 pub returns-in-Ok-clause-failed : goal.returns-in-Ok-clause-failed
-returns-in-Ok-clause-failed g c = heard_so _ (λ heard h f. absurd (ended_unfailed heard h.0 f)) c.in-Ok.ensures.heard
+returns-in-Ok-clause-failed g c = heard_so (g.I.Source.tells c.args.from.now) (g.I.Source.tells c.read_all.new.input) _ (λ heard h f. absurd (ended_unfailed heard h.0 f)) c.in-Ok.ensures.heard
 
 pub returns-in-Ok-clause-uncalled : goal.returns-in-Ok-clause-uncalled
 returns-in-Ok-clause-uncalled g c = λ none. c.run_text.ensures.check (not_sim c.args.words.now c.in-Some.command (sym c.in-Some.ensures) none)
@@ -62,7 +62,7 @@ returns-in-Err-Failed-clause-first g c = λ n. ends_front (g.O.Sink.tells c.args
 
 pub returns-in-Err-Failed-clause-failed : goal.returns-in-Err-Failed-clause-failed
 returns-in-Err-Failed-clause-failed g c =
-    heard_so _ (λ heard h f. ends_front (g.O.Sink.tells c.args.to.now) (g.O.Sink.tells c.finish-in-Err-Failed.new.output) ReadFault (last_line ReadFault)
+    heard_so (g.I.Source.tells c.args.from.now) (g.I.Source.tells c.read_all.new.input) _ (λ heard h f. ends_front (g.O.Sink.tells c.args.to.now) (g.O.Sink.tells c.finish-in-Err-Failed.new.output) ReadFault (last_line ReadFault)
     c.finish-in-Err-Failed.result c.finish-in-Err-Failed.ensures.ends) c.read_all.ensures.heard
 
 pub returns-in-Err-TooLong-clause-run : goal.returns-in-Err-TooLong-clause-run
@@ -74,7 +74,7 @@ returns-in-Err-TooLong-clause-run g c =
 
 pub returns-in-Err-TooLong-clause-failed : goal.returns-in-Err-TooLong-clause-failed
 returns-in-Err-TooLong-clause-failed g c =
-    heard_so _ (λ heard h f. absurd (given_unfailed heard h.0 f)) (rw (c.in-Err-TooLong.is ∙ ap Err c.in-Err-TooLong.field-0-is) at c.read_all.ensures.heard)
+    heard_so (g.I.Source.tells c.args.from.now) (g.I.Source.tells c.read_all.new.input) _ (λ heard h f. absurd (given_unfailed heard h.0 f)) (rw (c.in-Err-TooLong.is ∙ ap Err c.in-Err-TooLong.field-0-is) at c.read_all.ensures.heard)
 
 pub returns-in-Err-NoMemory-clause-run : goal.returns-in-Err-NoMemory-clause-run
 returns-in-Err-NoMemory-clause-run g c =
@@ -83,4 +83,4 @@ returns-in-Err-NoMemory-clause-run g c =
 
 pub returns-in-Err-NoMemory-clause-failed : goal.returns-in-Err-NoMemory-clause-failed
 returns-in-Err-NoMemory-clause-failed g c =
-    heard_so _ (λ heard h f. absurd (given_unfailed heard h f)) (rw (c.in-Err-NoMemory.is ∙ ap Err c.in-Err-NoMemory.field-0-is) at c.read_all.ensures.heard)
+    heard_so (g.I.Source.tells c.args.from.now) (g.I.Source.tells c.read_all.new.input) _ (λ heard h f. absurd (given_unfailed heard h f)) (rw (c.in-Err-NoMemory.is ∙ ap Err c.in-Err-NoMemory.field-0-is) at c.read_all.ensures.heard)
