@@ -5,7 +5,7 @@ use Rattle.machine_steps.proofs.Sending.{reply_send}
 use Rattle.machine_tests.proofs.halls.open_and_read.Goals as goal
 
 pub both-requires-send-M : goal.both-requires-send-M
-both-requires-send-M c κs within = search (core_send, sendable) depth 60 fits 20000
+both-requires-send-M g c κs within = search (core_send, sendable) depth 60 fits 20000
 
 pub both-requires-send-M-Reply : goal.both-requires-send-M-Reply
-both-requires-send-M-Reply c κs within = search (reply_send, sendable) depth 60 fits 20000
+both-requires-send-M-Reply g c κs within = search (reply_send, sendable) depth 60 fits 20000
