@@ -30,7 +30,7 @@ devices_to zero = []
 devices_to (suc place) = devices_to place ++ device_at (suc place) ∷ []
 
 -- the devices of the program
-pub program_devices : List Meaning
+unfoldable pub program_devices : List Meaning
 program_devices = devices_to 64
 
 -- the text is the report of deeds that follow the script, up to its end or its first refused line, and then the last line. The deeds are a run of the world,

@@ -12,6 +12,9 @@ push_idle-requires-clause-others g c = subst AllIdle (sym c.loop-place.invariant
 pub maple-requires : goal.maple-requires
 maple-requires g c = subst AllIdle (sym (devices_are _ c.loop-place.place c.loop-place.invariant.made (omega arith))) devices_idle
 
+pub loop-place-preserved : goal.loop-place-preserved
+loop-place-preserved g c = ?
+
 pub returns-clause-ran : goal.returns-clause-ran
 returns-clause-ran g c =
     let made = devices_are _ c.loop-place.place c.loop-place.invariant.made (omega arith) in

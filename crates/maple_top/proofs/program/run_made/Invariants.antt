@@ -1,4 +1,4 @@
-use Rattle.std.proofs.Common.{◌≡◌, ◌≤◌, map}
+use Rattle.std.proofs.Common.{◌≡◌, ◌-◌, ◌≤◌, map}
 use Rattle.maple_top.specs.Program.{devices_to}
 use Rattle.maple_top.proofs.program.run_made.OwnLists.{own-1}
 use Rattle.maple_top.proofs.program.run_made.Given as goal
