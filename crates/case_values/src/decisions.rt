@@ -1,6 +1,6 @@
-// Decisions: `drop`, `flood`, actions as those of rules, or `path` and the hops, each `SWITCH:PORT`.
+// Decisions: `drop`, `flood`, actions as those of rules (`out` where no port is named), or `path` and the hops, each `SWITCH:PORT`.
 use crate::rules::push_actions;
-use maple_base::{Decision, Outcome, Place};
+use maple_base::{Actions, Decision, Outcome, Place};
 use std::alloc::AllocError;
 
 /// Appends `spent`, or what is decided.
@@ -16,12 +16,20 @@ pub fn push_decision(decision: &Decision, out: &mut String) -> Result<(), AllocE
     match decision {
         Decision::Drop => out.push_str("drop"),
         Decision::Flood => out.push_str("flood"),
-        Decision::Out(actions) => push_actions(actions, out),
+        Decision::Out(actions) => push_out(actions, out),
         Decision::Path(path) => {
             out.push_str("path")?;
             push_hops(path.items(), out)
         }
     }
+}
+
+// Appends `out` alone where no port is named, so that it isn't taken for `drop`.
+fn push_out(actions: &Actions, out: &mut String) -> Result<(), AllocError> {
+    if actions.items().is_empty() {
+        return out.push_str("out");
+    }
+    push_actions(actions, out)
 }
 
 /// Appends each hop behind a blank.
