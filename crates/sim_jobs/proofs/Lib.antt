@@ -1,3 +1,4 @@
 pub mod Cells
 pub mod SameCells
+pub mod Steps
 pub mod Told
