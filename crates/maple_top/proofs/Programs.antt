@@ -1,5 +1,5 @@
 -- A run over the devices of the program.
-use Rattle.std.proofs.Common.{◌≡◌, ◌⊎◌, ℕ, zero, suc, true, Option, Some, None, List, [], ◌∷◌, ◌++◌, length, map, refl, sym, ap, ◌∙◌, subst, inl, inr, append-nil, arith}
+use Rattle.std.proofs.Common.{◌≡◌, ◌⊎◌, ℕ, ◌+◌, zero, suc, true, Option, Some, None, List, [], ◌∷◌, ◌++◌, length, map, refl, sym, ap, ◌∙◌, subst, inl, inr, append-nil, arith}
 use Rattle.std.specs.List.{AllByRecursion}
 use Rattle.std.proofs.lemmas.List.{append_cancel_left}
 use Rattle.maple_io.specs.Answers.{ends as tells_end, fails, given, gives}
@@ -47,6 +47,17 @@ devices_idle = idle_to 64
 pub devices_are : (ds : List Meaning) (place : ℕ) → ds ≡ devices_to place → place ≡ 64 → ds ≡ program_devices
 unfolding program_devices
 devices_are ds place e n = e ∙ ap devices_to n
+
+map_both : {A : Type 0} (f : A → Meaning) (xs : List A) (x : A) → map f (xs ++ x ∷ []) ≡ map f xs ++ f x ∷ []
+map_both f [] x = refl
+map_both f (y ∷ xs) x = ap (λ (ds : List Meaning). f y ∷ ds) (map_both f xs x)
+
+-- one device more
+pub map_one : {A : Type 0} (f : A → Meaning) (xs : List A) (x : A) (place next : ℕ) → next ≡ suc place → map f xs ≡ devices_to place → f x ≡ device_at next
+    → map f (xs ++ x ∷ []) ≡ devices_to next
+map_one f xs x place next n e k =
+    let last : f x ≡ device_at (suc place) = k ∙ ap device_at n in
+    map_both f xs x ∙ ap (λ (ds : List Meaning). ds ++ f x ∷ []) e ∙ ap (λ (d : Meaning). devices_to place ++ d ∷ []) last ∙ ap devices_to (sym n)
 
 -- ---- what was heard
 

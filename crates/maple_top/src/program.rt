@@ -1,21 +1,21 @@
 // The program, from a reader to a writer of std.
-ghost use Rattle.std.specs.Prelude.{◌≡◌, [], true, length, IfOk, OnErr};
+ghost use Rattle.std.specs.Prelude.{◌≡◌, ◌+◌, [], true, length, map, IfOk, OnErr, OnOk};
 ghost use Rattle.maple_base.specs.Counts.{HasRisen};
 ghost use Rattle.maple_io.specs.Adapters.{answers_of, read_faults, took_of, write_faults};
 ghost use Rattle.maple_io.specs.Answers.{fails, given};
 ghost use Rattle.maple_io.specs.Fronts.{IsFront};
 ghost use Rattle.sim_steps.specs.Showing.{AllIdle, AllKeep};
 ghost use Rattle.maple_top.specs.Due.{AreWords, IsExact, IsReading};
-ghost use Rattle.maple_top.specs.Program.{HasRun, Reports, RunsOver, program_devices};
+ghost use Rattle.maple_top.specs.Program.{HasRun, Reports, RunsOver, device_at, devices_to, program_devices};
 ghost use Rattle.maple_top.specs.Statuses.{last_line};
 
-use crate::devices::{DEVICES, program_device, push_idle};
+use crate::devices::{DEVICES, program_device};
 use crate::status::Status;
 use crate::top::maple;
 use device_port::Device;
 use maple_base::{NoMemory, Words};
 use maple_io::{ReadSource, Sink, Source, WriteSink};
-use std::alloc::Global;
+use std::alloc::{AllocError, Global};
 use std::io::{Read, Write};
 
 /// Runs Maple with the words of a command line, from a reader to a writer of std, over the devices of
@@ -80,8 +80,19 @@ fn run_made<I: Source, O: Sink>(
     let mut devices: Vec<Box<dyn Device + Send>> = Vec::new(alloc);
     let mut place = 0;
     while place < DEVICES {
+        let device = Box::new(alloc, program_device(alloc, place + 1))?;
+        push_next(&mut devices, device, place)?;
         place += 1;
-        push_idle(&mut devices, Box::new(alloc, program_device(alloc, place))?)?;
     }
     Ok(maple(&(), alloc, words, from, to, &mut devices))
+}
+
+// Puts the program's next device behind those of the places up to this one.
+fn push_next<D: Device>(all: &mut Vec<D>, device: D, place: u64) -> Result<(), AllocError>
+    requires others { map D.meaning all.old.items ≡ devices_to place }
+    requires device { D.meaning device ≡ device_at (place + 1) }
+    ensures { OnOk result (map D.meaning all.new.items ≡ devices_to (place + 1)) }
+{
+    all.push(device)?;
+    Ok(())
 }

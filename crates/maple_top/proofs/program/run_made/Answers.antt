@@ -1,19 +1,11 @@
-use Rattle.std.proofs.Common.{◌≡◌, map, length, refl, sym, ap, subst, ◌∙◌, arith}
+use Rattle.std.proofs.Common.{length, sym, ap, subst, ◌∙◌, arith}
 use Rattle.std.proofs.lemmas.List.{length-map}
 use Rattle.sim_steps.specs.Showing.{AllIdle}
-use Rattle.maple_top.specs.Program.{devices_to, program_devices}
-use Rattle.maple_top.proofs.Programs.{devices_are, devices_idle, idle_to, runs_over}
-use Rattle.maple_top.proofs.program.run_made.OwnLists.{own-1}
+use Rattle.maple_top.proofs.Programs.{devices_are, devices_idle, runs_over}
 use Rattle.maple_top.proofs.program.run_made.Goals as goal
 
-pub push_idle-requires-clause-others : goal.push_idle-requires-clause-others
-push_idle-requires-clause-others g c = subst AllIdle (sym c.loop-place.invariant.made) (idle_to c.loop-place.place)
-
 pub maple-requires : goal.maple-requires
-maple-requires g c = subst AllIdle (sym (devices_are _ c.loop-place.place c.loop-place.invariant.made (omega arith))) devices_idle
-
-pub loop-place-preserved : goal.loop-place-preserved
-loop-place-preserved g c = ?
+maple-requires g c = record { idle = subst AllIdle (sym (devices_are _ c.loop-place.place c.loop-place.invariant.made (omega arith))) devices_idle }
 
 pub returns-clause-ran : goal.returns-clause-ran
 returns-clause-ran g c =
