@@ -1,10 +1,10 @@
 // Messages and matches as they are written.
-use crate::bodies::body_of;
+use crate::bodies::push_body;
 use crate::spelling::repeated;
-use crate::writing::{Form, match_fits, push_written};
+use crate::writing::{Form, Writing, match_fits};
 use case_text::{CaseStop, Words, push_hex};
 use case_values::match_of;
-use of10_codec::{MessageRef, match_bytes};
+use of10_codec::match_bytes;
 use std::alloc::Global;
 
 /// XID BODY: what is written of a message, whose body has the bytes behind ` : `.
@@ -17,8 +17,7 @@ pub fn push_message(
     let xid = call.number_u32()?;
     let (words, digits) = call.rest().split_once(" : ").unwrap_or((call.rest(), ""));
     let bytes = repeated(alloc, digits)?;
-    let body = body_of(alloc, Words::new(words), &bytes)?;
-    push_written(alloc, form, &MessageRef { xid, body }, out)
+    push_body(Writing { alloc, form, xid }, Words::new(words), &bytes, out)
 }
 
 /// match MATCH: its 40 bytes.

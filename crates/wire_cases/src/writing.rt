@@ -16,17 +16,24 @@ pub enum Form {
     Grown,
 }
 
+/// How messages are written, and their transaction id.
+#[derive(Clone, Copy)]
+pub struct Writing {
+    pub alloc: Global,
+    pub form: Form,
+    pub xid: u32,
+}
+
 /// Appends what is written of a message.
 pub fn push_written(
-    alloc: Global,
-    form: Form,
+    to: Writing,
     message: &MessageRef<'_>,
     out: &mut String,
 ) -> Result<(), CaseStop> {
-    match form {
-        Form::Lent => push_lent(alloc, message, out),
-        Form::Own => push_own(alloc, message, true, out),
-        Form::Grown => push_own(alloc, message, false, out),
+    match to.form {
+        Form::Lent => push_lent(to.alloc, message, out),
+        Form::Own => push_own(to.alloc, message, true, out),
+        Form::Grown => push_own(to.alloc, message, false, out),
     }
 }
 
