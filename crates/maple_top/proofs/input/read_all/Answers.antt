@@ -1,6 +1,5 @@
-use Rattle.std.proofs.Common.{◌≡◌, ◌+◌, ◌≤◌, ◌++◌, length, take, sym, ap, subst, ◌∙◌, arith, inl, inr, rules}
-use Rattle.std.proofs.lemmas.List.{length-append, length-take-le}
-use Rattle.maple_io.proofs.Reading.{end_told, more_given, read_failed}
+use Rattle.std.proofs.Common.{inl, inr}
+use Rattle.maple_io.proofs.Reading.{end_told, read_failed}
 use Rattle.maple_top.proofs.Hearing.{heard_so, reading_of}
 use Rattle.maple_top.proofs.Known.{some_more}
 use Rattle.maple_top.proofs.input.read_all.Goals as goal
@@ -19,14 +18,14 @@ pub returns-in-Failed-clause-heard : goal.returns-in-Failed-clause-heard
 returns-in-Failed-clause-heard g c =
     heard_so (g.I.Source.tells c.args.input.now) (g.I.Source.tells c.read.new.self) _ (λ heard h. h.0)
     (read_failed (g.I.Source.tells c.args.input.now) (g.I.Source.tells c.reading.input) (g.I.Source.tells c.read.new.self) c.reading.all.items c.reading.invariant.heard
-      c.in-Failed.ensures.answers)
+    c.in-Failed.ensures.answers)
 
 pub returns-in-Failed-clause-reading : goal.returns-in-Failed-clause-reading
 returns-in-Failed-clause-reading g c =
     heard_so (g.I.Source.tells c.args.input.now) (g.I.Source.tells c.read.new.self) _
     (λ heard h. reading_of heard c.reading.all.items c.reading.invariant.most h.1 (inr (inr h.0)))
     (read_failed (g.I.Source.tells c.args.input.now) (g.I.Source.tells c.reading.input) (g.I.Source.tells c.read.new.self) c.reading.all.items c.reading.invariant.heard
-      c.in-Failed.ensures.answers)
+    c.in-Failed.ensures.answers)
 
 pub returns-then-is_err-clause-some : goal.returns-then-is_err-clause-some
 returns-then-is_err-clause-some g c =
