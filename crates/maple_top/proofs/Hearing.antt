@@ -1,5 +1,5 @@
 -- What the answers of a source say of the run that heard them.
-use Rattle.std.proofs.Common.{◌≡◌, ◌⊎◌, ℕ, ◌+◌, ◌≤◌, ◌<◌, Bool, true, false, List, [], ◌∷◌, ◌++◌, length, Option, Some, None, refl, sym, ap, ◌∙◌, subst, append-nil, inl, inr, arith}
+use Rattle.std.proofs.Common.{◌≡◌, ◌⊎◌, ℕ, ◌+◌, ◌≤◌, true, List, [], ◌∷◌, length, Option, Some, None, sym, subst, append-nil}
 use Rattle.std.specs.Prelude.{IfSome}
 use Rattle.std.specs.Io.KnownBytes.{IsAtEnd}
 use Rattle.maple_io.specs.Answers.{ends, fails, given, gives}
@@ -8,12 +8,9 @@ use Rattle.maple_io.specs.declared.answer.Answer.TheVariants as answers
 use Rattle.maple_io.specs.Views.{Heard, SourceView, SinkView}
 use Rattle.device_port.specs.Devices.{Meaning}
 use Rattle.maple_top.specs.declared.status.Status.{Status}
-use Rattle.maple_top.specs.declared.status.Status.TheVariants.{ReadFault}
 use Rattle.maple_top.specs.declared.words.Command.{Command}
-use Rattle.maple_top.specs.Due.{HasCommand, IsFit, IsReading, OfInput, StopsAtFailure, most_bytes, most_piece}
-use Rattle.maple_top.specs.Ends.{WroteFront}
+use Rattle.maple_top.specs.Due.{HasCommand, IsFit, IsReading, OfInput, most_bytes, most_piece}
 use Rattle.maple_top.specs.Runs.{IsRun, RunsText, ran}
-use Rattle.maple_top.specs.Statuses.{last_line}
 
 -- nothing was read
 pub unheard : (source : SourceView) (Are : List Answer → Type 0) → Are [] → Heard source source Are

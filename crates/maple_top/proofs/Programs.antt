@@ -1,8 +1,8 @@
 -- A run over the devices of the program.
-use Rattle.std.proofs.Common.{◌≡◌, ◌⊎◌, ℕ, ◌+◌, zero, suc, true, Option, Some, None, List, [], ◌∷◌, ◌++◌, length, map, refl, sym, ap, ◌∙◌, subst, inl, inr, append-nil, arith}
+use Rattle.std.proofs.Common.{◌≡◌, ◌⊎◌, ℕ, zero, suc, true, Option, Some, None, List, [], ◌∷◌, ◌++◌, length, map, refl, sym, ap, ◌∙◌, subst, inl, inr, append-nil, arith}
 use Rattle.std.specs.List.{AllByRecursion}
 use Rattle.std.proofs.lemmas.List.{append_cancel_left}
-use Rattle.maple_io.specs.Answers.{ends as tells_end, fails, given, gives}
+use Rattle.maple_io.specs.Answers.{ends as tells_end, fails, given}
 use Rattle.maple_io.specs.declared.answer.Answer.{Answer}
 use Rattle.maple_io.specs.Fronts.{IsFront}
 use Rattle.maple_io.specs.Views.{Heard, SinkView, SourceView, WriteFailed, Wrote}
@@ -16,9 +16,9 @@ use Rattle.maple_top.specs.declared.status.Status.{Status}
 use Rattle.maple_top.specs.declared.status.Status.TheVariants.{Done, Usage, Policy as PolicyRefused, Script, ReadFault, WriteFault, NoMemory, TooLong}
 use Rattle.maple_top.specs.declared.words.Command.{Command}
 use Rattle.maple_top.specs.declared.words.Command.TheVariants.{Sim, Check}
-use Rattle.maple_top.specs.Due.{AreWords, Cuts, HasCommand, IsCut, IsDue, IsExact, IsOrUnwritten, IsReading, IsReport, IsReportOf, IsText, IsUnread, OfInput, Refuses, StopsAtFailure, Tells, run_given}
-use Rattle.maple_top.specs.Ends.{IsOfWhole, WroteFront, WroteSome}
-use Rattle.maple_top.specs.Program.{HasRun, IsLine, IsRightText, Reports, RunsOver, device_at, devices_to, program_devices}
+use Rattle.maple_top.specs.Due.{AreWords, Cuts, IsCut, IsDue, IsExact, IsOrUnwritten, IsReading, IsReport, IsReportOf, IsText, IsUnread, OfInput, Refuses, StopsAtFailure, Tells}
+use Rattle.maple_top.specs.Ends.{IsOfWhole, WroteFront}
+use Rattle.maple_top.specs.Program.{HasRun, IsRightText, Reports, RunsOver, device_at, devices_to, program_devices}
 use Rattle.maple_top.specs.Statuses.{last_line}
 use Rattle.maple_top.specs.Words.{command_of}
 

@@ -14,7 +14,7 @@ use Rattle.sim_driver.specs.declared.drive.SimEnd.TheVariants as ends
 use Rattle.maple_top.specs.declared.status.Status.{Status}
 use Rattle.maple_top.specs.declared.status.Status.TheVariants.{Done, Usage, Policy as PolicyRefused, Script, ReadFault, WriteFault, NoMemory, TooLong}
 use Rattle.maple_top.specs.declared.words.Command.{Command}
-use Rattle.maple_top.specs.Due.{HasCommand, AreWords, Cuts, IsCut, IsDue, IsExact, IsFit, IsNoScript, IsNothing, IsOrFails, IsReport, IsReportCut, IsReportOf, IsScript, IsShort, IsText, HasNone, HasPolicy, OfInput, Refuses, Tells, most_bytes, refused}
+use Rattle.maple_top.specs.Due.{HasCommand, AreWords, Cuts, IsCut, IsDue, IsExact, IsFit, IsNoScript, IsNothing, IsReport, IsReportCut, IsReportOf, IsScript, IsShort, IsText, HasNone, HasPolicy, OfInput, Refuses, Tells, most_bytes, refused}
 use Rattle.maple_top.specs.Ends.{EndsTelling, IsGiven, IsOfWhole, WroteFront, WroteSome}
 use Rattle.maple_top.specs.Running.{due_of}
 use Rattle.maple_top.specs.Statuses.{last_line}

@@ -1,5 +1,5 @@
 -- What a run of the program over its own devices has read and written.
-use Rattle.std.specs.Prelude.{◌≡◌, ◌⊎◌, ℕ, zero, suc, true, None, List, [], ◌∷◌, ◌++◌, length}
+use Rattle.std.specs.Prelude.{◌≡◌, ℕ, zero, suc, true, None, List, [], ◌∷◌, ◌++◌, length}
 use Rattle.maple_base.specs.declared.decision.Settings.{Settings}
 use Rattle.maple_io.specs.Answers.{ends as tells_end, fails, given}
 use Rattle.maple_io.specs.declared.answer.Answer.{Answer}

@@ -1,6 +1,5 @@
-use Rattle.std.proofs.Common.{◌≡◌, ◌+◌, ◌≤◌, ◌++◌, length, take, sym, ap, subst, ◌∙◌, arith, inl, inr, rules}
-use Rattle.std.proofs.lemmas.List.{length-append, length-take-le}
-use Rattle.maple_io.proofs.Reading.{end_told, more_given, read_failed}
+use Rattle.std.proofs.Common.{inl, inr}
+use Rattle.maple_io.proofs.Reading.{end_told, read_failed}
 use Rattle.maple_top.proofs.Hearing.{heard_so, reading_of}
 use Rattle.maple_top.proofs.Known.{some_more}
 use Rattle.maple_top.proofs.input.read_all.Goals as goal

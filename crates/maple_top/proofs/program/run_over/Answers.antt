@@ -1,4 +1,3 @@
-use Rattle.std.proofs.Common.{refl}
 use Rattle.maple_top.proofs.Programs.{never_run}
 use Rattle.maple_top.proofs.program.run_over.Goals as goal
 

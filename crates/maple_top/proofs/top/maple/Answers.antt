@@ -1,10 +1,7 @@
-use Rattle.std.proofs.Common.{◌≡◌, ap, length, map, ◌∙◌, sym}
+use Rattle.std.proofs.Common.{◌≡◌, ap, length, ◌∙◌, sym}
 use Rattle.std.specs.Vec.{with_items}
 use Rattle.std.proofs.lemmas.List.{length-map, with_items_is}
-use Rattle.device_port.specs.Devices.{Meaning}
-use Rattle.sim_driver.specs.Runs.{over}
 use Rattle.maple_top.specs.declared.status.Status.TheVariants.{Done, Policy as PolicyRefused, ReadFault, Script, TooLong, Usage}
-use Rattle.maple_top.specs.Due.{Cuts, IsDue, IsExact, Refuses, Tells}
 use Rattle.maple_top.proofs.Tops.{cuts, exact, is_due, lined, of_input, policy_told, tells, usage_front, whole_of}
 use Rattle.maple_top.proofs.top.maple.Goals as goal
 

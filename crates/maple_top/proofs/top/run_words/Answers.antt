@@ -1,4 +1,4 @@
-use Rattle.std.proofs.Common.{◌≡◌, map, refl, sym, ap, ◌∙◌, Err, arith, inl}
+use Rattle.std.proofs.Common.{map, refl, sym, ap, ◌∙◌, Err, arith, inl}
 use Rattle.std.specs.Prelude.{⊤}
 use Rattle.maple_io.proofs.Pieces.{wrote_nothing}
 use Rattle.maple_top.specs.declared.status.Status.TheVariants.{ReadFault, TooLong}
