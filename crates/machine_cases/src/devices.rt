@@ -1,4 +1,4 @@
-// Devices in boxes, call by call.
+// Devices, call by call.
 use crate::begun::Begins;
 use crate::messages::push_sent;
 use crate::offers::is_offer;
@@ -14,38 +14,95 @@ const MOST_BYTES: usize = 65_517;
 
 /// A device with the datapath id 1, three ports and room for two rules.
 #[derive(Drop)]
-pub struct Boxed {
-    device: Box<dyn Device + Send>,
+pub enum Tried {
+    Orderly(Orderly),
+    Logged(Logged),
+    Backward(Backward),
+    Shuffled(Shuffled),
+    Failing(Failing),
 }
 
-impl Begins for Boxed {
+impl Begins for Tried {
     // new orderly, new logged, new backward, new shuffled SEED, new failing CALL .., whose calls of these numbers fail
-    fn begin(alloc: Global, mut words: Words<'_>) -> Result<Boxed, CaseStop> {
-        let device: Box<dyn Device + Send> = match words.word() {
-            "orderly" => Box::new(alloc, orderly(alloc))?,
-            "logged" => Box::new(alloc, Logged::new(alloc, orderly(alloc)))?,
-            "backward" => Box::new(alloc, Backward::new(alloc, 1, 3, 2))?,
-            "shuffled" => Box::new(alloc, Shuffled::new(alloc, 1, 3, 2, words.number()?))?,
-            "failing" => Box::new(alloc, Failing::new(orderly(alloc), words.numbers(alloc)?))?,
-            _ => return Err(CaseStop::Unread),
-        };
-        Ok(Boxed { device })
+    fn begin(alloc: Global, mut words: Words<'_>) -> Result<Tried, CaseStop> {
+        match words.word() {
+            "orderly" => Ok(Tried::Orderly(orderly(alloc))),
+            "logged" => Ok(Tried::Logged(Logged::new(alloc, orderly(alloc)))),
+            "backward" => Ok(Tried::Backward(Backward::new(alloc, 1, 3, 2))),
+            "shuffled" => shuffled(alloc, words),
+            "failing" => failing(alloc, words),
+            _ => Err(CaseStop::Unread),
+        }
     }
 
     fn tell(&mut self, alloc: Global, call: Words<'_>, out: &mut String) -> Result<(), CaseStop> {
-        let mut words = call;
-        match words.word() {
-            "offer" => offer(alloc, &mut self.device, words, out),
-            "turn" => turn(alloc, &mut self.device, out),
-            "packet" => packet(alloc, &mut self.device, words, out),
-            "faults" => Ok(write!(out, "{}", self.device.faults())?),
-            _ => Err(CaseStop::Unread),
+        match self {
+            Tried::Orderly(device) => answer(alloc, device, call, out),
+            Tried::Logged(device) => answer(alloc, device, call, out),
+            Tried::Backward(device) => answer(alloc, device, call, out),
+            Tried::Shuffled(device) => answer(alloc, device, call, out),
+            Tried::Failing(device) => answer(alloc, device, call, out),
         }
     }
 }
 
 fn orderly(alloc: Global) -> Orderly {
     Orderly::new(alloc, 1, 3, 2)
+}
+
+fn shuffled(alloc: Global, mut words: Words<'_>) -> Result<Tried, CaseStop> {
+    Ok(Tried::Shuffled(Shuffled::new(alloc, 1, 3, 2, words.number()?)))
+}
+
+fn failing(alloc: Global, mut words: Words<'_>) -> Result<Tried, CaseStop> {
+    let fails = words.numbers(alloc)?;
+    Ok(Tried::Failing(Failing::new(orderly(alloc), fails)))
+}
+
+// Appends the answer to a call.
+fn answer<D: Device>(
+    alloc: Global,
+    device: &mut D,
+    call: Words<'_>,
+    out: &mut String,
+) -> Result<(), CaseStop> {
+    let mut words = call;
+    match words.word() {
+        "offer" => offer(alloc, device, words, out),
+        "turn" => turn(alloc, device, out),
+        "packet" => packet(alloc, device, words, out),
+        "faults" => Ok(write!(out, "{}", device.faults())?),
+        "boxed" => boxed(alloc, words, out),
+        _ => Err(CaseStop::Unread),
+    }
+}
+
+// boxed CALL / CALL ..: the answers to calls on a new orderly device in a box, parted in the same way.
+fn boxed(alloc: Global, words: Words<'_>, out: &mut String) -> Result<(), CaseStop> {
+    let mut device: Box<dyn Device + Send> = Box::new(alloc, orderly(alloc))?;
+    let mut is_first = true;
+    for call in words.rest().split(" / ") {
+        out.push_str(if is_first { "" } else { " / " })?;
+        in_box(alloc, &mut device, Words::new(call), out)?;
+        is_first = false;
+    }
+    Ok(())
+}
+
+fn in_box(
+    alloc: Global,
+    device: &mut Box<dyn Device + Send>,
+    call: Words<'_>,
+    out: &mut String,
+) -> Result<(), CaseStop> {
+    let mut words = call;
+    match words.word() {
+        "offer" => offer(alloc, device, words, out),
+        "turn" => turn(alloc, device, out),
+        "packet" => packet(alloc, device, words, out),
+        "faults" => Ok(write!(out, "{}", device.faults())?),
+        _ => Err(CaseStop::Unread),
+    }
 }
 
 // offer BYTES

@@ -24,7 +24,7 @@ mod worlds;
 
 use begun::Begun;
 use case_text::{Program, check_file, check_files};
-use devices::Boxed;
+use devices::Tried;
 use driver::Driver;
 use sessions::Sessions;
 use std::io;
@@ -39,7 +39,7 @@ impl Program for Machines {
             "sessions" => check_file::<Sessions>(rt, file),
             "machine" => check_file::<Begun<Driver>>(rt, file),
             "worlds" => check_file::<Begun<World>>(rt, file),
-            "devices" => check_file::<Begun<Boxed>>(rt, file),
+            "devices" => check_file::<Begun<Tried>>(rt, file),
             _ => Err(io::Error::from(ErrorKind::NotFound)),
         }
     }
