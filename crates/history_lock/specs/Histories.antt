@@ -64,6 +64,10 @@ module _ {M E R : Type 0} (allows : List (Event M E R) → E → Type 0) where
   abbrev pub IsAllowedSince : List (Event M E R) → List (Event M E R) → Type 0
   IsAllowedSince log seen = (rest : List (Event M E R)) × (log ≡ seen ++ rest) × AreAllowed seen rest
 
+  -- the leading pass was joined into one that doesn't lead: what this one now knows was allowed since what the leading one had seen
+  abbrev pub IsLedByOther : Known M E R → Known M E R → Known M E R → Type 0
+  IsLedByOther old other new = IsFalse old.leads → IsTrue other.leads → IsAllowedSince new.seen other.seen
+
 module _ {M E R : Type 0} (steps : M → E → R → M → Type 0) (allows : List (Event M E R) → E → Type 0) where
   -- the condition of the entry holds after every legal history that begins with what was seen: of a pass that leads, after each in which all since was allowed;
   -- of one that has all parts, after what was seen

@@ -2,7 +2,7 @@
 ghost use Rattle.std.specs.Prelude.{◌≡◌, ◌<◌, ◌≤◌, ◌+◌, ◌^◌, None, ℕ, IfOk, IfErr, IsSome, IsTrue, IsFalse, Some, [], ◌∷◌};
 ghost use Rattle.history_lock.specs.declared.view.Slot.{Slot};
 ghost use Rattle.history_lock.specs.declared.view.Standing.TheVariants.{Idle, Looked, Waits, Turn, Recorded};
-ghost use Rattle.history_lock.specs.Histories.{Calls, HasSeenLegal, IsAdmitted, IsAllowed, IsAllowedSince, StartsWith};
+ghost use Rattle.history_lock.specs.Histories.{Calls, HasSeenLegal, IsAdmitted, IsAllowed, IsAllowedSince, IsLedByOther, StartsWith};
 ghost use Rattle.history_lock.specs.Rule.{Acts, Adds, Answered, HasRecorded, Holds, IsFree, IsKept, Takes, joined, less, reads, share, staged};
 
 use crate::law::{Compare, Count, Cut, Draw, Glue, Hand, Look, Take, Write};
@@ -235,7 +235,7 @@ impl<M: Machine> Hall<M> {
         ensures begins { StartsWith pass.new.me.0.known.seen pass.old.me.0.known.seen × StartsWith pass.new.me.0.known.seen other.me.0.known.seen }
         ensures legal { HasSeenLegal M.steps pass.new.me.0.known }
         ensures led { IsTrue pass.old.me.0.known.leads → IsAllowedSince M.allows pass.new.me.0.known.seen pass.old.me.0.known.seen }
-        ensures other { IsFalse pass.old.me.0.known.leads → IsTrue other.me.0.known.leads → IsAllowedSince M.allows pass.new.me.0.known.seen other.me.0.known.seen }
+        ensures other { IsLedByOther M.allows pass.old.me.0.known other.me.0.known pass.new.me.0.known }
     {
         self.table.shared.join_seat::<Glue>(pass, other);
         self.table.shared.load::<Compare<M>>(pass, LENGTH);

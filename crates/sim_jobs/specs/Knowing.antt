@@ -1,5 +1,5 @@
 -- What is known of a machine's cells as the packet that waits is worked.
-use Rattle.std.specs.Prelude.{ℕ, Bool, List, [], ◌∷◌, Option, Some, None, is_some, map, if◌then◌else◌}
+use Rattle.std.specs.Prelude.{ℕ, Bool, List, [], ◌∷◌, ◌≡◌, Option, Some, None, is_some, map, true, if◌then◌else◌}
 use Rattle.std.specs.List.{list_all}
 use Rattle.maple_base.specs.declared.cells.Cell.{Cell}
 use Rattle.maple_base.specs.declared.cells.Value.{Value}
@@ -36,3 +36,7 @@ cells_in known = map (λ (c : Cell × Value). c.0) known
 -- what a run of the policy for a packet asks of an environment
 abbrev pub asked_of : Policy → ℕ → Waiting → (Cell → Value) → List (Cell × Value)
 asked_of policy budget item env = cells_of (through (meaning (tree_of policy.body) budget item.switch) nothing) item.key env
+
+-- and this cell is among what it asks
+abbrev pub IsAsked : Cell → Policy → ℕ → Waiting → (Cell → Value) → Type 0
+IsAsked cell policy budget item env = is_some (given cell (asked_of policy budget item env)) ≡ true

@@ -1,5 +1,5 @@
 // The packet that waits is answered.
-ghost use Rattle.std.specs.Prelude.{◌≡◌, Err, IfOk, IsTrue, None, OnOk, OnErr, is_some, true};
+ghost use Rattle.std.specs.Prelude.{◌≡◌, Err, IfOk, IsTrue, None, OnOk, OnErr, true};
 ghost use Rattle.maple_base.specs.declared.cells.Cell.{Cell as CellData};
 ghost use Rattle.maple_base.specs.Kinds.{of_kind};
 ghost use Rattle.policy_meaning.specs.Cells.{Gives, given};
@@ -11,7 +11,7 @@ ghost use Rattle.topo_paths.specs.Scenes.{cell_in};
 ghost use Rattle.machine_steps.specs.Admitting.{IsOfHistory};
 ghost use Rattle.machine_steps.specs.Machine.{policy_number};
 ghost use Rattle.machine_moves.specs.Told.{IsFresh};
-ghost use Rattle.sim_jobs.specs.Knowing.{asked_of, first_unknown, value_in};
+ghost use Rattle.sim_jobs.specs.Knowing.{IsAsked, asked_of, first_unknown, value_in};
 ghost use Rattle.sim_jobs.specs.declared.work.Unrecorded.TheVariants.{Unknown};
 ghost use Rattle.sim_jobs.specs.Works.{Fails, WaitsAlone, Works};
 
@@ -132,7 +132,7 @@ fn run_over(
     ensures call { IfOk result (IsOfCall policy.now number budget item.now.switch item.now.key) }
     ensures cells { IfOk result (λ run. stale_in (cell_in core.now.scene) run.cells ≡ None) }
     ensures unknown { (cell : CellData) → result ≡ Err (Unknown cell) → given cell known.now ≡ None }
-    ensures asked { (cell : CellData) → result ≡ Err (Unknown cell) → is_some (given cell (asked_of policy.now budget item.now (cell_in core.now.scene))) ≡ true }
+    ensures asked { (cell : CellData) → result ≡ Err (Unknown cell) → IsAsked cell policy.now budget item.now (cell_in core.now.scene) }
 {
     let Ok(run) = run_with(core.alloc(), policy, number, budget, item, known) else {
         return Err(Unrecorded::NoMemory);
