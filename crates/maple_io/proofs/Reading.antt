@@ -1,11 +1,9 @@
 -- Texts that are read one behind the other.
-use Rattle.std.proofs.Common.{◌≡◌, ◌⊎◌, ℕ, ◌+◌, Bool, true, false, List, [], ◌∷◌, ◌++◌, take, refl, sym, ap, ◌∙◌, subst, append-nil, append_assoc}
-use Rattle.std.proofs.KnownBytes.{Consumes-nil, Consumes-trans}
-use Rattle.std.specs.Io.KnownBytes.{Consumes}
+use Rattle.std.proofs.Common.{◌≡◌, ℕ, true, List, [], ◌∷◌, ◌++◌, refl, sym, ap, ◌∙◌, append-nil, append_assoc}
 use Rattle.maple_io.specs.declared.answer.Answer.{Answer}
 use Rattle.maple_io.specs.declared.answer.Answer.TheVariants as answers
 use Rattle.maple_io.specs.Answers.{ends, fails, given, gives}
-use Rattle.maple_io.specs.Views.{Gave, Heard, SourceView}
+use Rattle.maple_io.specs.Views.{Heard, SourceView}
 
 -- one answer more
 given_on : (xs : List Answer) (bytes : List ℕ) → given (xs ++ answers.Gave bytes ∷ []) ≡ given xs ++ bytes

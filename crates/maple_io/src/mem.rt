@@ -1,5 +1,5 @@
 // A source and a sink over memory, whose failures are chosen ahead.
-ghost use Rattle.std.specs.Prelude.{◌≡◌, ◌≢◌, ◌<◌, ◌≤◌, ◌↔◌, [], ◌∷◌, IsTrue, Some, length, min, take, drop, ◌++◌, ◌+◌, ◌-◌};
+ghost use Rattle.std.specs.Prelude.{◌≡◌, ◌≢◌, ◌<◌, ◌≤◌, ◌↔◌, [], ◌∷◌, Some, length, ◌++◌};
 ghost use Rattle.std.specs.List.{Contains};
 ghost use Rattle.maple_base.specs.Counts.{HasRisen, next_count};
 ghost use Rattle.maple_io.specs.Answers.{answer_of};
@@ -7,6 +7,7 @@ ghost use Rattle.maple_io.specs.Reads.{FillsUp, GivesWithin, ReadsBytes, failed_
 ghost use Rattle.maple_io.specs.Writes.{TakesAll, TakesWithin, WritesBytes, failed_writes, taken_of};
 
 use crate::answer::{Answer, answered};
+use crate::memory::{copy_from, is_listed};
 use crate::{Got, Put, Sink, Source};
 use maple_base::GhostList;
 use std::marker::Model;
@@ -197,23 +198,4 @@ impl Sink for MemSink {
     fn faults(&self) -> u64 {
         self.faults
     }
-}
-
-// Whether the numbers have this one.
-fn is_listed(numbers: &[u64], number: u64) -> bool
-    ensures { IsTrue result ↔ Contains numbers.now number }
-{
-    numbers.contains(&number)
-}
-
-// Copies what fits of the bytes from `at` on, and returns how many it copied.
-fn copy_from(content: &[u8], at: usize, into: &mut [u8]) -> usize
-    requires { at ≤ length content.now }
-    ensures count { result ≡ min (length content.now - at) (length into.old) }
-    ensures bytes { drop at content.now ≡ take result into.new ++ drop (at + result) content.now }
-{
-    let rest = &content[at..];
-    let count = rest.len().min(into.len());
-    into[..count].copy_from_slice(&rest[..count]);
-    count
 }

@@ -1,6 +1,6 @@
 use Rattle.std.proofs.Common.{rules, ◌∙◌}
 use Rattle.std.proofs.lemmas.List.{take_rest}
-use Rattle.maple_io.proofs.Pieces.{piece_more, front_kept, wrote_nothing}
+use Rattle.maple_io.proofs.Pieces.{piece_more, front_kept}
 use Rattle.maple_io.proofs.whole.put_all.Goals as goal
 
 pub loop-at-preserved : goal.loop-at-preserved

@@ -1,6 +1,6 @@
 use Rattle.std.proofs.Common.{drop, length, ◌≤◌, ap, arith}
 use Rattle.maple_io.proofs.Copies.{all_from, copied}
-use Rattle.maple_io.proofs.mem.copy_from.Goals as goal
+use Rattle.maple_io.proofs.memory.copy_from.Goals as goal
 
 pub returns-clause-bytes : goal.returns-clause-bytes
 returns-clause-bytes c =
