@@ -1,0 +1,2 @@
+-- Opened: a connection that was opened stays so in the log.
+pub mod Opened
