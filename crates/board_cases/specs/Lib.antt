@@ -1,0 +1,2 @@
+-- Outboxes: what the outbox of the cases tells.
+pub mod Outboxes

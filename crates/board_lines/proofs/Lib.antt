@@ -1,0 +1,11 @@
+pub mod Bytewise
+pub mod Kept
+pub mod LongWords
+pub mod Orders
+pub mod Pieces
+pub mod Refusals
+pub mod Sends
+pub mod Stuck
+pub mod Tails
+pub mod Told
+pub mod Worths
