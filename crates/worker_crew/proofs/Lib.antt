@@ -1,0 +1,4 @@
+pub mod Lines
+pub mod Growing
+pub mod Toiling
+pub mod Crewing

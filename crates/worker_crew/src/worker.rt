@@ -1,0 +1,78 @@
+//! A worker: it takes items from the queue and works each. It is meant to sleep where there is none, and to end with the
+//! lobby.
+ghost use Rattle.std.specs.Prelude.{◌≡◌, IfNone, IfSome, Ok};
+ghost use Rattle.history_lock.specs.Passes.{IsPassOf, known, leads, opening, parts};
+ghost use Rattle.worker_crew.specs.Takers.{IsTakerOf, account, shares};
+ghost use Rattle.worker_crew.specs.Tasks.{Toiled};
+
+use crate::gave_up::GaveUp;
+use crate::lobby::Lobby;
+use crate::queue::{JobPass, Jobs};
+use crate::works::Works;
+use history_lock::{Hall, Machine, Pass};
+use std::sync::Wait;
+
+// Takes an item, if there is one, and works it.
+fn work_one<R: Wait, M: Machine, T, W: Works<M, T>>(
+    rt: &R,
+    hall: &Hall<M>,
+    pass: &mut Pass<M>,
+    jobs: &Jobs<T>,
+    taker: &mut JobPass<T>,
+    works: &W,
+) -> Option<Result<(), GaveUp>>
+    requires hall { IsPassOf hall.now pass.old }
+    requires taker { IsTakerOf jobs.now taker.old }
+    requires suits { IfSome (opening pass.old) W.suits }
+    ensures stays { IsPassOf hall.now pass.new × (opening pass.new ≡ opening pass.old) × (parts pass.new ≡ parts pass.old) }
+    ensures leads { leads pass.new ≡ leads pass.old }
+    ensures taker { IsTakerOf jobs.now taker.new × (shares taker.new ≡ shares taker.old) }
+    ensures some { IfSome result (λ worked. Toiled W.makes (known pass.old) (account taker.old) worked (known pass.new) (account taker.new)) }
+    ensures none { IfNone result ((known pass.new ≡ known pass.old) × (account taker.new ≡ account taker.old)) }
+{
+    let item = jobs.take(rt, taker)?;
+    Some(works.work(rt, hall, pass, item))
+}
+
+/// Works items by its passes. An `Err` is why it gave up at the last item that it took. `Ok`: no item that it took failed.
+///
+/// It is meant to sleep where there is no item, to end with `Ok` once the lobby is closed and the queue is empty, and to
+/// tell the lobby of an `Err`.
+#[tactic(auto, using(crate::proofs::Toiling::toiled_none, crate::proofs::Toiling::toiled_then, crate::proofs::Toiling::toiled_still, crate::proofs::Crewing::suits_same))]
+pub fn serve<R: Wait, M: Machine, T, W: Works<M, T>>(
+    rt: &R,
+    hall: &Hall<M>,
+    pass: &mut Pass<M>,
+    jobs: &Jobs<T>,
+    taker: &mut JobPass<T>,
+    lobby: &Lobby,
+    works: &W,
+) -> Result<(), GaveUp>
+    requires hall { IsPassOf hall.now pass.old }
+    requires taker { IsTakerOf jobs.now taker.old }
+    requires suits { IfSome (opening pass.old) W.suits }
+    ensures stays { IsPassOf hall.now pass.new × (opening pass.new ≡ opening pass.old) × (parts pass.new ≡ parts pass.old) }
+    ensures leads { leads pass.new ≡ leads pass.old }
+    ensures taker { IsTakerOf jobs.now taker.new × (shares taker.new ≡ shares taker.old) }
+    ensures toiled { Toiled W.makes (known pass.old) (account taker.old) result (known pass.new) (account taker.new) }
+{
+    lobby.announce(rt);
+    let mut closed = false;
+    for _ in rt.forever() {
+        let seen = lobby.news(rt).moves;
+        match work_one(rt, hall, pass, jobs, taker, works) {
+            Some(Ok(())) => lobby.tell(rt),
+            Some(Err(cause)) => {
+                lobby.give_up(rt, cause);
+                return Err(cause);
+            }
+            None => {
+                if closed {
+                    return Ok(());
+                }
+                closed = lobby.wait_for_work(rt, seen).closed;
+            }
+        }
+    }
+    unreachable!()
+}
