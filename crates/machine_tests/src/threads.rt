@@ -12,7 +12,7 @@ use std::thread::{Threads, join};
 use switch_session::Session;
 
 // The HELLO that a session begins with.
-const HELLO: &[u8] = &[1, 0, 0, 8, 0, 0, 0, 0];
+pub(crate) const HELLO: &[u8] = &[1, 0, 0, 8, 0, 0, 0, 0];
 
 // The value, behind a stay in another thread.
 fn and_back<T: Drop + Send>(rt: &impl Threads, value: T) -> T {
@@ -36,7 +36,7 @@ fn core_and_back(rt: &impl Threads, core: Core) -> Core {
     and_back(rt, core)
 }
 
-fn machine(alloc: Global) -> Result<Core, Fail> {
+pub(crate) fn machine(alloc: Global) -> Result<Core, Fail> {
     let Ok(policy) = read_policy(alloc, b"policy { drop; }") else {
         return Err(Fail::from("a policy"));
     };
@@ -46,7 +46,7 @@ fn machine(alloc: Global) -> Result<Core, Fail> {
     }
 }
 
-fn settings() -> Settings
+pub(crate) fn settings() -> Settings
     ensures { AreInRange result }
 {
     Settings {

@@ -1,0 +1,5 @@
+pub mod Closing
+pub mod Passing
+pub mod Reading
+pub mod Rounding
+pub mod Turning
