@@ -1,0 +1,4 @@
+pub mod Admitted
+pub mod Entering
+pub mod Told
+pub mod Turning

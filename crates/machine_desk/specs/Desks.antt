@@ -1,0 +1,98 @@
+-- What who drives the machine knows of it, and what an entry at the desk does.
+use Rattle.std.specs.Prelude.{◌≡◌, ℕ, ◌^◌, ◌<◌, ◌≤◌, Bool, true, List, [], ◌∷◌, ◌++◌, length, map, Some, IsTrue}
+use Rattle.atomic_table.specs.Seated.{TableId}
+use Rattle.history_lock.specs.declared.view.Known.{Known}
+use Rattle.history_lock.specs.Histories.{AreAllowed, Replays, state_behind}
+use Rattle.machine_steps.specs.declared.entry.Entry.{Entry}
+use Rattle.machine_steps.specs.declared.entry.Entry.TheVariants.{NewPolicy}
+use Rattle.machine_steps.specs.declared.reply.Reply.{Reply}
+use Rattle.machine_steps.specs.Histories.{IsTurn, Leads, Turn}
+use Rattle.machine_steps.specs.Machine.{State}
+use Rattle.machine_steps.specs.Sound.{IsSound}
+use Rattle.machine_sharing.specs.Legal.{call_of, turns_of}
+use Rattle.machine_sharing.specs.Sharing.{Call, Allows, Turns}
+
+-- which hall it is, the machine as it was when that was opened, all turns of the machine so far as the desk knows them, and the machine behind them; the
+-- positions of its own among these turns; the parts of its pass, the number that its last call read, and whether it found the hall worn
+pub record DeskView : Type 0 where
+  pub place : TableId
+  pub start : State
+  pub past : List Turn
+  pub now : State
+  pub own : List ℕ
+  pub parts : ℕ
+  pub number : ℕ
+  pub worn : Bool
+
+abbrev pub view_by : TableId → Known State Entry Reply → State → Bool → DeskView
+view_by place k start worn = record {
+  place = place;
+  start = start;
+  past = turns_of start k.seen;
+  now = state_behind start k.seen;
+  own = k.own;
+  parts = k.parts;
+  number = k.number;
+  worn = worn;
+}
+
+-- ---- what each desk keeps
+
+-- a pass that leads, of a hall that was opened with this machine, has seen a legal history of it; a desk that found the hall worn has read so
+pub record IsDesk (k : Known State Entry Reply) (start : State) (worn : Bool) : Type 0 where
+  pub leads : IsTrue k.leads
+  pub opens : k.opening ≡ Some start
+  pub sound : IsSound start
+  pub legal : Replays Turns start k.seen (state_behind start k.seen)
+  pub full : worn ≡ true → 2 ^ 62 ≤ k.number
+
+-- what the desk has of the machine beside its history: whether the policy in force learns where hosts are, and the most steps of a run
+pub record IsTold (learning : Bool) (budget : ℕ) (now : State) : Type 0 where
+  pub learning_is : learning ≡ now.policy.learning
+  pub budget_is : budget ≡ now.settings.budget
+
+-- the desk's machine is sound, and its turns are a legal history of the one that it was at first
+pub record DeskLaw (d : DeskView) : Type 0 where
+  pub sound : IsSound d.now
+  pub legal : Leads d.start d.past d.now
+  pub full : d.worn ≡ true → 2 ^ 62 ≤ d.number
+
+-- ---- an entry
+
+abbrev pub calls_of : List Turn → List Call
+calls_of turns = map call_of turns
+
+abbrev pub turn : State → Entry → Reply → State → Turn
+turn before entry reply behind = record { before = before; entry = entry; reply = reply; behind = behind }
+
+-- it is the same desk
+pub record SameDesk (a b : DeskView) : Type 0 where
+  pub place : b.place ≡ a.place
+  pub start : b.start ≡ a.start
+  pub parts : b.parts ≡ a.parts
+  pub worn : b.worn ≡ a.worn
+
+-- others did what they may, and then the entry was made, once by this desk; who has all parts has nobody beside
+pub record Enters (a : DeskView) (entry : Entry) (reply : Reply) (b : DeskView) : Type 0 where
+  pub others : List Turn
+  pub allowed : AreAllowed Allows (calls_of a.past) (calls_of others)
+  pub between : State
+  pub meanwhile : Leads a.now others between
+  pub made : IsTurn (turn between entry reply b.now)
+  pub past : b.past ≡ (a.past ++ others) ++ turn between entry reply b.now ∷ []
+  pub own : b.own ≡ a.own ++ length (a.past ++ others) ∷ []
+  pub small : b.number < 2 ^ 62
+  pub alone : a.parts ≡ 1024 → others ≡ []
+  pub same : SameDesk a b
+
+-- the hall has room for no further entry; nothing was made
+pub record WearsOut (a b : DeskView) : Type 0 where
+  pub same : b ≡ record a { number = b.number; worn = true }
+  pub full : 2 ^ 62 ≤ b.number
+
+-- ---- learning
+
+-- whether hosts are learned, where an entry is accepted
+abbrev pub learning_behind : Entry → Bool → Bool
+learning_behind (NewPolicy policy) learning = policy.learning
+learning_behind entry learning = learning

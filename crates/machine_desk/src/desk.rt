@@ -1,0 +1,166 @@
+// Who drives the machine, by the pass that leads.
+ghost use Rattle.std.specs.Prelude.{◌≡◌, ◌^◌, ◌≤◌, [], false, if◌then◌else◌, IfOk, IsTrue, OnErr, OnOk, Some, length, true};
+ghost use Rattle.history_lock.specs.Passes.{IsPassOf, hall as place_of, known, leads, number, opening, parts, seen};
+ghost use Rattle.machine_moves.specs.Told.{is_new_state};
+ghost use Rattle.machine_steps.specs.Admitting.{Admits};
+ghost use Rattle.machine_steps.specs.Sound.{IsSound};
+ghost use Rattle.machine_desk.specs.Desks.{DeskLaw, Enters, WearsOut, learning_behind, view_by};
+
+use crate::laws::desk_laws;
+use core_machine::{Core, Entry, Reply};
+use history_lock::{Hall, Pass};
+use std::marker::Model;
+use std::snapshot::Snapshot;
+use std::sync::Wait;
+
+/// The hall has room for no further entry: its history has 2^62 of them.
+#[derive(Clone, Copy, Debug, PartialEq, Eq)]
+pub struct Worn;
+
+/// The desk at which the machine of a hall is driven, by the pass that leads. Others may share the machine by other
+/// passes: between two entries of the desk they do what they may, and nothing else.
+#[derive(Drop)]
+pub struct Desk<'h> {
+    hall: &'h Hall<Core>,
+    pass: Pass<Core>,
+    start: Snapshot<Core>,
+    learning: bool,
+    budget: u32,
+    worn: bool,
+}
+
+impl<'h> Model for Desk<'h> {
+    ghost use Rattle.std.specs.Coded.{codes};
+    ghost use Rattle.core_machine.specs.contracts.machine.Core as machine;
+    ghost use Rattle.machine_steps.specs.contracts.entry.Entry as entry;
+    ghost use Rattle.machine_steps.specs.contracts.reply.Reply as reply;
+    ghost use Rattle.history_lock.specs.Passes.{IsPassOf, hall as place_of, known};
+    ghost use Rattle.machine_desk.specs.Desks.{DeskView, IsDesk, IsTold, view_by};
+    ghost use Rattle.history_lock.specs.Histories.{state_behind};
+
+    ghost Value = { DeskView };
+
+    ghost coded = { Prim.hlevel (codes, machine.the_row.coded, entry.the_row.coded, reply.the_row.coded) };
+
+    ghost view = { λ d. view_by (place_of d.pass) (known d.pass) d.start.value d.worn };
+
+    ghost invariant = { λ d. IsPassOf d.hall.now d.pass × IsDesk (known d.pass) d.start.value d.worn × IsTold d.learning d.budget (state_behind d.start.value (known d.pass).seen) };
+}
+
+impl<'h> Desk<'h> {
+    /// The desk of a hall that was just opened with a machine, whose policy learns where hosts are or not, and whose runs
+    /// have so many steps at most.
+    pub fn new(
+        hall: &'h Hall<Core>,
+        pass: Pass<Core>,
+        start: Snapshot<Core>,
+        learning: bool,
+        budget: u32,
+    ) -> Desk<'h>
+        requires hall { IsPassOf hall.now pass }
+        requires leads { IsTrue (leads pass) }
+        requires opens { opening pass ≡ Some start.value }
+        requires nothing { seen pass ≡ [] }
+        requires sound { IsSound start.value }
+        requires learning { learning ≡ start.value.policy.learning }
+        requires budget { budget ≡ start.value.settings.budget }
+        ensures { result ≡ view_by (place_of pass) (known pass) start.value false }
+    {
+        Desk {
+            hall,
+            pass,
+            start,
+            learning,
+            budget,
+            worn: false,
+        }
+    }
+
+    /// The machine does what an entry asks. Others may have used it since the last one.
+    ///
+    /// # Errors
+    ///
+    /// `Worn`, from the first time on: nothing was made.
+    pub fn enter<R: Wait>(&mut self, rt: &R, entry: Entry) -> Result<Reply, Worn>
+        requires admits { Admits self.old.now entry }
+        ensures ok { IfOk result (λ reply. Enters self.old entry reply self.new) }
+        ensures worn { OnErr result (WearsOut self.old self.new) }
+        ensures again { OnOk result (self.old.worn ≡ false) }
+    {
+        desk_laws();
+        if self.worn {
+            return Err(Worn);
+        }
+        let learning = learning_behind(&entry, self.learning);
+        match self.hall.call(rt, &mut self.pass, entry) {
+            Ok(reply) => {
+                self.learning = accepted(&reply, learning, self.learning);
+                Ok(reply)
+            }
+            Err(_) => {
+                self.worn = true;
+                Err(Worn)
+            }
+        }
+    }
+
+    /// Whether the policy in force learns where hosts are.
+    pub fn learning(&self) -> bool
+        ensures { result ≡ self.now.now.policy.learning }
+    {
+        self.learning
+    }
+
+    /// The most steps of a run.
+    pub fn budget(&self) -> u32
+        ensures { result ≡ self.now.now.settings.budget }
+    {
+        self.budget
+    }
+
+    /// Whether the hall was found worn.
+    pub fn is_worn(&self) -> bool
+        ensures { result ≡ self.now.worn }
+    {
+        self.worn
+    }
+
+    /// What holds of each desk: its machine is sound, its turns are a legal history, and a worn one has read so.
+    pub fn law(&self)
+        ensures { DeskLaw self.now }
+    {
+        desk_laws();
+        let _ = &self.pass;
+    }
+
+    /// The pass again, with which the hall can be closed where it has all parts.
+    pub fn end(self) -> Pass<Core>
+        ensures view { view_by (place_of result) (known result) self.entry.start self.entry.worn ≡ self.entry }
+        ensures leads { IsTrue (leads result) }
+        ensures opens { opening result ≡ Some self.entry.start }
+        ensures past { length (seen result) ≡ length self.entry.past }
+    {
+        let Desk { pass, .. } = self;
+        pass
+    }
+}
+
+// Whether hosts are learned behind an entry, where it is accepted.
+fn learning_behind(entry: &Entry, learning: bool) -> bool
+    ensures { result ≡ learning_behind entry.now learning }
+{
+    match entry {
+        Entry::NewPolicy(policy) => policy.learning(),
+        _ => learning,
+    }
+}
+
+// One of these two, by whether a reply tells of a new state.
+fn accepted(reply: &Reply, behind: bool, ahead: bool) -> bool
+    ensures { result ≡ (if is_new_state reply.now then behind else ahead) }
+{
+    match reply {
+        Reply::NewState { .. } => behind,
+        _ => ahead,
+    }
+}

@@ -1,0 +1,12 @@
+//! The desk at which the controller's machine is driven: the pass that leads in its hall, and what all drivers do in the same way.
+#![tactic(auto)]
+
+pub mod asking;
+pub mod desk;
+pub mod laws;
+pub mod report;
+
+pub use asking::DeskStop;
+pub use desk::{Desk, Worn};
+pub use laws::desk_laws;
+pub use report::ReportStop;
