@@ -51,6 +51,10 @@ pub record IsTold (learning : Bool) (budget : ℕ) (now : State) : Type 0 where
   pub learning_is : learning ≡ now.policy.learning
   pub budget_is : budget ≡ now.settings.budget
 
+-- both, of what a pass knows
+abbrev pub IsDriven : Known State Entry Reply → State → Bool → Bool → ℕ → Type 0
+IsDriven k start worn learning budget = IsDesk k start worn × IsTold learning budget (state_behind start k.seen)
+
 -- the desk's machine is sound, and its turns are a legal history of the one that it was at first
 pub record DeskLaw (d : DeskView) : Type 0 where
   pub sound : IsSound d.now

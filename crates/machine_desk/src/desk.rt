@@ -35,8 +35,7 @@ impl<'h> Model for Desk<'h> {
     ghost use Rattle.machine_steps.specs.contracts.entry.Entry as entry;
     ghost use Rattle.machine_steps.specs.contracts.reply.Reply as reply;
     ghost use Rattle.history_lock.specs.Passes.{IsPassOf, hall as place_of, known};
-    ghost use Rattle.machine_desk.specs.Desks.{DeskView, IsDesk, IsTold, view_by};
-    ghost use Rattle.history_lock.specs.Histories.{state_behind};
+    ghost use Rattle.machine_desk.specs.Desks.{DeskView, IsDriven, view_by};
 
     ghost Value = { DeskView };
 
@@ -44,7 +43,7 @@ impl<'h> Model for Desk<'h> {
 
     ghost view = { λ d. view_by (place_of d.pass) (known d.pass) d.start.value d.worn };
 
-    ghost invariant = { λ d. IsPassOf d.hall.now d.pass × IsDesk (known d.pass) d.start.value d.worn × IsTold d.learning d.budget (state_behind d.start.value (known d.pass).seen) };
+    ghost invariant = { λ d. IsPassOf d.hall.now d.pass × IsDriven (known d.pass) d.start.value d.worn d.learning d.budget };
 }
 
 impl<'h> Desk<'h> {

@@ -104,6 +104,10 @@ viewed place known refusals = record { place = place; known = known; refusals = 
 abbrev pub nothing_seen : PassView
 nothing_seen = record { opening = None; seen = []; own = []; number = 0; parts = 0; leads = false }
 
+-- this hall alone
+abbrev pub IsAt : List TableId → TableId → Type 0
+IsAt halls place = halls ≡ place ∷ []
+
 -- a view refuses since the hall was worn
 abbrev pub RefusesBy : ℕ → ℕ → Type 0
 RefusesBy refusals number = (refusals ≡ 0 → number < 2 ^ 62) × (1 ≤ refusals → 2 ^ 62 ≤ number)

@@ -40,12 +40,11 @@ pub struct HallView<'a, R, J: Start> {
 
 impl<'a, R, J: Start> Model for HallView<'a, R, J> {
     ghost use Rattle.std.specs.Coded.{codes};
-    ghost use Rattle.std.specs.Prelude.{◌≡◌, ◌∷◌, []};
     ghost use Rattle.core_machine.specs.contracts.machine.Core as machine;
     ghost use Rattle.machine_steps.specs.contracts.entry.Entry as entry;
     ghost use Rattle.machine_steps.specs.contracts.reply.Reply as reply;
     ghost use Rattle.history_lock.specs.Passes.{IsPassOf, hall as place, known, number};
-    ghost use Rattle.packet_workers.specs.Pieces.{HasRead, RefusesBy, Viewed, viewed};
+    ghost use Rattle.packet_workers.specs.Pieces.{HasRead, IsAt, RefusesBy, Viewed, viewed};
 
     ghost Value = { Viewed };
 
@@ -53,7 +52,7 @@ impl<'a, R, J: Start> Model for HallView<'a, R, J> {
 
     ghost view = { λ a. viewed (place a.pass) (known a.pass) a.refusals };
 
-    ghost invariant = { λ a. IsPassOf a.hall.now a.pass × HasRead J.start (known a.pass) × RefusesBy a.refusals (number a.pass) × (J.halls ≡ place a.pass ∷ []) };
+    ghost invariant = { λ a. IsPassOf a.hall.now a.pass × HasRead J.start (known a.pass) × RefusesBy a.refusals (number a.pass) × IsAt J.halls (place a.pass) };
 }
 
 impl<'a, R, J: Start> HallView<'a, R, J> {

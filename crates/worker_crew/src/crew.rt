@@ -87,7 +87,7 @@ where
         lobby.close(rt);
         return (pass, taker, Ok(()), driver);
     }
-    let fewer = count - 1;
+    let less = count - 1;
     let mut theirs = lend(hall, &mut pass);
     let mut second = jobs.split(&mut taker);
     let ((theirs, second, last), (mut pass, mut taker, first, driver)) = join(
@@ -103,13 +103,13 @@ where
         },
         move || -> (Pass<M>, JobPass<T>, Result<(), GaveUp>, D)
             requires passes { IsSync R.row × IsSync W.row × IsPassOf hall.now pass × IsTakerOf jobs.now taker × IfSome (opening pass) W.suits }
-            requires few { (fewer < parts pass) × (fewer < shares taker) }
-            requires ready { IsReady fewer (D.ready driver) (known pass) (account taker) }
+            requires few { (less < parts pass) × (less < shares taker) }
+            requires ready { IsReady less (D.ready driver) (known pass) (account taker) }
             ensures stays { IsPassOf hall.entry.now result.0 × (opening result.0 ≡ opening pass) × (parts result.0 ≡ parts pass) }
             ensures leads { leads result.0 ≡ leads pass }
             ensures taker { IsTakerOf jobs.entry.now result.1 × (shares result.1 ≡ shares taker) }
-            ensures crewed { Crewed W.makes M.allows (D.drives driver result.3) fewer (known pass) (account taker) result.2 (known result.0) (account result.1) }
-        { with_workers(rt, hall, pass, jobs, taker, lobby, works, driver, fewer) },
+            ensures crewed { Crewed W.makes M.allows (D.drives driver result.3) less (known pass) (account taker) result.2 (known result.0) (account result.1) }
+        { with_workers(rt, hall, pass, jobs, taker, lobby, works, driver, less) },
     );
     take_in(hall, &mut pass, theirs);
     jobs.join(&mut taker, second);

@@ -10,7 +10,7 @@ pub call-requires-clause-admitted : goal.call-requires-clause-admitted
 call-requires-clause-admitted g c =
     let P : DeskView → Type 0 = λ d. Admits d.now c.args.entry in
     let now = subst P (sym c.self.view_is) c.requires.admits in
-    admitted c.desk_laws.ensures.since (known c.self.inside.pass) c.self.inside.start.value c.self.inside.worn c.self.invariant.1 c.args.entry now
+    admitted c.desk_laws.ensures.since (known c.self.inside.pass) c.self.inside.start.value c.self.inside.worn c.self.invariant.1.0 c.args.entry now
 
 pub invariant_of-self : goal.invariant_of-self
 invariant_of-self g c =
@@ -21,12 +21,14 @@ invariant_of-self g c =
     let worn = c.self.inside.worn in
     let stays = c.call.ensures.stays in
     let made = c.in-Ok.ensures.ok in
-    let told = is_told laws old new start worn c.args.entry c.in-Ok.reply c.self.invariant.1 stays.1 made c.self.inside.learning c.self.inside.budget c.self.invariant.2 in
+    let told = is_told laws old new start worn c.args.entry c.in-Ok.reply c.self.invariant.1.0 stays.1 made c.self.inside.learning c.self.inside.budget c.self.invariant.1.1 in
     let behind = c.learning_behind-learning.ensures in
     let chosen = c.accepted-self-inside.ensures in (
       stays.0,
-      is_desk laws old new start worn c.args.entry c.in-Ok.reply c.self.invariant.1 stays.1 made c.call.ensures.leads c.if-self.false,
-      record { learning_is = cc; budget_is = told.budget_is },
+      (
+        is_desk laws old new start worn c.args.entry c.in-Ok.reply c.self.invariant.1.0 stays.1 made c.call.ensures.leads c.if-self.false,
+        record { learning_is = cc; budget_is = told.budget_is },
+      ),
     )
 
 pub returns-in-Ok-clause-ok : goal.returns-in-Ok-clause-ok
@@ -38,5 +40,5 @@ returns-in-Ok-clause-ok g c =
     let stays = c.call.ensures.stays in
     let P : DeskView → Type 0 = λ a. Enters a c.args.entry c.in-Ok.reply (view_by (hall c.call.new.pass) new start worn) in
     subst P c.self.view_is (
-    enters c.desk_laws.ensures old new start worn c.args.entry c.in-Ok.reply c.self.invariant.1 stays.1 c.in-Ok.ensures.ok (hall c.self.inside.pass)
+    enters c.desk_laws.ensures old new start worn c.args.entry c.in-Ok.reply c.self.invariant.1.0 stays.1 c.in-Ok.ensures.ok (hall c.self.inside.pass)
     (hall c.call.new.pass) (stays.0 ∙ sym c.self.invariant.0) stays.2)
