@@ -1,5 +1,5 @@
 // A board that lets a sender wait, and takes few bytes a send.
-ghost use Rattle.std.specs.Prelude.{◌≡◌, ◌≢◌, ◌<◌, ◌≤◌, length};
+ghost use Rattle.std.specs.Prelude.{◌≡◌, ◌≢◌, ◌<◌, ◌≤◌, length, nat_le, true};
 ghost use Rattle.maple_base.specs.Counts.{HasRisen};
 ghost use Rattle.maple_io.specs.Turns.{SendsWithin};
 
@@ -8,7 +8,8 @@ use maple_io::act::{closing, giving, starting, taking};
 use maple_io::{Act, Board, Sent, Started, Turn};
 
 /// A board that answers NotYet so many times ahead of each send that takes bytes, and takes so many of
-/// them at most then. Sends fail whose numbers are listed; they count from 1. No turn comes.
+/// them at most then. Sends fail whose numbers are listed; they count from 1. No turn comes. It waits
+/// for no connection apart from the others: there is room for each, or for none.
 #[derive(Drop)]
 pub struct SlowBoard {
     waits: u64,
@@ -52,6 +53,9 @@ impl SlowBoard {
         ensures cause { result ≡ Sent.Failed → HasRisen self.old.breaks self.new.breaks }
         ensures count { self.old.breaks ≤ self.new.breaks }
         ensures spared { result ≢ Sent.Failed → self.new.breaks ≡ self.old.breaks }
+        ensures full { result ≡ Sent.NotYet → nat_le self.old.waits self.old.waited ≢ true }
+        ensures kept { result ≡ Sent.NoMemory → self.new.waited ≡ self.old.waited }
+        ensures waits { self.new.waits ≡ self.old.waits }
         ensures acts { self.new.acts.value ≡ self.old.acts.value }
     {
         let number = self.sends.saturating_add(1);
@@ -78,9 +82,9 @@ impl SlowBoard {
 }
 
 impl Board for SlowBoard {
-    ghost use Rattle.std.specs.Prelude.{None};
+    ghost use Rattle.std.specs.Prelude.{None, Some, nat_le};
 
-    ghost tells = { λ b. record { log = b.acts.value; failed = 0; broken = b.breaks; ready = None; roomy = None } };
+    ghost tells = { λ b. record { log = b.acts.value; failed = 0; broken = b.breaks; ready = None; roomy = λ c. Some (nat_le b.waits b.waited) } };
 
     fn start(&mut self, listen: u16, control: u16) -> Started {
         self.acts = starting(&self.acts, listen, control, Started::Ready);

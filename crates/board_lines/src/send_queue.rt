@@ -99,7 +99,7 @@ impl SendQueue {
         ensures steps { StepsOn self.old self.new (B.tells board.old).log (B.tells board.new).log }
         ensures shorter { Shortens result self.old.rest self.new.rest }
         ensures last { EndsSo result self.old.number (B.tells board.old).log (B.tells board.new).log }
-        ensures full { result ≡ Sent.NotYet → MayBeFull (B.tells board.old) }
+        ensures full { result ≡ Sent.NotYet → MayBeFull self.old.number (B.tells board.old) }
         ensures cause { result ≡ Sent.Failed → LinkBroke (B.tells board.old) (B.tells board.new) }
         ensures spared { result ≢ Sent.Failed → NoLinkBroke (B.tells board.old) (B.tells board.new) }
         ensures faults { NoBoardFailed (B.tells board.old) (B.tells board.new) }

@@ -6,14 +6,14 @@ use Rattle.maple_io.specs.declared.act.Act.{Act}
 use Rattle.maple_io.specs.declared.act.Act.TheVariants.{Gives, Takes, Closes}
 use Rattle.maple_io.specs.declared.board.Turn.TheVariants.{Opened, Bytes, Control}
 
--- what it did, in order; how many of its calls failed, and how many connections broke; where the board tells it, whether a turn is ready, and whether there
--- is room to send
+-- what it did, in order; how many of its calls failed, and how many connections broke; where the board tells it, whether a turn is ready, and of each
+-- connection whether there is room to send to it
 pub record BoardView : Type 0 where
   pub log : List Act
   pub failed : ℕ
   pub broken : ℕ
   pub ready : Option Bool
-  pub roomy : Option Bool
+  pub roomy : ℕ → Option Bool
 
 -- ---- the counts
 
@@ -37,9 +37,9 @@ NoLinkBroke old new = new.broken ≡ old.broken
 abbrev pub MayRest : BoardView → Type 0
 MayRest b = b.ready ≢ Some true
 
--- there is no room to send, or that isn't told
-abbrev pub MayBeFull : BoardView → Type 0
-MayBeFull b = b.roomy ≢ Some true
+-- there is no room to send to this connection, or that isn't told
+abbrev pub MayBeFull : ℕ → BoardView → Type 0
+MayBeFull c b = b.roomy c ≢ Some true
 
 -- ---- what the log has
 

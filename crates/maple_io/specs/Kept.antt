@@ -5,10 +5,11 @@ use Rattle.maple_io.specs.declared.act.Act.{Act}
 use Rattle.maple_io.specs.declared.kept.Cursor.{Cursor}
 use Rattle.maple_io.specs.declared.kept.Link.{Link}
 use Rattle.maple_io.specs.declared.kept.Taken.{Taken}
+use Rattle.maple_io.specs.declared.mem_board.MemBoard.TheInside.{Inside}
 use Rattle.maple_io.specs.declared.mem_board.MemTurn.{MemTurn}
 use Rattle.maple_io.specs.declared.mem_board.MemTurn.TheVariants as coming
 use Rattle.maple_io.specs.Boards.{sent, was_closed, was_opened}
-use Rattle.maple_io.specs.Schedules.{are_pieces, open_once, opens_in}
+use Rattle.maple_io.specs.Schedules.{Schedule, are_pieces, open_once, opens_in}
 
 -- ---- the turns
 
@@ -25,6 +26,17 @@ cut_first n (t ∷ ts) = cut n t ∷ ts
 -- the turns that are left from here on
 abbrev pub left_at : Cursor → List MemTurn → List MemTurn
 left_at from ts = cut_first from.byte (drop from.turn ts)
+
+-- what clauses see of it
+abbrev pub schedule_of : Inside → Schedule
+schedule_of b = record {
+  log = b.log.value;
+  left = left_at b.cursor b.turns.items;
+  fails = b.fails.items;
+  calls = b.calls;
+  failed = b.faults;
+  broken = b.breaks;
+}
 
 -- what is left of a turn: nothing, or all from one of its bytes on
 abbrev pub more_at : Option ℕ → MemTurn → List MemTurn

@@ -3,8 +3,6 @@ use Rattle.std.specs.Prelude.{◌≡◌, ℕ, ◌==◌, ◌&&◌, Bool, true, fa
 use Rattle.std.specs.List.{list_all, list_any}
 use Rattle.maple_base.specs.Counts.{next_count}
 use Rattle.maple_io.specs.declared.act.Act.{Act}
-use Rattle.maple_io.specs.declared.board.Started.{Started}
-use Rattle.maple_io.specs.declared.board.Started.TheVariants as started
 use Rattle.maple_io.specs.declared.board.Turn.{Turn}
 use Rattle.maple_io.specs.declared.board.Turn.TheVariants as turns
 use Rattle.maple_io.specs.declared.board.Sent.{Sent}
@@ -33,9 +31,9 @@ is_ready [] = true
 is_ready (coming.Idle ∷ ts) = false
 is_ready (t ∷ ts) = true
 
--- what any board tells: this one tells also whether a turn is ready, and there is always room to send
+-- what any board tells: this one tells also whether a turn is ready, and there is always room to send to each connection
 abbrev pub told : Schedule → BoardView
-told s = record { log = s.log; failed = s.failed; broken = s.broken; ready = Some (is_ready s.left); roomy = Some true }
+told s = record { log = s.log; failed = s.failed; broken = s.broken; ready = Some (is_ready s.left); roomy = λ c. Some true }
 
 -- ---- what it may be handed
 
@@ -112,25 +110,9 @@ TakesWhole sends.NotYet len = ⊥
 TakesWhole sends.Failed len = ⊤
 TakesWhole sends.NoMemory len = ⊤
 
--- ---- the counts after one more call
+-- ---- one more call
 
-abbrev pub failed_starts : ℕ → Started → ℕ
-failed_starts failed started.Ready = failed
-failed_starts failed started.Failed = next_count failed
-
-abbrev pub failed_turns : ℕ → Turn → ℕ
-failed_turns failed turns.Failed = next_count failed
-failed_turns failed turn = failed
-
-abbrev pub broken_turns : ℕ → Turn → ℕ
-broken_turns broken (turns.Broken c) = next_count broken
-broken_turns broken turn = broken
-
-abbrev pub broken_sends : ℕ → Sent → ℕ
-broken_sends broken sends.Failed = next_count broken
-broken_sends broken sent = broken
-
--- a send for which memory runs out has no number
+-- how many calls were made; a send for which memory runs out has no number
 abbrev pub calls_sent : ℕ → Sent → ℕ
 calls_sent calls sends.NoMemory = calls
 calls_sent calls sent = next_count calls

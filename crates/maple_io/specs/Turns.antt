@@ -1,5 +1,6 @@
--- What each call of a board adds to its log.
+-- What each call of a board adds to its log, and what is counted where a failure or a break counts as one.
 use Rattle.std.specs.Prelude.{◌≡◌, ℕ, ◌≤◌, false, List, [], ◌∷◌, take, ⊤}
+use Rattle.maple_base.specs.Counts.{next_count}
 use Rattle.maple_io.specs.declared.act.Act.{Act}
 use Rattle.maple_io.specs.declared.act.Act.TheVariants.{Starts, Gives, Takes}
 use Rattle.maple_io.specs.declared.board.Started.{Started}
@@ -56,3 +57,25 @@ OpensAnew turn log = ⊤
 abbrev pub IsBreak : Turn → Type 0
 IsBreak (turns.Broken c) = ⊤
 IsBreak turn = ⊥
+
+-- ---- counts
+
+-- how many calls failed, behind a start
+abbrev pub failed_starts : ℕ → Started → ℕ
+failed_starts failed started.Ready = failed
+failed_starts failed started.Failed = next_count failed
+
+-- how many calls failed, behind a turn
+abbrev pub failed_turns : ℕ → Turn → ℕ
+failed_turns failed turns.Failed = next_count failed
+failed_turns failed turn = failed
+
+-- how many connections broke, behind a turn
+abbrev pub broken_turns : ℕ → Turn → ℕ
+broken_turns broken (turns.Broken c) = next_count broken
+broken_turns broken turn = broken
+
+-- how many connections broke, behind a send
+abbrev pub broken_sends : ℕ → Sent → ℕ
+broken_sends broken sends.Failed = next_count broken
+broken_sends broken sent = broken

@@ -57,8 +57,9 @@ pub type Piece = Bytes;
 /// Connections of switches, by number, and a control text.
 pub trait Board {
     /// What it did so far, in order; how many of its calls failed, and how many connections broke; and,
-    /// where the board tells it (`None` claims nothing), whether a turn is ready, and whether there is
-    /// room to send. Both counts stand still at 2^64 - 1, where one more counts as a rise.
+    /// where the board tells it (`None` claims nothing), whether a turn is ready, and of each connection
+    /// whether there is room to send to it. Both counts stand still at 2^64 - 1, where one more counts
+    /// as a rise.
     ghost tells: { Self → BoardView };
 
     /// Begins to listen: for switches on one port, for control text on the other.
@@ -81,18 +82,20 @@ pub trait Board {
         ensures spared { result ≢ Turn.Failed → NoBoardFailed (tells self.old) (tells self.new) }
         ensures broken { IsBreak result → LinkBroke (tells self.old) (tells self.new) }
         ensures breaks { (tells self.old).broken ≤ (tells self.new).broken }
-        ensures whole { (IsBreak result → ⊥) → NoLinkBroke (tells self.old) (tells self.new) };
+        ensures whole { (IsBreak result → ⊥) → NoLinkBroke (tells self.old) (tells self.new) }
+        ensures kept { result ≡ Turn.NoMemory → tells self.new ≡ tells self.old };
 
     /// Hands over a piece for a connection, once. The piece isn't empty.
     fn send(&mut self, connection: u32, piece: &[u8]) -> Sent
         requires { 0 < length piece.now }
         ensures log { (tells self.new).log ≡ (tells self.old).log ++ sent_acts connection result piece.now }
         ensures room { SendsWithin result (length piece.now) }
-        ensures full { result ≡ Sent.NotYet → MayBeFull (tells self.old) }
+        ensures full { result ≡ Sent.NotYet → MayBeFull connection (tells self.old) }
         ensures cause { result ≡ Sent.Failed → LinkBroke (tells self.old) (tells self.new) }
         ensures count { (tells self.old).broken ≤ (tells self.new).broken }
         ensures spared { result ≢ Sent.Failed → NoLinkBroke (tells self.old) (tells self.new) }
-        ensures faults { NoBoardFailed (tells self.old) (tells self.new) };
+        ensures faults { NoBoardFailed (tells self.old) (tells self.new) }
+        ensures kept { result ≡ Sent.NoMemory → tells self.new ≡ tells self.old };
 
     /// Closes a connection that the board opened.
     fn close(&mut self, connection: u32)

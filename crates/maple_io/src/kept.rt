@@ -2,8 +2,8 @@
 ghost use Rattle.std.specs.Prelude.{◌≡◌, ℕ, ◌<◌, ◌≤◌, ◌++◌, ◌∷◌, [], true, false, IfOk, OnErr, OnOk, None, Some, if◌then◌else◌, ◌==◌, ◌+◌, length, map, min, take, drop};
 ghost use Rattle.std.specs.List.{flat_map};
 ghost use Rattle.maple_base.specs.Counts.{HasRisen};
-ghost use Rattle.maple_io.specs.Turns.{IsBreak, given_acts};
-ghost use Rattle.maple_io.specs.Schedules.{are_pieces, broken_turns, bytes_of, has_bytes, left_behind, next_bytes, next_turn, opens_in, rest_of, turn_of};
+ghost use Rattle.maple_io.specs.Turns.{IsBreak, broken_turns, given_acts};
+ghost use Rattle.maple_io.specs.Schedules.{are_pieces, bytes_of, has_bytes, left_behind, next_bytes, next_turn, opens_in, rest_of, turn_of};
 ghost use Rattle.maple_io.specs.Kept.{cut, has_link, is_closed, left_at, marked, more_at, taken_for};
 
 use crate::memory::copy_from;
@@ -128,13 +128,18 @@ pub fn keep(
     Ok(())
 }
 
-/// Appends the bytes that were taken for a connection.
+/// Appends the bytes that were taken for a connection, or none of them.
 pub fn append_taken(taken: &[Taken], connection: u32, out: &mut Vec<u8>) -> Result<(), NoMemory>
-    ensures { OnOk result (out.new.items ≡ out.old.items ++ flat_map (taken_for connection) taken.now) }
+    ensures all { OnOk result (out.new.items ≡ out.old.items ++ flat_map (taken_for connection) taken.now) }
+    ensures kept { OnErr result (out.new.items ≡ out.old.items) }
 {
+    let before = out.len();
     for part in taken {
         if part.connection == connection {
-            out.extend_from_slice(part.bytes.items())?;
+            let Ok(()) = out.extend_from_slice(part.bytes.items()) else {
+                out.truncate(before);
+                return Err(NoMemory);
+            };
         }
     }
     Ok(())

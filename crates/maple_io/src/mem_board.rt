@@ -1,11 +1,11 @@
 // A board over memory, whose turns and failures are chosen ahead.
-ghost use Rattle.std.specs.Prelude.{◌≡◌, ◌≢◌, ◌<◌, ◌≤◌, ◌↔◌, ◌++◌, ◌∷◌, [], IfOk, OnOk, length, true};
+ghost use Rattle.std.specs.Prelude.{◌≡◌, ◌≢◌, ◌<◌, ◌≤◌, ◌↔◌, ◌++◌, ◌∷◌, [], IfOk, OnErr, OnOk, length, true};
 ghost use Rattle.std.specs.List.{Contains};
 ghost use Rattle.maple_base.specs.Counts.{next_count};
 ghost use Rattle.maple_io.specs.declared.act.Act.TheVariants as acts;
 ghost use Rattle.maple_io.specs.Boards.{BoardFailed, LinkBroke, MayBeFull, MayRest, NoBoardFailed, NoLinkBroke, sent, was_closed, was_opened};
-ghost use Rattle.maple_io.specs.Turns.{IsBreak, OpensAnew, SendsWithin, TurnsWithin, given_acts, sent_acts, started_acts};
-ghost use Rattle.maple_io.specs.Schedules.{TakesWhole, are_pieces, begun, broken_sends, broken_turns, calls_sent, failed_starts, failed_turns, has_bytes, is_opened_in, left_behind, next_bytes, next_turn, open_once, opens, opens_in, told};
+ghost use Rattle.maple_io.specs.Turns.{IsBreak, OpensAnew, SendsWithin, TurnsWithin, broken_sends, broken_turns, failed_starts, failed_turns, given_acts, sent_acts, started_acts};
+ghost use Rattle.maple_io.specs.Schedules.{TakesWhole, are_pieces, begun, calls_sent, has_bytes, is_opened_in, left_behind, next_bytes, next_turn, open_once, opens, opens_in, told};
 
 use crate::act::{Act, closing, giving, starting, taking};
 use crate::kept::{
@@ -59,11 +59,11 @@ pub struct MemBoard {
 
 impl Model for MemBoard {
     ghost use Rattle.maple_io.specs.Schedules.{Schedule};
-    ghost use Rattle.maple_io.specs.Kept.{IsSound, left_at};
+    ghost use Rattle.maple_io.specs.Kept.{IsSound, left_at, schedule_of};
 
     ghost Value = { Schedule };
 
-    ghost view = { λ b. record { log = b.log.value; left = left_at b.cursor b.turns.items; fails = b.fails.items; calls = b.calls; failed = b.faults; broken = b.breaks } };
+    ghost view = { schedule_of };
 
     ghost invariant = { λ b. IsSound (left_at b.cursor b.turns.items) b.taken.items b.links.items b.log.value };
 }
@@ -101,9 +101,10 @@ impl MemBoard {
     ///
     /// # Errors
     ///
-    /// `NoMemory`. A part of them may have been appended.
+    /// `NoMemory`. None of them is appended.
     pub fn sent(&self, connection: u32, out: &mut Vec<u8>) -> Result<(), NoMemory>
-        ensures { OnOk result (out.new.items ≡ out.old.items ++ sent connection self.now.log) }
+        ensures all { OnOk result (out.new.items ≡ out.old.items ++ sent connection self.now.log) }
+        ensures kept { OnErr result (out.new.items ≡ out.old.items) }
     {
         append_taken(&self.taken, connection, out)
     }
@@ -174,6 +175,7 @@ impl Board for MemBoard {
         ensures broken { IsBreak result → LinkBroke (told self.old) (told self.new) }
         ensures breaks { self.old.broken ≤ self.new.broken }
         ensures whole { (IsBreak result → ⊥) → NoLinkBroke (told self.old) (told self.new) }
+        ensures kept { result ≡ Turn.NoMemory → told self.new ≡ told self.old }
 
         // The call fails where its number is listed, and else gives the turn that is next, with its
         // bytes; what is left stands behind it.
@@ -181,6 +183,7 @@ impl Board for MemBoard {
         ensures gives { result ≢ Turn.Failed → result ≡ next_turn self.old.left (length into.old) }
         ensures bytes { given_acts result into.new ≡ given_acts result (next_bytes self.old.left) }
         ensures left { self.new.left ≡ left_behind result self.old.left }
+        ensures memory { result ≢ Turn.NoMemory }
 
         // What is counted, and what stays.
         ensures calls { self.new.calls ≡ next_count self.old.calls }
@@ -204,11 +207,12 @@ impl Board for MemBoard {
         requires { 0 < length piece.now }
         ensures log { self.new.log ≡ self.old.log ++ sent_acts connection result piece.now }
         ensures room { SendsWithin result (length piece.now) }
-        ensures full { result ≡ Sent.NotYet → MayBeFull (told self.old) }
+        ensures full { result ≡ Sent.NotYet → MayBeFull connection (told self.old) }
         ensures cause { result ≡ Sent.Failed → LinkBroke (told self.old) (told self.new) }
         ensures count { self.old.broken ≤ self.new.broken }
         ensures spared { result ≢ Sent.Failed → NoLinkBroke (told self.old) (told self.new) }
         ensures faults { NoBoardFailed (told self.old) (told self.new) }
+        ensures kept { result ≡ Sent.NoMemory → told self.new ≡ told self.old }
 
         // The call fails where its number is listed, and else takes all, or memory runs out.
         ensures listed { (result ≡ Sent.Failed) ↔ Contains self.old.fails (next_count self.old.calls) }

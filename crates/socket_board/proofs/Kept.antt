@@ -1,5 +1,5 @@
 -- What is true of every board stays true behind each call.
-use Rattle.std.proofs.Common.{◌≡◌, ℕ, ◌≤◌, true, false, Bool, List, [], ◌∷◌, ◌++◌, Option, refl, sym, ap, ◌∙◌, subst, arith}
+use Rattle.std.proofs.Common.{◌≡◌, ℕ, ◌≤◌, true, false, Bool, List, [], ◌∷◌, ◌++◌, Option, refl, sym, ap, ◌∙◌, subst, append-nil, arith}
 use Rattle.std.proofs.lemmas.List.Folds.{list_any-append}
 use Rattle.std.specs.Prelude.{◌||◌, is_some}
 use Rattle.maple_io.specs.declared.act.Act.{Act}
@@ -15,6 +15,7 @@ use Rattle.socket_board.specs.declared.sockets.Sockets.{Sockets}
 use Rattle.socket_board.specs.Keeping.{IsKept, next_of}
 use Rattle.socket_board.specs.Numbers.{AreBelow, next_number}
 use Rattle.socket_board.specs.Starts.{is_start, was_started}
+use Rattle.socket_board.specs.Views.{SocketView, told}
 use Rattle.socket_board.proofs.Numbered.{all_raised, below_more, given_below, risen}
 
 or_false : (b : Bool) → (b || false) ≡ b
@@ -101,3 +102,12 @@ pub kept_start : (old new : Option Sockets) (listen control : ℕ) (s : Started)
     → (s ≡ started.Ready → is_some new ≡ true) → (s ≡ started.Failed → new ≡ old) → all ≡ log ++ started_acts listen control s → IsKept new all
 kept_start old new listen control s log all kept next ready failed is =
     subst (λ acts. IsKept new acts) (sym is) (begun old new listen control s log kept next ready failed)
+
+-- ---- what is told
+
+-- a turn for which memory ran out adds nothing
+pub told_still : (s : SocketView) (t : Turn) (into : List ℕ) (log all : List Act) (failed broken : ℕ) → (record { log = log; failed = failed; broken = broken }) ≡ s
+    → all ≡ log ++ given_acts t into → t ≡ turns.NoMemory → told (record { log = all; failed = failed; broken = broken }) ≡ told s
+told_still s t into log all failed broken seen is none =
+    let same : all ≡ log = is ∙ ap (λ u. log ++ given_acts u into) none ∙ append-nil log in
+    ap (λ (acts : List Act). told (record { log = acts; failed = failed; broken = broken })) same ∙ ap told seen

@@ -1,10 +1,10 @@
 // A board over sockets.
-ghost use Rattle.std.specs.Prelude.{◌≡◌, ◌≢◌, ◌<◌, ◌≤◌, ◌++◌, ◌∷◌, [], true, false, length};
+ghost use Rattle.std.specs.Prelude.{◌≡◌, ◌≢◌, ◌<◌, ◌≤◌, ◌++◌, ◌∷◌, [], ℕ, true, false, length};
 ghost use Rattle.maple_io.specs.declared.act.Act.TheVariants as acts;
 ghost use Rattle.maple_io.specs.Boards.{BoardFailed, LinkBroke, MayBeFull, MayRest, NoBoardFailed, NoLinkBroke, was_opened};
-ghost use Rattle.maple_io.specs.Turns.{IsBreak, OpensAnew, SendsWithin, TurnsWithin, given_acts, sent_acts, started_acts};
+ghost use Rattle.maple_io.specs.Turns.{IsBreak, OpensAnew, SendsWithin, TurnsWithin, broken_sends, broken_turns, failed_starts, failed_turns, given_acts, sent_acts, started_acts};
 ghost use Rattle.socket_board.specs.Starts.{was_started};
-ghost use Rattle.socket_board.specs.Tallies.{breaks_after, breaks_sent, faults_after, faults_started};
+ghost use Rattle.socket_board.specs.Views.{told};
 
 use crate::sockets::{Sockets, close_on, send_on, start_on, turn_of};
 use maple_base::GhostList;
@@ -30,13 +30,12 @@ pub struct SocketBoard<'a, R> {
 }
 
 impl<'a, R> Model for SocketBoard<'a, R> {
-    ghost use Rattle.std.specs.Prelude.{None};
-    ghost use Rattle.maple_io.specs.Boards.{BoardView};
     ghost use Rattle.socket_board.specs.Keeping.{IsKept};
+    ghost use Rattle.socket_board.specs.Views.{SocketView};
 
-    ghost Value = { BoardView };
+    ghost Value = { SocketView };
 
-    ghost view = { λ b. record { log = b.log.value; failed = b.faults; broken = b.breaks; ready = None; roomy = None } };
+    ghost view = { λ b. record { log = b.log.value; failed = b.faults; broken = b.breaks } };
 
     ghost invariant = { λ b. IsKept b.sockets b.log.value };
 }
@@ -49,8 +48,8 @@ impl<'a, R> SocketBoard<'a, R> {
         ensures log { result.log ≡ [] }
         ensures failed { result.failed ≡ 0 }
         ensures broken { result.broken ≡ 0 }
-        ensures ready { result.ready ≡ None }
-        ensures roomy { result.roomy ≡ None }
+        ensures ready { (told result).ready ≡ None }
+        ensures roomy { (c : ℕ) → (told result).roomy c ≡ None }
     {
         SocketBoard {
             net,
@@ -64,17 +63,17 @@ impl<'a, R> SocketBoard<'a, R> {
 }
 
 impl<'a, R: Net> Board for SocketBoard<'a, R> {
-    ghost tells = { λ b. b };
+    ghost tells = { told };
 
     fn start(&mut self, listen: u16, control: u16) -> Started
         ensures log { self.new.log ≡ self.old.log ++ started_acts listen control result }
-        ensures cause { result ≡ Started.Failed → BoardFailed self.old self.new }
+        ensures cause { result ≡ Started.Failed → BoardFailed (told self.old) (told self.new) }
         ensures count { self.old.failed ≤ self.new.failed }
-        ensures spared { result ≢ Started.Failed → NoBoardFailed self.old self.new }
-        ensures breaks { NoLinkBroke self.old self.new }
+        ensures spared { result ≢ Started.Failed → NoBoardFailed (told self.old) (told self.new) }
+        ensures breaks { NoLinkBroke (told self.old) (told self.new) }
 
         // A failure counts as one, and a board that listens already fails.
-        ensures faults { self.new.failed ≡ faults_started self.old.failed result }
+        ensures faults { self.new.failed ≡ failed_starts self.old.failed result }
         ensures again { was_started self.old.log ≡ true → result ≡ Started.Failed }
     {
         let started = start_on(&mut self.sockets, self.net, self.alloc, listen, control);
@@ -91,17 +90,18 @@ impl<'a, R: Net> Board for SocketBoard<'a, R> {
         ensures log { self.new.log ≡ self.old.log ++ given_acts result into.new }
         ensures room { TurnsWithin result (length into.old) }
         ensures anew { OpensAnew result self.old.log }
-        ensures idle { result ≡ Turn.Idle → MayRest self.old }
-        ensures cause { result ≡ Turn.Failed → BoardFailed self.old self.new }
+        ensures idle { result ≡ Turn.Idle → MayRest (told self.old) }
+        ensures cause { result ≡ Turn.Failed → BoardFailed (told self.old) (told self.new) }
         ensures count { self.old.failed ≤ self.new.failed }
-        ensures spared { result ≢ Turn.Failed → NoBoardFailed self.old self.new }
-        ensures broken { IsBreak result → LinkBroke self.old self.new }
+        ensures spared { result ≢ Turn.Failed → NoBoardFailed (told self.old) (told self.new) }
+        ensures broken { IsBreak result → LinkBroke (told self.old) (told self.new) }
         ensures breaks { self.old.broken ≤ self.new.broken }
-        ensures whole { (IsBreak result → ⊥) → NoLinkBroke self.old self.new }
+        ensures whole { (IsBreak result → ⊥) → NoLinkBroke (told self.old) (told self.new) }
+        ensures kept { result ≡ Turn.NoMemory → told self.new ≡ told self.old }
 
         // A failure and a break count as one. It fails before it was started, and never ends.
-        ensures faults { self.new.failed ≡ faults_after self.old.failed result }
-        ensures links { self.new.broken ≡ breaks_after self.old.broken result }
+        ensures faults { self.new.failed ≡ failed_turns self.old.failed result }
+        ensures links { self.new.broken ≡ broken_turns self.old.broken result }
         ensures unstarted { was_started self.old.log ≡ false → result ≡ Turn.Failed }
         ensures endless { result ≢ Turn.End }
     {
@@ -119,14 +119,15 @@ impl<'a, R: Net> Board for SocketBoard<'a, R> {
         requires { 0 < length piece.now }
         ensures log { self.new.log ≡ self.old.log ++ sent_acts connection result piece.now }
         ensures room { SendsWithin result (length piece.now) }
-        ensures full { result ≡ Sent.NotYet → MayBeFull self.old }
-        ensures cause { result ≡ Sent.Failed → LinkBroke self.old self.new }
+        ensures full { result ≡ Sent.NotYet → MayBeFull connection (told self.old) }
+        ensures cause { result ≡ Sent.Failed → LinkBroke (told self.old) (told self.new) }
         ensures count { self.old.broken ≤ self.new.broken }
-        ensures spared { result ≢ Sent.Failed → NoLinkBroke self.old self.new }
-        ensures faults { NoBoardFailed self.old self.new }
+        ensures spared { result ≢ Sent.Failed → NoLinkBroke (told self.old) (told self.new) }
+        ensures faults { NoBoardFailed (told self.old) (told self.new) }
+        ensures kept { result ≡ Sent.NoMemory → told self.new ≡ told self.old }
 
         // A failure counts as one. It fails before it was started, and takes no memory.
-        ensures links { self.new.broken ≡ breaks_sent self.old.broken result }
+        ensures links { self.new.broken ≡ broken_sends self.old.broken result }
         ensures unstarted { was_started self.old.log ≡ false → result ≡ Sent.Failed }
         ensures memory { result ≢ Sent.NoMemory }
     {
