@@ -6,4 +6,6 @@ mod halls;
 #[cfg(test)]
 mod threads;
 #[cfg(test)]
+mod waiting;
+#[cfg(test)]
 mod works;

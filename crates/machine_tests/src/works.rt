@@ -10,13 +10,13 @@ use std::alloc::Global;
 use std::sync::atomic::{AtomicU64, Ordering};
 use std::test::Fail;
 
-const BUDGET: u32 = 100;
+pub(crate) const BUDGET: u32 = 100;
 
 const DROPS: &[u8] = b"policy { drop; }";
 
 // How often a gate was told, and what was said last.
 #[derive(Drop)]
-struct Told {
+pub(crate) struct Told {
     before: AtomicU64,
     after: AtomicU64,
     job: AtomicU64,
@@ -24,7 +24,7 @@ struct Told {
 }
 
 impl Told {
-    fn new() -> Told {
+    pub(crate) fn new() -> Told {
         Told {
             before: AtomicU64::new(0),
             after: AtomicU64::new(0),
@@ -34,7 +34,7 @@ impl Told {
     }
 
     // How often before and after, of which job, with how many cells.
-    fn all(&self) -> [u64; 4] {
+    pub(crate) fn all(&self) -> [u64; 4] {
         [
             self.before.load(Ordering::SeqCst),
             self.after.load(Ordering::SeqCst),
@@ -56,7 +56,7 @@ impl Gate for Told {
     }
 }
 
-fn machine(alloc: Global, text: &[u8]) -> Option<Core>
+pub(crate) fn machine(alloc: Global, text: &[u8]) -> Option<Core>
     ensures { IfSome result (λ core. core.settings.budget ≡ 100) }
 {
     let policy = read_policy(alloc, text).ok()?;
@@ -101,11 +101,11 @@ fn a_packet_that_does_not_wait(rt: HostRuntime) -> Result<(), Fail> {
     let Some(item) = unsent() else {
         panic!(&rt; "a key")
     };
-    let Ok((hall, pass)) = Hall::open(alloc, core) else {
+    let Ok((hall, mut pass)) = Hall::open(alloc, core) else {
         panic!(&rt; "memory")
     };
     let told = Told::new();
-    let (pass, worked) = work(&rt, alloc, &hall, pass, BUDGET, item, &told);
+    let worked = work(&rt, alloc, &hall, &mut pass, BUDGET, item, &told);
     hall.close(pass);
     assert!(&rt; worked == Worked::NotOpen);
     assert!(&rt; told.all() == [1, 1, 5, 0]);

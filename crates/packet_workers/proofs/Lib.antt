@@ -1,4 +1,5 @@
 pub mod Closing
+pub mod Crewed
 pub mod Passing
 pub mod Reading
 pub mod Rounding

@@ -2,3 +2,5 @@
 pub mod Adding
 pub mod Pieces
 pub mod Rounds
+-- What a crew's worker makes of a packet
+pub mod Crewing

@@ -1,6 +1,8 @@
 -- Parts of a round, for private contracts.
 use Rattle.std.specs.Prelude.{◌≡◌, ◌⊎◌, ℕ, suc, ◌^◌, ◌+◌, ◌<◌, ◌≤◌, List, [], ◌∷◌, ◌++◌, false, Some, None}
 use Rattle.atomic_table.specs.Seated.{TableId}
+use Rattle.history_lock.specs.declared.pass.Token.{Token}
+use Rattle.history_lock.specs.Passes.{hall, known, number}
 use Rattle.maple_base.specs.declared.cells.Cell.{Cell}
 use Rattle.maple_base.specs.declared.cells.Value.{Value}
 use Rattle.policy_lang.specs.declared.Policy.{Policy}
@@ -111,6 +113,10 @@ IsAt halls place = halls ≡ place ∷ []
 -- a view refuses since the hall was worn
 abbrev pub RefusesBy : ℕ → ℕ → Type 0
 RefusesBy refusals number = (refusals ≡ 0 → number < 2 ^ 62) × (1 ≤ refusals → 2 ^ 62 ≤ number)
+
+-- since the start this pass of these halls read cells, and made no other call; by now the view refused so often
+abbrev pub ReadsBy : {S : Type 0} → PassView → List TableId → ℕ → Token S State Entry Reply → Type 0
+ReadsBy start halls refusals p = HasRead start (known p) × RefusesBy refusals (number p) × IsAt halls (hall p)
 
 -- ---- recording
 

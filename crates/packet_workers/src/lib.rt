@@ -2,10 +2,12 @@
 #![tactic(auto)]
 
 mod gate;
+mod packet_works;
 mod view;
 mod worked;
 mod working;
 
 pub use gate::{Gate, Open};
+pub use packet_works::PacketWorks;
 pub use worked::Worked;
 pub use working::work;

@@ -11,7 +11,7 @@ ghost use Rattle.packet_workers.specs.Rounds.{Does, IsBudgetOf, Works, worked_by
 ghost use Rattle.packet_workers.specs.Pieces.{CommitsBack, CommitsLast, Ends, EndsWork, GoesBack, IsLending, IsStaleCommit, LendsIt, LendsNot, Records, RecordsNot, unrecorded_by};
 
 use crate::gate::Gate;
-use crate::view::{HallView, Start};
+use crate::view::{Back, HallView, Start};
 use crate::worked::Worked;
 use core_machine::{Core, Entry, JobItem, Reply};
 use history_lock::{Hall, Pass};
@@ -34,9 +34,9 @@ struct Task<'a> {
     item: JobItem,
 }
 
-/// Works on a packet that waits, by a pass of the machine's hall, which comes back. In each round the policy is read, a run
-/// of it is recorded, of which each cell is read by an entry of its own, and the run is committed: so evaluation runs between
-/// calls. Behind the third stale Commit the machine is asked to decide itself.
+/// Works on a packet that waits, by a pass of the machine's hall. In each round the policy is read, a run of it is recorded,
+/// of which each cell is read by an entry of its own, and the run is committed: so evaluation runs between calls. Behind the
+/// third stale Commit the machine is asked to decide itself.
 ///
 /// The budget, in steps, is that of the machine's settings. The gate is told ahead of the first Commit, and behind the last
 /// reply.
@@ -44,15 +44,15 @@ pub fn work<R: Wait, G: Gate>(
     rt: &R,
     alloc: Global,
     hall: &Hall<Core>,
-    pass: Pass<Core>,
+    pass: &mut Pass<Core>,
     budget: u32,
     item: JobItem,
     gate: &G,
-) -> (Pass<Core>, Worked)
-    requires hall { IsPassOf hall.now pass }
-    requires budget { IsBudgetOf budget (known pass) }
-    ensures hall { IsPassOf hall.now result.0 }
-    ensures works { Works item budget (known pass) (known result.0) result.1 }
+) -> Worked
+    requires hall { IsPassOf hall.now pass.old }
+    requires budget { IsBudgetOf budget (known pass.old) }
+    ensures hall { IsPassOf hall.now pass.new }
+    ensures works { Works item budget (known pass.old) (known pass.new) result }
 {
     let task = Task {
         alloc,
@@ -60,9 +60,9 @@ pub fn work<R: Wait, G: Gate>(
         budget,
         item,
     };
-    let (pass, worked, asked) = task.rounds(rt, gate, pass, ROUNDS, 0);
+    let (worked, asked) = task.rounds(rt, gate, pass, ROUNDS, 0);
     gate.after(task.item.job(), asked);
-    (pass, worked)
+    worked
 }
 
 impl<'a> Task<'a> {
@@ -71,24 +71,23 @@ impl<'a> Task<'a> {
         &self,
         rt: &R,
         gate: &G,
-        pass: Pass<Core>,
+        pass: &mut Pass<Core>,
         left: u32,
         asked: u32,
-    ) -> (Pass<Core>, Worked, u32)
-        requires hall { IsPassOf self.now.hall.now pass }
-        requires budget { IsBudgetOf self.now.budget (known pass) }
-        requires stale { 3 ≤ left + stale_count self.now.item.job (seen pass) }
-        ensures hall { IsPassOf self.now.hall.now result.0 }
-        ensures does { Does left self.now.item self.now.budget (known pass) (known result.0) result.1 }
+    ) -> (Worked, u32)
+        requires hall { IsPassOf self.now.hall.now pass.old }
+        requires budget { IsBudgetOf self.now.budget (known pass.old) }
+        requires stale { 3 ≤ left + stale_count self.now.item.job (seen pass.old) }
+        ensures hall { IsPassOf self.now.hall.now pass.new }
+        ensures does { Does left self.now.item self.now.budget (known pass.old) (known pass.new) result.0 }
     {
         if left == 0 {
-            let (pass, worked) = self.decide(rt, pass);
-            return (pass, worked, asked);
+            return (self.decide(rt, pass), asked);
         }
-        let (pass, outcome, more) = self.round(rt, gate, pass, left == ROUNDS);
+        let (outcome, more) = self.round(rt, gate, pass, left == ROUNDS);
         let asked = asked.saturating_add(more);
         match outcome {
-            Err(worked) => (pass, worked, asked),
+            Err(worked) => (worked, asked),
             Ok(()) => self.rounds(rt, gate, pass, left - 1, asked),
         }
     }
@@ -98,39 +97,33 @@ impl<'a> Task<'a> {
         &self,
         rt: &R,
         gate: &G,
-        pass: Pass<Core>,
+        pass: &mut Pass<Core>,
         first: bool,
-    ) -> (Pass<Core>, Result<(), Worked>, u32)
-        requires hall { IsPassOf self.now.hall.now pass }
-        requires budget { IsBudgetOf self.now.budget (known pass) }
-        ensures hall { IsPassOf self.now.hall.now result.0 }
-        ensures back { IfOk result.1 (λ _. GoesBack self.now.item self.now.budget (known pass) (known result.0)) }
-        ensures ends { IfErr result.1 (λ worked. EndsWork self.now.item self.now.budget (known pass) (known result.0) worked) }
+    ) -> (Result<(), Worked>, u32)
+        requires hall { IsPassOf self.now.hall.now pass.old }
+        requires budget { IsBudgetOf self.now.budget (known pass.old) }
+        ensures hall { IsPassOf self.now.hall.now pass.new }
+        ensures back { IfOk result.0 (λ _. GoesBack self.now.item self.now.budget (known pass.old) (known pass.new)) }
+        ensures ends { IfErr result.0 (λ worked. EndsWork self.now.item self.now.budget (known pass.old) (known pass.new) worked) }
     {
         longer_laws();
-        let (pass, lent) = self.lend(rt, pass);
-        match lent {
-            Err(worked) => (pass, Err(worked), 0),
+        match self.lend(rt, pass) {
+            Err(worked) => (Err(worked), 0),
             Ok((number, policy)) => self.committed(rt, gate, pass, first, number, policy),
         }
     }
 
     // The policy in force, with its number.
-    fn lend<R: Wait>(
-        &self,
-        rt: &R,
-        pass: Pass<Core>,
-    ) -> (Pass<Core>, Result<(u64, Arc<Policy>), Worked>)
-        requires hall { IsPassOf self.now.hall.now pass }
-        ensures hall { IsPassOf self.now.hall.now result.0 }
-        ensures lent { IfOk result.1 (λ lent. LendsIt lent.0 lent.1.value (known pass) (known result.0)) }
-        ensures broken { IfErr result.1 (λ worked. LendsNot worked (known pass) (known result.0)) }
+    fn lend<R: Wait>(&self, rt: &R, pass: &mut Pass<Core>) -> Result<(u64, Arc<Policy>), Worked>
+        requires hall { IsPassOf self.now.hall.now pass.old }
+        ensures hall { IsPassOf self.now.hall.now pass.new }
+        ensures lent { IfOk result (λ lent. LendsIt lent.0 lent.1.value (known pass.old) (known pass.new)) }
+        ensures broken { IfErr result (λ worked. LendsNot worked (known pass.old) (known pass.new)) }
     {
         longer_laws();
-        let mut pass = pass;
-        match self.hall.call(rt, &mut pass, Entry::ReadPolicy) {
-            Ok(reply) => (pass, lent(reply)),
-            Err(_) => (pass, Err(Worked::Worn)),
+        match self.hall.call(rt, pass, Entry::ReadPolicy) {
+            Ok(reply) => lent(reply),
+            Err(_) => Err(Worked::Worn),
         }
     }
 
@@ -139,49 +132,69 @@ impl<'a> Task<'a> {
         &self,
         rt: &R,
         gate: &G,
-        pass: Pass<Core>,
+        pass: &mut Pass<Core>,
         first: bool,
         number: u64,
         policy: Arc<Policy>,
-    ) -> (Pass<Core>, Result<(), Worked>, u32)
-        requires hall { IsPassOf self.now.hall.now pass }
-        requires small { (known pass).number < 2 ^ 62 }
-        requires budget { IsBudgetOf self.now.budget (known pass) × IsBudget self.now.budget }
-        requires told { IsTold number policy.value (seen pass) }
-        ensures hall { IsPassOf self.now.hall.now result.0 }
-        ensures back { IfOk result.1 (λ _. CommitsBack self.now.item self.now.budget number policy.value (known pass) (known result.0)) }
-        ensures ends { IfErr result.1 (λ worked. CommitsLast self.now.item self.now.budget number policy.value (known pass) (known result.0) worked) }
+    ) -> (Result<(), Worked>, u32)
+        requires hall { IsPassOf self.now.hall.now pass.old }
+        requires small { (known pass.old).number < 2 ^ 62 }
+        requires budget { IsBudgetOf self.now.budget (known pass.old) × IsBudget self.now.budget }
+        requires told { IsTold number policy.value (seen pass.old) }
+        ensures hall { IsPassOf self.now.hall.now pass.new }
+        ensures back { IfOk result.0 (λ _. CommitsBack self.now.item self.now.budget number policy.value (known pass.old) (known pass.new)) }
+        ensures ends { IfErr result.0 (λ worked. CommitsLast self.now.item self.now.budget number policy.value (known pass.old) (known pass.new) worked) }
     {
         longer_laws();
-        let (pass, recorded, asked) = self.recorded::<R, Brand>(rt, pass, &policy, number);
+        let (recorded, asked) = self.recorded(rt, pass, &policy, number);
         match recorded {
-            Err(worked) => (pass, Err(worked), asked),
+            Err(worked) => (Err(worked), asked),
             Ok(run) => {
                 tell_first(gate, &self.item, first);
-                let (pass, outcome) = self.commit(rt, pass, run);
-                (pass, outcome, asked)
+                (self.commit(rt, pass, run), asked)
             }
         }
     }
 
     // A run of a policy for the packet, over cells that are read for it. Also how many were asked.
-    fn recorded<R: Wait, J: Start>(
+    fn recorded<R: Wait>(
         &self,
         rt: &R,
-        pass: Pass<Core>,
+        pass: &mut Pass<Core>,
         policy: &Policy,
         number: u64,
-    ) -> (Pass<Core>, Result<Run, Worked>, u32)
-        requires hall { IsPassOf self.now.hall.now pass }
-        requires start { J.start ≡ known pass }
-        requires halls { J.halls ≡ place pass ∷ [] }
-        requires small { (known pass).number < 2 ^ 62 }
+    ) -> (Result<Run, Worked>, u32)
+        requires hall { IsPassOf self.now.hall.now pass.old }
+        requires small { (known pass.old).number < 2 ^ 62 }
         requires budget { IsBudget self.now.budget }
-        ensures hall { IsPassOf self.now.hall.now result.0 }
-        ensures run { IfOk result.1 (λ run. Records self.now.item self.now.budget number policy.now (known pass) (known result.0) run) }
-        ensures broken { IfErr result.1 (λ worked. RecordsNot (known pass) (known result.0) worked) }
+        ensures hall { IsPassOf self.now.hall.now pass.new }
+        ensures run { IfOk result.0 (λ run. Records self.now.item self.now.budget number policy.now (known pass.old) (known pass.new) run) }
+        ensures broken { IfErr result.0 (λ worked. RecordsNot (known pass.old) (known pass.new) worked) }
     {
-        let mut view = HallView::<R, J>::new(rt, self.hall, pass);
+        self.recorded_over::<R, Brand>(rt, pass, policy, number)
+            .into_value()
+    }
+
+    // The same, over a view that begins there, by this reference.
+    fn recorded_over<'p, R: Wait, J: Start>(
+        &'p self,
+        rt: &'p R,
+        pass: &'p mut Pass<Core>,
+        policy: &Policy,
+        number: u64,
+    ) -> Back<'p, (Result<Run, Worked>, u32)>
+        requires hall { IsPassOf self.now.hall.now pass.now }
+        requires start { J.start ≡ known pass.now }
+        requires halls { J.halls ≡ place pass.now ∷ [] }
+        requires name { J.name ≡ pass.ghost_name }
+        requires small { (known pass.now).number < 2 ^ 62 }
+        requires budget { IsBudget self.now.budget }
+        ensures same_reference { result.pass.ghost_name ≡ pass.entry.ghost_name }
+        ensures hall { IsPassOf self.now.hall.now result.pass.now }
+        ensures run { IfOk result.value.0 (λ run. Records self.now.item self.now.budget number policy.now (known pass.old) (known result.pass.now) run) }
+        ensures broken { IfErr result.value.0 (λ worked. RecordsNot (known pass.old) (known result.pass.now) worked) }
+    {
+        let mut view = HallView::<'p, R, J>::new(rt, self.hall, pass);
         let recorded = record(
             self.alloc,
             policy,
@@ -191,62 +204,56 @@ impl<'a> Task<'a> {
             self.item.key(),
             &mut view,
         );
-        let (pass, asked) = view.finish();
+        let Back { pass, value: asked } = view.finish();
         match recorded {
             Ok(run) => {
                 run.law();
-                (pass, Ok(run), asked)
+                let value = (Ok(run), asked);
+                Back { pass, value }
             }
-            Err(why) => (pass, Err(unrecorded(why)), asked),
+            Err(why) => {
+                let value = (Err(unrecorded(why)), asked);
+                Back { pass, value }
+            }
         }
     }
 
     // Commits a run of a policy that was lent.
-    fn commit<R: Wait>(
-        &self,
-        rt: &R,
-        pass: Pass<Core>,
-        run: Run,
-    ) -> (Pass<Core>, Result<(), Worked>)
-        requires hall { IsPassOf self.now.hall.now pass }
-        requires budget { IsBudgetOf self.now.budget (known pass) × (run.budget ≡ self.now.budget) }
+    fn commit<R: Wait>(&self, rt: &R, pass: &mut Pass<Core>, run: Run) -> Result<(), Worked>
+        requires hall { IsPassOf self.now.hall.now pass.old }
+        requires budget { IsBudgetOf self.now.budget (known pass.old) × (run.budget ≡ self.now.budget) }
         requires packet { (run.switch ≡ self.now.item.switch) × (run.key ≡ self.now.item.key) }
-        requires told { IsTold run.number run.policy (seen pass) }
-        ensures hall { IsPassOf self.now.hall.now result.0 }
-        ensures stale { IfOk result.1 (λ _. IsStaleCommit self.now.item.job run (known pass) (known result.0)) }
-        ensures ends { IfErr result.1 (λ worked. Ends self.now.item (CommitEntry self.now.item.job run) (known pass) (known result.0) worked) }
+        requires told { IsTold run.number run.policy (seen pass.old) }
+        ensures hall { IsPassOf self.now.hall.now pass.new }
+        ensures stale { IfOk result (λ _. IsStaleCommit self.now.item.job run (known pass.old) (known pass.new)) }
+        ensures ends { IfErr result (λ worked. Ends self.now.item (CommitEntry self.now.item.job run) (known pass.old) (known pass.new) worked) }
     {
         longer_laws();
         run.law();
-        let mut pass = pass;
         let job = self.item.job();
-        match self.hall.call(rt, &mut pass, Entry::Commit { job, run }) {
+        match self.hall.call(rt, pass, Entry::Commit { job, run }) {
             Ok(reply) => match ended(reply) {
-                Some(worked) => (pass, Err(worked)),
-                None => (pass, Ok(())),
+                Some(worked) => Err(worked),
+                None => Ok(()),
             },
-            Err(_) => (pass, Err(Worked::Worn)),
+            Err(_) => Err(Worked::Worn),
         }
     }
 
     // The machine decides itself.
-    fn decide<R: Wait>(&self, rt: &R, pass: Pass<Core>) -> (Pass<Core>, Worked)
-        requires hall { IsPassOf self.now.hall.now pass }
-        requires stale { 3 ≤ stale_count self.now.item.job (seen pass) }
-        ensures hall { IsPassOf self.now.hall.now result.0 }
-        ensures ends { Ends self.now.item (DecideEntry self.now.item.job) (known pass) (known result.0) result.1 }
+    fn decide<R: Wait>(&self, rt: &R, pass: &mut Pass<Core>) -> Worked
+        requires hall { IsPassOf self.now.hall.now pass.old }
+        requires stale { 3 ≤ stale_count self.now.item.job (seen pass.old) }
+        ensures hall { IsPassOf self.now.hall.now pass.new }
+        ensures ends { Ends self.now.item (DecideEntry self.now.item.job) (known pass.old) (known pass.new) result }
     {
         longer_laws();
-        let mut pass = pass;
-        match self
-            .hall
-            .call(rt, &mut pass, Entry::Decide(self.item.job()))
-        {
+        match self.hall.call(rt, pass, Entry::Decide(self.item.job())) {
             Ok(reply) => match ended(reply) {
-                Some(worked) => (pass, worked),
+                Some(worked) => worked,
                 None => unreachable!(),
             },
-            Err(_) => (pass, Worked::Worn),
+            Err(_) => Worked::Worn,
         }
     }
 }

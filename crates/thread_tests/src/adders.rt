@@ -16,9 +16,9 @@ pub struct Adder {
 }
 
 impl Works<Sum, u32> for Adder {
-    ghost suits = { λ m. Unit {0} };
+    ghost suits = { λ w m. Unit {0} };
 
-    ghost makes = { λ item worked calls. IsAdded item worked calls };
+    ghost makes = { λ w item worked calls. IsAdded item worked calls };
 
     #[tactic(auto, using(crate::proofs::Added::added_none, crate::proofs::Added::added_one, crate::proofs::Added::added_worn))]
     fn work<R: Wait>(

@@ -49,3 +49,8 @@ module _ {M E R T : Type 0} where
     pub drove : drives begun started mine account
     pub toiled : Toiled makes mine account outcome x w
     pub led : IsTrue u.leads → IsAllowedSince allows x.seen mine.seen
+
+  -- the same, of both passes before and behind
+  abbrev pub CrewedFrom : (T → Worked → List (Event M E R) → Type 0) → (List (Event M E R) → E → Type 0) → (Known M E R → Account T → Known M E R → Account T → Type 0) → ℕ
+      → Known M E R × Account T → Worked → Known M E R × Account T → Type 0
+  CrewedFrom makes allows drives count before outcome behind = Crewed makes allows drives count before.0 before.1 outcome behind.0 behind.1

@@ -9,8 +9,8 @@
 ghost use Rattle.std.specs.Prelude.{◌≡◌, ◌+◌, ◌-◌, ◌<◌, ◌≤◌, [], IfSome, IsFalse};
 ghost use Rattle.std.specs.Thread.{IsSync};
 ghost use Rattle.history_lock.specs.Passes.{IsPassOf, known, leads, opening, own, parts};
-ghost use Rattle.worker_crew.specs.Crews.{Crewed, IsReady, IsShareOf, TakesIn};
-ghost use Rattle.worker_crew.specs.Takers.{IsTakerOf, account, shares};
+ghost use Rattle.worker_crew.specs.Crews.{CrewedFrom, IsReady, IsShareOf, TakesIn};
+ghost use Rattle.worker_crew.specs.Takers.{IsTakerOf, account, both, shares};
 ghost use Rattle.worker_crew.specs.Tasks.{Toiled};
 
 use crate::drives::Drives;
@@ -75,12 +75,12 @@ where
     requires hall { IsPassOf hall.now pass }
     requires taker { IsTakerOf jobs.now taker }
     requires few { (count < parts pass) × (count < shares taker) }
-    requires suits { IfSome (opening pass) W.suits }
+    requires suits { IfSome (opening pass) (W.suits works.now) }
     requires ready { IsReady count (D.ready driver) (known pass) (account taker) }
     ensures stays { IsPassOf hall.now result.0 × (opening result.0 ≡ opening pass) × (parts result.0 ≡ parts pass) }
     ensures leads { leads result.0 ≡ leads pass }
     ensures taker { IsTakerOf jobs.now result.1 × (shares result.1 ≡ shares taker) }
-    ensures crewed { Crewed W.makes M.allows (D.drives driver result.3) count (known pass) (account taker) result.2 (known result.0) (account result.1) }
+    ensures crewed { CrewedFrom (W.makes works.now) M.allows (D.drives driver result.3) count (both pass taker) result.2 (both result.0 result.1) }
 {
     if count == 0 {
         driver.drive(rt, hall, &mut pass, jobs, &mut taker, lobby);
@@ -93,22 +93,22 @@ where
     let ((theirs, second, last), (mut pass, mut taker, first, driver)) = join(
         rt,
         move || -> (Pass<M>, JobPass<T>, Result<(), GaveUp>)
-            requires { IsPassOf hall.now theirs × IsTakerOf jobs.now second × IfSome (opening theirs) W.suits }
+            requires { IsPassOf hall.now theirs × IsTakerOf jobs.now second × IfSome (opening theirs) (W.suits works.now) }
             ensures stays { IsPassOf hall.entry.now result.0 × (parts result.0 ≡ parts theirs) × (leads result.0 ≡ leads theirs) }
             ensures taker { IsTakerOf jobs.entry.now result.1 × (shares result.1 ≡ shares second) }
-            ensures toiled { Toiled W.makes (known theirs) (account second) result.2 (known result.0) (account result.1) }
+            ensures toiled { Toiled (W.makes works.entry.now) (known theirs) (account second) result.2 (known result.0) (account result.1) }
         {
             let outcome = serve(rt, hall, &mut theirs, jobs, &mut second, lobby, works);
             (theirs, second, outcome)
         },
         move || -> (Pass<M>, JobPass<T>, Result<(), GaveUp>, D)
-            requires passes { IsSync R.row × IsSync W.row × IsPassOf hall.now pass × IsTakerOf jobs.now taker × IfSome (opening pass) W.suits }
+            requires passes { IsSync R.row × IsSync W.row × IsPassOf hall.now pass × IsTakerOf jobs.now taker × IfSome (opening pass) (W.suits works.now) }
             requires few { (less < parts pass) × (less < shares taker) }
             requires ready { IsReady less (D.ready driver) (known pass) (account taker) }
             ensures stays { IsPassOf hall.entry.now result.0 × (opening result.0 ≡ opening pass) × (parts result.0 ≡ parts pass) }
             ensures leads { leads result.0 ≡ leads pass }
             ensures taker { IsTakerOf jobs.entry.now result.1 × (shares result.1 ≡ shares taker) }
-            ensures crewed { Crewed W.makes M.allows (D.drives driver result.3) less (known pass) (account taker) result.2 (known result.0) (account result.1) }
+            ensures crewed { CrewedFrom (W.makes works.entry.now) M.allows (D.drives driver result.3) less (both pass taker) result.2 (both result.0 result.1) }
         { with_workers(rt, hall, pass, jobs, taker, lobby, works, driver, less) },
     );
     take_in(hall, &mut pass, theirs);

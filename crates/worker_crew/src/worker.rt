@@ -23,11 +23,11 @@ fn work_one<R: Wait, M: Machine, T, W: Works<M, T>>(
 ) -> Option<Result<(), GaveUp>>
     requires hall { IsPassOf hall.now pass.old }
     requires taker { IsTakerOf jobs.now taker.old }
-    requires suits { IfSome (opening pass.old) W.suits }
+    requires suits { IfSome (opening pass.old) (W.suits works.now) }
     ensures stays { IsPassOf hall.now pass.new × (opening pass.new ≡ opening pass.old) × (parts pass.new ≡ parts pass.old) }
     ensures leads { leads pass.new ≡ leads pass.old }
     ensures taker { IsTakerOf jobs.now taker.new × (shares taker.new ≡ shares taker.old) }
-    ensures some { IfSome result (λ worked. Toiled W.makes (known pass.old) (account taker.old) worked (known pass.new) (account taker.new)) }
+    ensures some { IfSome result (λ worked. Toiled (W.makes works.now) (known pass.old) (account taker.old) worked (known pass.new) (account taker.new)) }
     ensures none { IfNone result ((known pass.new ≡ known pass.old) × (account taker.new ≡ account taker.old)) }
 {
     let item = jobs.take(rt, taker)?;
@@ -50,11 +50,11 @@ pub fn serve<R: Wait, M: Machine, T, W: Works<M, T>>(
 ) -> Result<(), GaveUp>
     requires hall { IsPassOf hall.now pass.old }
     requires taker { IsTakerOf jobs.now taker.old }
-    requires suits { IfSome (opening pass.old) W.suits }
+    requires suits { IfSome (opening pass.old) (W.suits works.now) }
     ensures stays { IsPassOf hall.now pass.new × (opening pass.new ≡ opening pass.old) × (parts pass.new ≡ parts pass.old) }
     ensures leads { leads pass.new ≡ leads pass.old }
     ensures taker { IsTakerOf jobs.now taker.new × (shares taker.new ≡ shares taker.old) }
-    ensures toiled { Toiled W.makes (known pass.old) (account taker.old) result (known pass.new) (account taker.new) }
+    ensures toiled { Toiled (W.makes works.now) (known pass.old) (account taker.old) result (known pass.new) (account taker.new) }
 {
     lobby.announce(rt);
     let mut closed = false;

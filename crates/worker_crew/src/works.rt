@@ -12,10 +12,10 @@ use std::sync::Wait;
 /// What workers do with an item, at a machine.
 pub trait Works<M: Machine, T> {
     /// What the machine was when its hall was opened.
-    ghost suits: { M → Type 0 };
+    ghost suits: { Self → M → Type 0 };
 
     /// The calls that come of an item, with their replies, where it was worked and where the worker gave up.
-    ghost makes: { T → Worked → List (Event M M.Entry M.Reply) → Type 0 };
+    ghost makes: { Self → T → Worked → List (Event M M.Entry M.Reply) → Type 0 };
 
     /// Works one item. `Worn` comes only where the hall takes no more calls.
     fn work<R: Wait>(
@@ -26,9 +26,9 @@ pub trait Works<M: Machine, T> {
         item: T,
     ) -> Result<(), GaveUp>
         requires hall { IsPassOf hall.now pass.old }
-        requires suits { IfSome (opening pass.old) suits }
+        requires suits { IfSome (opening pass.old) (suits self.now) }
         ensures stays { IsPassOf hall.now pass.new × (opening pass.new ≡ opening pass.old) × (parts pass.new ≡ parts pass.old) }
         ensures leads { leads pass.new ≡ leads pass.old }
-        ensures made { OneWork makes item result (known pass.old) (known pass.new) }
+        ensures made { OneWork (makes self.now) item result (known pass.old) (known pass.new) }
         ensures worn { result ≡ Err Worn → 2 ^ 62 ≤ number pass.new };
 }

@@ -7,4 +7,4 @@ use Rattle.worker_crew.proofs.worker.serve.Given as goal
 abbrev pub invariant-loop : goal.invariant-loop
 invariant-loop g l =
     IsPassOf l.hall l.pass × (parts l.pass ≡ parts l.fn.pass) × (opening l.pass ≡ opening l.fn.pass) × (leads l.pass ≡ leads l.fn.pass) × IsTakerOf l.jobs l.taker × (shares l.taker ≡ shares l.fn.taker)
-    × Toiled g.W.Works.makes (known l.fn.pass) (account l.fn.taker) (Ok tt) (known l.pass) (account l.taker)
+    × Toiled (g.W.Works.makes l.works) (known l.fn.pass) (account l.fn.taker) (Ok tt) (known l.pass) (account l.taker)

@@ -6,9 +6,9 @@ use Rattle.packet_workers.proofs.working.Task.+rounds.Goals as goal
 
 pub returns-in-Err-clause-does : goal.returns-in-Err-clause-does
 returns-in-Err-clause-does g t c =
-    does_end c.args.self.now.item c.args.self.now.budget (known c.args.pass) (known c.round-pass.result.0) _ c.args.left (c.args.left - 1) (omega arith) (err_at c.round-pass.result.1 _ _ c.in-Err.is c.round-pass.ensures.ends)
+    does_end c.args.self.now.item c.args.self.now.budget (known c.args.pass.now) (known c.round-outcome.new.pass) _ c.args.left (c.args.left - 1) (omega arith) (err_at c.round-outcome.result.0 _ _ c.in-Err.is c.round-outcome.ensures.ends)
 
 pub returns-in-Ok-clause-does : goal.returns-in-Ok-clause-does
 returns-in-Ok-clause-does g t c =
-    does_more c.args.self.now.item c.args.self.now.budget (known c.args.pass) (known c.round-pass.result.0) (known c.rounds.result.0) _ c.args.left (c.args.left - 1) (omega arith)
-    (ok_at c.round-pass.result.1 _ _ c.in-Ok.is c.round-pass.ensures.back) c.rounds.ensures.does
+    does_more c.args.self.now.item c.args.self.now.budget (known c.args.pass.now) (known c.round-outcome.new.pass) (known c.rounds.new.pass) _ c.args.left (c.args.left - 1) (omega arith)
+    (ok_at c.round-outcome.result.0 _ _ c.in-Ok.is c.round-outcome.ensures.back) c.rounds.ensures.does
