@@ -1,6 +1,7 @@
 -- An entry at the desk.
 use Rattle.std.proofs.Common.{◌≡◌, ℕ, Bool, false, List, [], ◌∷◌, ◌++◌, length, ap, refl, subst, sym, ◌∙◌}
 use Rattle.atomic_table.specs.Seated.{TableId}
+use Rattle.std.proofs.lemmas.List.{append_assoc}
 use Rattle.history_lock.specs.declared.view.Known.{Known}
 use Rattle.history_lock.specs.Histories.{AreAllowed, Calls, Replays, event, state_behind}
 use Rattle.history_lock.proofs.States.{replays_end}
@@ -14,7 +15,7 @@ use Rattle.machine_steps.specs.Machine.{State}
 use Rattle.machine_sharing.specs.Between.{Stays}
 use Rattle.machine_sharing.specs.Legal.{turn_of, turns_of}
 use Rattle.machine_sharing.specs.Sharing.{Call, Allows, Turns}
-use Rattle.machine_desk.specs.Desks.{Enters, IsDesk, IsTold, calls_of, turn, view_by}
+use Rattle.machine_desk.specs.Desks.{Enters, IsDesk, IsMarked, IsTold, calls_of, turn, view_by}
 use Rattle.machine_desk.specs.Driving.{DeskLaws}
 use Rattle.machine_desk.proofs.Told.{learning_told, told_by}
 use Rattle.machine_desk.proofs.Turning.{calls_same, nothing_behind, turns_append, turns_length}
@@ -71,8 +72,8 @@ module _ (laws : DeskLaws) (old new : Seen) (start : State) (worn : Bool) (entry
   alone : old.parts ≡ 1024 → turns_of ahead rest ≡ []
   alone all = ap (turns_of ahead) (nothing_behind old.seen rest (sym c.later.1 ∙ c.alone all))
 
-  pub enters : (p q : TableId) → q ≡ p → new.parts ≡ old.parts → Enters (view_by p old start worn) entry reply (view_by q new start worn)
-  enters p q there parts = record {
+  pub enters : (p q : TableId) (mark : Seen) → q ≡ p → new.parts ≡ old.parts → Enters (view_by p old mark start worn) entry reply (view_by q new mark start worn)
+  enters p q mark there parts = record {
     others = turns_of ahead rest;
     allowed = allowed;
     between = c.before;
@@ -82,8 +83,20 @@ module _ (laws : DeskLaws) (old new : Seen) (start : State) (worn : Bool) (entry
     own = own;
     small = c.small;
     alone = alone;
-    same = record { place = there; start = refl; parts = parts; worn = refl };
+    footing = λ i. record { place = there i; start = start; parts = parts i; marked = turns_of start mark.seen };
+    worn = refl;
   }
+
+  -- what was seen at the mark was seen
+  pub is_marked : (mark : Seen) → IsMarked mark old → IsMarked mark new
+  is_marked mark begun = (
+    begun.0 ++ (rest ++ event entry reply c.behind ∷ []),
+    (
+        c.seen
+        ∙ ap (λ x. x ++ event entry reply c.behind ∷ []) (c.later.1 ∙ ap (λ x. x ++ rest) begun.1)
+        ∙ append_assoc (mark.seen ++ begun.0) rest (event entry reply c.behind ∷ [])
+        ∙ append_assoc mark.seen begun.0 (rest ++ event entry reply c.behind ∷ [])),
+  )
 
   legal : Replays Turns start new.seen (state_behind start new.seen)
   legal =

@@ -2,7 +2,7 @@
 use Rattle.std.specs.Prelude.{◌≡◌, ℕ, ◌^◌, ◌<◌, ◌≤◌, Bool, true, List, [], ◌∷◌, ◌++◌, length, map, Some, IsTrue}
 use Rattle.atomic_table.specs.Seated.{TableId}
 use Rattle.history_lock.specs.declared.view.Known.{Known}
-use Rattle.history_lock.specs.Histories.{AreAllowed, Replays, state_behind}
+use Rattle.history_lock.specs.Histories.{AreAllowed, Replays, StartsWith, state_behind}
 use Rattle.machine_steps.specs.declared.entry.Entry.{Entry}
 use Rattle.machine_steps.specs.declared.entry.Entry.TheVariants.{NewPolicy}
 use Rattle.machine_steps.specs.declared.reply.Reply.{Reply}
@@ -12,26 +12,30 @@ use Rattle.machine_steps.specs.Sound.{IsSound}
 use Rattle.machine_sharing.specs.Legal.{call_of, turns_of}
 use Rattle.machine_sharing.specs.Sharing.{Call, Allows, Turns}
 
--- which hall it is, the machine as it was when that was opened, all turns of the machine so far as the desk knows them, and the machine behind them; the
--- positions of its own among these turns; the parts of its pass, the number that its last call read, and whether it found the hall worn
-pub record DeskView : Type 0 where
+-- what no entry changes: which hall it is, the machine as it was when that was opened, the parts of the desk's pass, and the turns ahead of the last mark
+pub record Footing : Type 0 where
   pub place : TableId
   pub start : State
+  pub parts : ℕ
+  pub marked : List Turn
+
+-- all turns of the machine so far as the desk knows them, and the machine behind them; the positions of its own among these turns, the number that its last
+-- call read, and whether it found the hall worn
+pub record DeskView : Type 0 where
+  pub footing : Footing
   pub past : List Turn
   pub now : State
   pub own : List ℕ
-  pub parts : ℕ
   pub number : ℕ
   pub worn : Bool
 
-abbrev pub view_by : TableId → Known State Entry Reply → State → Bool → DeskView
-view_by place k start worn = record {
-  place = place;
-  start = start;
+-- by what its pass knows, and what that knew at the last mark
+abbrev pub view_by : TableId → Known State Entry Reply → Known State Entry Reply → State → Bool → DeskView
+view_by place k mark start worn = record {
+  footing = record { place = place; start = start; parts = k.parts; marked = turns_of start mark.seen };
   past = turns_of start k.seen;
   now = state_behind start k.seen;
   own = k.own;
-  parts = k.parts;
   number = k.number;
   worn = worn;
 }
@@ -55,10 +59,15 @@ pub record IsTold (learning : Bool) (budget : ℕ) (now : State) : Type 0 where
 abbrev pub IsDriven : Known State Entry Reply → State → Bool → Bool → ℕ → Type 0
 IsDriven k start worn learning budget = IsDesk k start worn × IsTold learning budget (state_behind start k.seen)
 
--- the desk's machine is sound, and its turns are a legal history of the one that it was at first
+-- the pass has seen all that it had seen at the mark
+abbrev pub IsMarked : Known State Entry Reply → Known State Entry Reply → Type 0
+IsMarked mark k = StartsWith k.seen mark.seen
+
+-- the desk's machine is sound, and its turns are a legal history of the one that it was at first, which begins with those ahead of the mark
 pub record DeskLaw (d : DeskView) : Type 0 where
   pub sound : IsSound d.now
-  pub legal : Leads d.start d.past d.now
+  pub legal : Leads d.footing.start d.past d.now
+  pub begins : StartsWith d.past d.footing.marked
   pub full : d.worn ≡ true → 2 ^ 62 ≤ d.number
 
 -- ---- an entry
@@ -68,13 +77,6 @@ calls_of turns = map call_of turns
 
 abbrev pub turn : State → Entry → Reply → State → Turn
 turn before entry reply behind = record { before = before; entry = entry; reply = reply; behind = behind }
-
--- it is the same desk
-pub record SameDesk (a b : DeskView) : Type 0 where
-  pub place : b.place ≡ a.place
-  pub start : b.start ≡ a.start
-  pub parts : b.parts ≡ a.parts
-  pub worn : b.worn ≡ a.worn
 
 -- others did what they may, and then the entry was made, once by this desk; who has all parts has nobody beside
 pub record Enters (a : DeskView) (entry : Entry) (reply : Reply) (b : DeskView) : Type 0 where
@@ -86,8 +88,9 @@ pub record Enters (a : DeskView) (entry : Entry) (reply : Reply) (b : DeskView) 
   pub past : b.past ≡ (a.past ++ others) ++ turn between entry reply b.now ∷ []
   pub own : b.own ≡ a.own ++ length (a.past ++ others) ∷ []
   pub small : b.number < 2 ^ 62
-  pub alone : a.parts ≡ 1024 → others ≡ []
-  pub same : SameDesk a b
+  pub alone : a.footing.parts ≡ 1024 → others ≡ []
+  pub footing : b.footing ≡ a.footing
+  pub worn : b.worn ≡ a.worn
 
 -- the hall has room for no further entry; nothing was made
 pub record WearsOut (a b : DeskView) : Type 0 where

@@ -1,6 +1,7 @@
--- A reader must believe: Desks (what who drives the machine knows of it, and what an entry does), Orders (what an operator's orders do), Reports (how the
+-- A reader must believe: Desks (what who drives the machine knows of it, and what an entry does), Openings (what a desk is made of), Orders (what an operator's orders do), Reports (how the
 -- report is written). Driving names the laws that the desk rests on.
 pub mod Desks
 pub mod Driving
+pub mod Openings
 pub mod Orders
 pub mod Reports

@@ -31,6 +31,7 @@ impl<'h> Desk<'h> {
         requires admits { Admits self.old.now entry }
         ensures ok { IfOk result (λ reply. Asks entry reply self.old self.new) }
         ensures stops { IfErr result (λ stop. Stops stop entry self.old self.new) }
+        ensures footing { self.new.footing ≡ self.old.footing }
     {
         match self.enter(rt, entry) {
             Ok(Reply::NoMemory) => Err(DeskStop::NoMemory),
@@ -48,6 +49,7 @@ impl<'h> Desk<'h> {
         requires operators { IsOperators update }
         ensures ok { IfOk result (λ made. Changes update made self.old self.new) }
         ensures stops { IfErr result (λ stop. Stops stop (entries.Change update) self.old self.new) }
+        ensures footing { self.new.footing ≡ self.old.footing }
     {
         let reply = self.ask(rt, Entry::Change(update))?;
         Ok(is_new_state(&reply))
@@ -61,6 +63,7 @@ impl<'h> Desk<'h> {
     pub fn renew<R: Wait>(&mut self, rt: &R, alloc: Global, text: &[u8]) -> Result<bool, DeskStop>
         ensures ok { IfOk result (λ accepted. Renews accepted text.now self.old self.new) }
         ensures stops { IfErr result (λ stop. StopsRenewing stop self.old self.new) }
+        ensures footing { self.new.footing ≡ self.old.footing }
     {
         match read_policy(alloc, text) {
             Ok(policy) => {
@@ -83,6 +86,7 @@ impl<'h> Desk<'h> {
     pub fn list_rules<R: Wait>(&mut self, rt: &R, switch: u64) -> Result<(), DeskStop>
         ensures ok { OnOk result (Asked (entries.ReadRules switch) self.old self.new) }
         ensures stops { IfErr result (λ stop. Stops stop (entries.ReadRules switch) self.old self.new) }
+        ensures footing { self.new.footing ≡ self.old.footing }
     {
         self.ask(rt, Entry::ReadRules(switch))?;
         Ok(())

@@ -1,12 +1,15 @@
 // Who drives the machine, by the pass that leads.
 ghost use Rattle.std.specs.Prelude.{◌≡◌, ◌^◌, ◌≤◌, [], false, if◌then◌else◌, IfOk, IsTrue, OnErr, OnOk, Some, length, true};
-ghost use Rattle.history_lock.specs.Passes.{IsPassOf, hall as place_of, known, leads, number, opening, parts, seen};
+ghost use Rattle.history_lock.specs.Passes.{IsPassOf, hall as place_of, known, leads, number, opening, own, parts, seen};
 ghost use Rattle.machine_moves.specs.Told.{is_new_state};
 ghost use Rattle.machine_steps.specs.Admitting.{Admits};
 ghost use Rattle.machine_steps.specs.Sound.{IsSound};
+ghost use Rattle.machine_sharing.specs.Legal.{turns_of};
+ghost use Rattle.machine_desk.specs.Openings.{IsAhead};
 ghost use Rattle.machine_desk.specs.Desks.{DeskLaw, Enters, WearsOut, learning_behind, view_by};
 
 use crate::laws::desk_laws;
+use crate::opening::Opening;
 use core_machine::{Core, Entry, Reply};
 use history_lock::{Hall, Pass};
 use std::marker::Model;
@@ -24,6 +27,7 @@ pub struct Desk<'h> {
     hall: &'h Hall<Core>,
     pass: Pass<Core>,
     start: Snapshot<Core>,
+    mark: Snapshot<Pass<Core>>,
     learning: bool,
     budget: u32,
     worn: bool,
@@ -35,40 +39,36 @@ impl<'h> Model for Desk<'h> {
     ghost use Rattle.machine_steps.specs.contracts.entry.Entry as entry;
     ghost use Rattle.machine_steps.specs.contracts.reply.Reply as reply;
     ghost use Rattle.history_lock.specs.Passes.{IsPassOf, hall as place_of, known};
-    ghost use Rattle.machine_desk.specs.Desks.{DeskView, IsDriven, view_by};
+    ghost use Rattle.machine_desk.specs.Desks.{DeskView, IsDriven, IsMarked, view_by};
 
     ghost Value = { DeskView };
 
     ghost coded = { Prim.hlevel (codes, machine.the_row.coded, entry.the_row.coded, reply.the_row.coded) };
 
-    ghost view = { λ d. view_by (place_of d.pass) (known d.pass) d.start.value d.worn };
+    ghost view = { λ d. view_by (place_of d.pass) (known d.pass) (known d.mark.value) d.start.value d.worn };
 
-    ghost invariant = { λ d. IsPassOf d.hall.now d.pass × IsDriven (known d.pass) d.start.value d.worn d.learning d.budget };
+    ghost invariant = { λ d. IsPassOf d.hall.now d.pass × IsDriven (known d.pass) d.start.value d.worn d.learning d.budget × IsMarked (known d.mark.value) (known d.pass) };
 }
 
 impl<'h> Desk<'h> {
-    /// The desk of a hall that was just opened with a machine, whose policy learns where hosts are or not, and whose runs
-    /// have so many steps at most.
-    pub fn new(
-        hall: &'h Hall<Core>,
-        pass: Pass<Core>,
-        start: Snapshot<Core>,
-        learning: bool,
-        budget: u32,
-    ) -> Desk<'h>
-        requires hall { IsPassOf hall.now pass }
-        requires leads { IsTrue (leads pass) }
-        requires opens { opening pass ≡ Some start.value }
-        requires nothing { seen pass ≡ [] }
-        requires sound { IsSound start.value }
-        requires learning { learning ≡ start.value.policy.learning }
-        requires budget { budget ≡ start.value.settings.budget }
-        ensures { result ≡ view_by (place_of pass) (known pass) start.value false }
+    /// The desk of a hall that was just opened.
+    pub fn new(hall: &'h Hall<Core>, opening: Opening) -> Desk<'h>
+        requires hall { IsPassOf hall.now opening.pass }
+        requires ahead { IsAhead opening }
+        ensures { result ≡ view_by (place_of opening.pass) (known opening.pass) (known opening.pass) opening.start.value false }
     {
+        let Opening {
+            pass,
+            start,
+            learning,
+            budget,
+        } = opening;
+        let mark = Snapshot::of(&pass);
         Desk {
             hall,
             pass,
             start,
+            mark,
             learning,
             budget,
             worn: false,
@@ -85,6 +85,7 @@ impl<'h> Desk<'h> {
         ensures ok { IfOk result (λ reply. Enters self.old entry reply self.new) }
         ensures worn { OnErr result (WearsOut self.old self.new) }
         ensures again { OnOk result (self.old.worn ≡ false) }
+        ensures footing { self.new.footing ≡ self.old.footing }
     {
         desk_laws();
         if self.worn {
@@ -101,6 +102,13 @@ impl<'h> Desk<'h> {
                 Err(Worn)
             }
         }
+    }
+
+    /// Marks the turns so far: whatever is done next, the history goes on from here.
+    pub fn mark(&mut self)
+        ensures { self.new ≡ record self.old { footing = record self.old.footing { marked = self.old.past } } }
+    {
+        self.mark = Snapshot::of(&self.pass);
     }
 
     /// Whether the policy in force learns where hosts are.
@@ -134,10 +142,12 @@ impl<'h> Desk<'h> {
 
     /// The pass again, with which the hall can be closed where it has all parts.
     pub fn end(self) -> Pass<Core>
-        ensures view { view_by (place_of result) (known result) self.entry.start self.entry.worn ≡ self.entry }
+        ensures hall { place_of result ≡ self.entry.footing.place }
         ensures leads { IsTrue (leads result) }
-        ensures opens { opening result ≡ Some self.entry.start }
-        ensures past { length (seen result) ≡ length self.entry.past }
+        ensures parts { parts result ≡ self.entry.footing.parts }
+        ensures opens { opening result ≡ Some self.entry.footing.start }
+        ensures past { turns_of self.entry.footing.start (seen result) ≡ self.entry.past }
+        ensures own { (own result ≡ self.entry.own) × (number result ≡ self.entry.number) }
     {
         let Desk { pass, .. } = self;
         pass

@@ -4,9 +4,11 @@
 pub mod asking;
 pub mod desk;
 pub mod laws;
+pub mod opening;
 pub mod report;
 
 pub use asking::DeskStop;
 pub use desk::{Desk, Worn};
 pub use laws::desk_laws;
+pub use opening::{Opening, close_hall, open_hall};
 pub use report::ReportStop;

@@ -29,6 +29,7 @@ impl<'h> Desk<'h> {
     pub fn write_report<R: Wait, O: Sink>(&mut self, rt: &R, out: &mut O) -> Result<(), ReportStop>
         ensures reports { ReportsBy result self.old self.new (O.tells out.old) (O.tells out.new) }
         ensures spared { result ≢ Err stops.Failed → NoWriteFailed (O.tells out.old) (O.tells out.new) }
+        ensures footing { self.new.footing ≡ self.old.footing }
     {
         match self.enter(rt, Entry::TakeReport) {
             Ok(Reply::Lines(text)) => match put_all(out, text.items()) {

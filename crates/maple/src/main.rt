@@ -34,7 +34,7 @@ fn main(rt: HostRuntime) -> ExitCode {
         Ok(words) => {
             let mut input = ReadSource::new(rt.stdin());
             let mut output = WriteSink::new(rt.stdout());
-            run_program(rt.alloc(), &words, &mut input, &mut output)
+            run_program(&rt, rt.alloc(), &words, &mut input, &mut output)
         }
         Err(NoMemory) => Status::NoMemory,
     };

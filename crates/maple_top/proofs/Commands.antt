@@ -11,7 +11,7 @@ use Rattle.device_port.specs.Devices.{Meaning}
 use Rattle.script_text.specs.Lines.{ended_lines}
 use Rattle.sim_driver.specs.Runs.{given}
 use Rattle.maple_top.specs.declared.status.Status.{Status}
-use Rattle.maple_top.specs.declared.status.Status.TheVariants.{Done, Usage, Policy as PolicyRefused, Script, ReadFault, WriteFault, NoMemory, TooLong}
+use Rattle.maple_top.specs.declared.status.Status.TheVariants.{Done, Usage, Policy as PolicyRefused, Script, ReadFault, WriteFault, NoMemory, TooLong, Worn}
 use Rattle.maple_top.specs.declared.words.Command.{Command}
 use Rattle.maple_top.specs.declared.words.Command.TheVariants.{Sim, Check}
 use Rattle.maple_top.specs.Due.{AreSim, HasCommand, HasNone}
@@ -48,6 +48,7 @@ module _ (old new : SinkView) (before after : List Meaning) (input : List ℕ) w
   printed policy WriteFault (failed, (front, is, a)) = (failed, (front, (refl, is), a))
   printed policy NoMemory (front, is, a) = (front, (refl, is), a)
   printed policy TooLong e = (e.0, (policy_text policy, (refl, refl), e.1))
+  printed policy Worn e = absurd (let no = e.0 in cc)
 
   pub ran_check : (command : Command) (policy : Policy) (s : Status) → command ≡ Check → IsTextOf policy (policy_part input)
       → Ends old new Done (policy_text policy) s → RunsText old new before before command input s

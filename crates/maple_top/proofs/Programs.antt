@@ -13,7 +13,7 @@ use Rattle.sim_steps.specs.Showing.{AllIdle, AllKeep}
 use Rattle.sim_driver.specs.declared.drive.SimEnd.{SimEnd}
 use Rattle.sim_driver.specs.declared.drive.SimEnd.TheVariants as ends
 use Rattle.maple_top.specs.declared.status.Status.{Status}
-use Rattle.maple_top.specs.declared.status.Status.TheVariants.{Done, Usage, Policy as PolicyRefused, Script, ReadFault, WriteFault, NoMemory, TooLong}
+use Rattle.maple_top.specs.declared.status.Status.TheVariants.{Done, Usage, Policy as PolicyRefused, Script, ReadFault, WriteFault, NoMemory, TooLong, Worn}
 use Rattle.maple_top.specs.declared.words.Command.{Command}
 use Rattle.maple_top.specs.declared.words.Command.TheVariants.{Sim, Check}
 use Rattle.maple_top.specs.Due.{AreWords, Cuts, IsCut, IsDue, IsExact, IsOrUnwritten, IsReading, IsReport, IsReportOf, IsText, IsUnread, OfInput, Refuses, StopsAtFailure, Tells}
@@ -104,8 +104,8 @@ module _ (source left : SourceView) (old new : SinkView) (after : List Meaning) 
 
   right : (policy : Policy) (command : Command) (text : List ℕ) → IsReportOf policy command (given heard) program_devices after text
       → IsRightText policy command (given heard) text
-  right policy (Sim settings) text (report, followed, text_is) =
-      record { after = after; report = report; followed = followed; text_is = text_is; world = followed.run.world devices_keep }
+  right policy (Sim settings) text (report, (history, followed), text_is) =
+      record { after = after; history = history; report = report; followed = followed; text_is = text_is; world = followed.run.world devices_keep }
   right policy Check text r = r.1
 
   reports : (s : Status) → tells_end heard ≡ true → IsDue s (length program_devices) words (given heard) → (text : List ℕ) → IsReport words (given heard) program_devices after text
@@ -130,6 +130,7 @@ module _ (source left : SourceView) (old new : SinkView) (after : List Meaning) 
   unread_text WriteFault text t = absurd t
   unread_text NoMemory text t = absurd t
   unread_text TooLong text t = t
+  unread_text Worn text t = absurd t
 
   cut_heard : (end : SimEnd) (text : List ℕ) → IsCut end (tells_end heard ≡ true) (IsUnread source left) words (given heard) program_devices text
       → IsCut end (tells_end heard ≡ true) (fails heard ≡ true) words (given heard) program_devices text
@@ -164,6 +165,7 @@ module _ (source left : SourceView) (old new : SinkView) (after : List Meaning) 
   ran_by TooLong p = let due = at_input (p.too_long refl) heard is in (last_line TooLong, (due.0, due.1, refl), p.too_long_text refl)
   ran_by WriteFault p = let (text, cut, wrote) = at_input p.cut heard is in (text, cut_heard ends.WriteFault text cut, wrote)
   ran_by NoMemory p = let (text, cut, wrote) = at_input p.cut heard is in (text, cut_heard ends.NoMemory text cut, wrote)
+  ran_by Worn p = let (end, (text, short, wrote)) = at_input p.told heard is in (text, (end, after, short), wrote)
 
   front_of : (text : List ℕ) → Wrote old new text → WroteFront old new (last_line ReadFault) → IsFront text (last_line ReadFault)
   front_of text wrote (front, f, w) =
@@ -204,7 +206,7 @@ never_run source old words = record {
   text = [];
   wrote = wrote_nothing old;
   run = inr (inl refl);
-  exact = λ status due. inr (inr (inr refl));
+  exact = λ status due. inr (inr (inr (inl refl)));
   reading = (omega arith, inl refl);
   unread = λ n. refl;
   first = λ f. absurd (let no = f in cc);

@@ -12,10 +12,10 @@ use Rattle.device_port.specs.Devices.{Meaning}
 use Rattle.sim_driver.specs.declared.drive.SimEnd.{SimEnd}
 use Rattle.sim_driver.specs.declared.drive.SimEnd.TheVariants as ends
 use Rattle.maple_top.specs.declared.status.Status.{Status}
-use Rattle.maple_top.specs.declared.status.Status.TheVariants.{Done, Usage, Policy as PolicyRefused, Script, ReadFault, WriteFault, NoMemory, TooLong}
+use Rattle.maple_top.specs.declared.status.Status.TheVariants.{Done, Usage, Policy as PolicyRefused, Script, ReadFault, WriteFault, NoMemory, TooLong, Worn}
 use Rattle.maple_top.specs.declared.words.Command.{Command}
 use Rattle.maple_top.specs.Due.{HasCommand, AreWords, Cuts, IsCut, IsDue, IsExact, IsFit, IsNoScript, IsNothing, IsReport, IsReportCut, IsReportOf, IsScript, IsShort, IsText, HasNone, HasPolicy, OfInput, Refuses, Tells, most_bytes, refused}
-use Rattle.maple_top.specs.Ends.{EndsTelling, IsGiven, IsOfWhole, WroteFront, WroteSome}
+use Rattle.maple_top.specs.Ends.{EndsTelling, IsSettled, IsOfWhole, WroteFront, WroteSome}
 use Rattle.maple_top.specs.Running.{due_of}
 use Rattle.maple_top.specs.Statuses.{last_line}
 use Rattle.maple_top.specs.Runs.{IsRun, RunsText, refused_words, failed_read, read_too_long, lacked_memory, ran}
@@ -63,7 +63,7 @@ module _ (old new : SinkView) (before after : List Meaning) (words : List (List 
   RanAs input Done = ((policy : Policy) × HasPolicy policy input) × WroteSome old new (IsReport words input before after) × IsScript command (length before) input
   RanAs input s = ⊥
 
-  pub ran_as : (input : List ℕ) (s : Status) → IsGiven s → RunsText old new before after command input s → RanAs input s
+  pub ran_as : (input : List ℕ) (s : Status) → IsSettled s → RunsText old new before after command input s → RanAs input s
   ran_as input s h (inl (policy, has, e)) =
       let (due, (text, told, a)) =
       given_tells old new (due_of (refused command (length before) input)) (IsReportOf policy command input before after) (λ end text. IsReportCut end policy command input before after text) s h e in
@@ -74,7 +74,7 @@ module _ (old new : SinkView) (before after : List Meaning) (words : List (List 
       ran_by (Some f) is d r = subst (RanAs input) (sym d) ((policy, has), r, (f, is))
   ran_as input s h (inr (inl (same, n, l, is, e))) =
       let g = given_is old new PolicyRefused (spelled l) s h e in subst (RanAs input) (sym g.0) (n, (spelled l, (command, w, l, is, refl), g.1))
-  ran_as input s h (inr (inr (same, e, a))) = absurd (subst IsGiven e h)
+  ran_as input s h (inr (inr (same, e, a))) = absurd (subst IsSettled e h)
 
   pub ran_due : (s : Status) (bytes : List ℕ) → IsFit bytes → RanAs bytes s → IsDue s (length before) words bytes
   ran_due Done bytes f r = (f, command, w, r.0, r.2)
@@ -85,6 +85,7 @@ module _ (old new : SinkView) (before after : List Meaning) (words : List (List 
   ran_due WriteFault bytes f r = absurd r
   ran_due NoMemory bytes f r = absurd r
   ran_due TooLong bytes f r = absurd r
+  ran_due Worn bytes f r = absurd r
 
 module _ (ended unread : Type 0) (bytes : List ℕ) (old new : SinkView) (before after : List Meaning) (words : List (List ℕ)) where
   abbrev pub Run : Status → Type 0
@@ -113,12 +114,13 @@ module _ (ended unread : Type 0) (bytes : List ℕ) (old new : SinkView) (before
   ran_lined command w WriteFault r = tt
   ran_lined command w NoMemory r = tt
   ran_lined command w TooLong r = absurd r
+  ran_lined command w Worn r = tt
 
-  pub lined : (s : Status) → IsGiven s → Run s → IsLined s
+  pub lined : (s : Status) → IsSettled s → Run s → IsLined s
   lined s g (refused_words same n e) = let (is, a) = given_is old new Usage (last_line Usage) s g e in subst IsLined (sym is) (n, a)
   lined s g (failed_read same w h e) = let (is, a) = given_is old new ReadFault (last_line ReadFault) s g e in subst IsLined (sym is) (h, a)
   lined s g (read_too_long same w h e) = let (is, a) = given_is old new TooLong (last_line TooLong) s g e in subst IsLined (sym is) a
-  lined s g (lacked_memory same w e a) = absurd (subst IsGiven e g)
+  lined s g (lacked_memory same w e a) = absurd (subst IsSettled e g)
   lined s g (ran command w fit end text) = ran_lined command w s (ran_as old new before after words command w bytes s g text)
 
   -- the whole input was run by the words' command
@@ -126,11 +128,11 @@ module _ (ended unread : Type 0) (bytes : List ℕ) (old new : SinkView) (before
   RanWhole s = ended × IsFit bytes × (command : Command) × (w : HasCommand command words) × RanAs old new before after words command w bytes s
 
   -- a run that ended with its own status behind the reading ran the whole input
-  pub ran_whole : (s : Status) → IsGiven s → (s ≡ Usage → ⊥) → (s ≡ ReadFault → ⊥) → (s ≡ TooLong → ⊥) → Run s → RanWhole s
+  pub ran_whole : (s : Status) → IsSettled s → (s ≡ Usage → ⊥) → (s ≡ ReadFault → ⊥) → (s ≡ TooLong → ⊥) → Run s → RanWhole s
   ran_whole s g u r l (refused_words same n e) = absurd (u (given_is old new Usage (last_line Usage) s g e).0)
   ran_whole s g u r l (failed_read same w h e) = absurd (r (given_is old new ReadFault (last_line ReadFault) s g e).0)
   ran_whole s g u r l (read_too_long same w h e) = absurd (l (given_is old new TooLong (last_line TooLong) s g e).0)
-  ran_whole s g u r l (lacked_memory same w e a) = absurd (subst IsGiven e g)
+  ran_whole s g u r l (lacked_memory same w e a) = absurd (subst IsSettled e g)
   ran_whole s g u r l (ran command w fit end text) = (end, fit, command, w, ran_as old new before after words command w bytes s g text)
 
   pub policy_told : Run PolicyRefused → Refuses words old new bytes
@@ -138,17 +140,17 @@ module _ (ended unread : Type 0) (bytes : List ℕ) (old new : SinkView) (before
 
   -- ---- which status is due
 
-  result_due : (s : Status) → IsGiven s → (s ≡ ReadFault → ⊥) → Run s → IsDue s (length before) words bytes
+  result_due : (s : Status) → IsSettled s → (s ≡ ReadFault → ⊥) → Run s → IsDue s (length before) words bytes
   result_due s g r (refused_words same n e) = subst (λ x. IsDue x (length before) words bytes) (sym (given_is old new Usage (last_line Usage) s g e).0) n
   result_due s g r (failed_read same w h e) = absurd (r (given_is old new ReadFault (last_line ReadFault) s g e).0)
   result_due s g r (read_too_long same w h e) =
       subst (λ x. IsDue x (length before) words bytes) (sym (given_is old new TooLong (last_line TooLong) s g e).0) (w, h)
-  result_due s g r (lacked_memory same w e a) = absurd (subst IsGiven e g)
+  result_due s g r (lacked_memory same w e a) = absurd (subst IsSettled e g)
   result_due s g r (ran command w fit end text) =
       ran_due old new before after words command w s bytes fit (ran_as old new before after words command w bytes s g text)
 
   -- a status of its own that isn't ReadFault is due, where there are so many devices
-  pub is_due : (places : ℕ) → length before ≡ places → (s : Status) → IsGiven s → (s ≡ ReadFault → ⊥) → Run s → IsDue s places words bytes
+  pub is_due : (places : ℕ) → length before ≡ places → (s : Status) → IsSettled s → (s ≡ ReadFault → ⊥) → Run s → IsDue s places words bytes
   is_due places n s g r h = subst (λ k. IsDue s k words bytes) n (result_due s g r h)
 
   -- words give one command
@@ -191,12 +193,14 @@ module _ (ended unread : Type 0) (bytes : List ℕ) (old new : SinkView) (before
   due_once places input ReadFault t d e = absurd d
   due_once places input WriteFault t d e = absurd d
   due_once places input NoMemory t d e = absurd d
+  due_once places input Worn t d e = absurd d
   due_once places input s ReadFault d e = absurd e
   due_once places input s WriteFault d e = absurd e
   due_once places input s NoMemory d e = absurd e
+  due_once places input s Worn d e = absurd e
 
   module _ (places : ℕ) (n : length before ≡ places) where
-    due : (s : Status) → IsGiven s → (s ≡ ReadFault → ⊥) → Run s → IsExact s places words bytes
+    due : (s : Status) → IsSettled s → (s ≡ ReadFault → ⊥) → Run s → IsExact s places words bytes
     due s g r h status d = inl (due_once places bytes s status (is_due places n s g r h) d)
 
     pub exact : (s : Status) → Run s → IsExact s places words bytes
@@ -206,8 +210,9 @@ module _ (ended unread : Type 0) (bytes : List ℕ) (old new : SinkView) (before
     exact Script h = due Script tt (λ e. cc) h
     exact ReadFault h = λ status d. inr (inl refl)
     exact WriteFault h = λ status d. inr (inr (inl refl))
-    exact NoMemory h = λ status d. inr (inr (inr refl))
+    exact NoMemory h = λ status d. inr (inr (inr (inl refl)))
     exact TooLong h = due TooLong tt (λ e. cc) h
+    exact Worn h = λ status d. inr (inr (inr (inr refl)))
 
   -- ---- where a write failed, or memory ran out
 
@@ -258,6 +263,17 @@ module _ (ended unread : Type 0) (bytes : List ℕ) (old new : SinkView) (before
     left_of (lacked_memory same w e a) = inl same
     left_of (ran command w fit whole text) = run_left command w fit whole text
 
+  -- the whole input was run where the hall was worn
+  worn_short : Run Worn → ended × WroteSome old new (IsShort ends.Worn words bytes before after)
+  worn_short (refused_words same n e) = absurd (let no = e.0 in cc)
+  worn_short (failed_read same w u e) = absurd (let no = e.0 in cc)
+  worn_short (read_too_long same w h e) = absurd (let no = e.0 in cc)
+  worn_short (lacked_memory same w e a) = absurd (cc)
+  worn_short (ran command w fit whole (inl (policy, has, e))) =
+      (whole, short_by ends.Worn Worn (λ e. cc) (λ due Told Cut e. e) policy command w fit has e)
+  worn_short (ran command w fit whole (inr (inl (same, n, l, is, e)))) = absurd (let no = e.0 in cc)
+  worn_short (ran command w fit whole (inr (inr (same, e, a)))) = absurd (cc)
+
   pub cuts : (s : Status) → Run s → Cuts s ended unread words bytes before old new
   cuts Done h = tt
   cuts Usage h = tt
@@ -267,6 +283,7 @@ module _ (ended unread : Type 0) (bytes : List ℕ) (old new : SinkView) (before
   cuts WriteFault h = short_of ends.WriteFault WriteFault (λ e. cc) (λ due Told Cut e. e.1) h
   cuts NoMemory h = short_of ends.NoMemory NoMemory (λ e. refl) (λ due Told Cut e. e) h
   cuts TooLong h = tt
+  cuts Worn h = tt
 
   -- what is told of a run that is done, or whose script is refused, and the devices of one in which a write failed or memory ran out
   pub tells : (s : Status) → Run s → Tells s ended words bytes before after old new
@@ -278,6 +295,7 @@ module _ (ended unread : Type 0) (bytes : List ℕ) (old new : SinkView) (before
   tells WriteFault h = left_of ends.WriteFault WriteFault (λ e. cc) (λ due Told Cut e. e.1) h
   tells NoMemory h = left_of ends.NoMemory NoMemory (λ e. refl) (λ due Told Cut e. e) h
   tells TooLong h = tt
+  tells Worn h = worn_short h
 
   -- a run that speaks of the whole input was told its end
   pub whole_of : (s : Status) → IsOfWhole s → Run s → ended
@@ -289,3 +307,4 @@ module _ (ended unread : Type 0) (bytes : List ℕ) (old new : SinkView) (before
   whole_of WriteFault o h = absurd o
   whole_of NoMemory o h = absurd o
   whole_of TooLong o h = absurd o
+  whole_of Worn o h = (worn_short h).0

@@ -12,7 +12,7 @@ use Rattle.sim_driver.specs.declared.drive.SimEnd.{SimEnd}
 use Rattle.sim_driver.specs.declared.drive.SimEnd.TheVariants as ends
 use Rattle.sim_driver.specs.Runs.{Given}
 use Rattle.maple_top.specs.declared.status.Status.{Status}
-use Rattle.maple_top.specs.declared.status.Status.TheVariants.{Done, Usage, Policy as PolicyRefused, Script, ReadFault, WriteFault, NoMemory, TooLong}
+use Rattle.maple_top.specs.declared.status.Status.TheVariants.{Done, Usage, Policy as PolicyRefused, Script, ReadFault, WriteFault, NoMemory, TooLong, Worn}
 use Rattle.maple_top.specs.declared.words.Command.{Command}
 use Rattle.maple_top.specs.declared.words.Command.TheVariants.{Sim, Check}
 use Rattle.maple_top.specs.Ends.{WroteFront, WroteSome}
@@ -107,13 +107,15 @@ abbrev pub IsReportOf : Policy → Command → List ℕ → List Meaning → Lis
 IsReportOf policy (Sim settings) input before after text = IsTold (run_given policy settings before input) after text
 IsReportOf policy Check input before after text = (after ≡ before) × (text ≡ policy_text policy)
 
--- what it writes of a policy where a write fails or memory runs out: the report as far as it came, or a front of the printed form
+-- what it writes of a policy where a write fails or memory runs out: the report as far as it came, or a front of the printed form. Where the hall is worn: the
+-- report as far as it came, and the last line; `check` has no hall
 abbrev pub IsReportCut : SimEnd → Policy → Command → List ℕ → List Meaning → List Meaning → List ℕ → Type 0
 IsReportCut end policy (Sim settings) input before after text = IsCutShort end (run_given policy settings before input) after text
+IsReportCut ends.Worn policy Check input before after text = ⊥
 IsReportCut end policy Check input before after text = (after ≡ before) × IsFront text (policy_text policy)
 
--- the status that these words and this input are due where there are so many devices, none of the streams fails and memory is left: words first, then length,
--- policy and script
+-- the status that these words and this input are due where there are so many devices, none of the streams fails, memory is left and the hall is not worn: words
+-- first, then length, policy and script
 abbrev pub IsDue : Status → ℕ → List (List ℕ) → List ℕ → Type 0
 IsDue Usage places words input = ¬ (AreWords words)
 IsDue TooLong places words input = AreWords words × (most_bytes < length input)
@@ -125,16 +127,17 @@ IsDue Done places words input =
 IsDue ReadFault places words input = ⊥
 IsDue WriteFault places words input = ⊥
 IsDue NoMemory places words input = ⊥
+IsDue Worn places words input = ⊥
 
--- the status, or a fault of a stream or want of memory that came before it
+-- the status, or a fault of a stream, want of memory or a worn hall that came before it
 abbrev pub IsOrFails : Status → Status → Type 0
-IsOrFails status result = (result ≡ status) ⊎ ((result ≡ ReadFault) ⊎ ((result ≡ WriteFault) ⊎ (result ≡ NoMemory)))
+IsOrFails status result = (result ≡ status) ⊎ ((result ≡ ReadFault) ⊎ ((result ≡ WriteFault) ⊎ ((result ≡ NoMemory) ⊎ (result ≡ Worn))))
 
--- each status that is due comes, or a fault of a stream or want of memory that came before it
+-- each status that is due comes, or a fault of a stream, want of memory or a worn hall that came before it
 abbrev pub IsExact : Status → ℕ → List (List ℕ) → List ℕ → Type 0
 IsExact result places words input = (status : Status) → IsDue status places words input → IsOrFails status result
 
--- the same, where nothing is read
+-- the status, or a fault of the sink or want of memory that came before it, where nothing is read
 abbrev pub IsOrUnwritten : Status → Status → Type 0
 IsOrUnwritten status result = (result ≡ status) ⊎ ((result ≡ WriteFault) ⊎ (result ≡ NoMemory))
 
@@ -160,7 +163,7 @@ abbrev pub IsNothing : SimEnd → List ℕ → Type 0
 IsNothing ends.NoMemory text = text ≡ []
 IsNothing end text = ⊥
 
--- the text is what the words' command writes of the input's policy, cut short
+-- the text is what the words' command writes of the input's policy, cut short by this end
 abbrev pub IsShort : SimEnd → List (List ℕ) → List ℕ → List Meaning → List Meaning → List ℕ → Type 0
 IsShort end words input before after text =
     IsFit input × (command : Command) × HasCommand command words × (policy : Policy) × HasPolicy policy input
@@ -185,12 +188,14 @@ abbrev pub StopsAtFailure : SourceView → SourceView → SinkView → SinkView 
 StopsAtFailure before after old new = Heard before after (λ heard. fails heard ≡ true → WroteFront old new (last_line ReadFault))
 
 -- what a run wrote that is done, or whose script is refused, and the devices behind it; of a run in which a write failed or memory ran out the devices: they
--- are as they were ahead of the run, or as it left them whose report was written, cut short
+-- are as they were ahead of the run, or as it left them whose report was written, cut short. Of a run whose hall was worn: the whole input was read, and its
+-- report was written as far as it came, and the last line
 abbrev pub Tells : Status → Type 0 → List (List ℕ) → List ℕ → List Meaning → List Meaning → SinkView → SinkView → Type 0
 Tells Done ended words input before after old new = WroteSome old new (IsReport words input before after)
 Tells Script ended words input before after old new = WroteSome old new (IsReport words input before after)
 Tells WriteFault ended words input before after old new = (after ≡ before) ⊎ (ended × WroteSome old new (IsShort ends.WriteFault words input before after))
 Tells NoMemory ended words input before after old new = (after ≡ before) ⊎ (ended × WroteSome old new (IsShort ends.NoMemory words input before after))
+Tells Worn ended words input before after old new = ended × WroteSome old new (IsShort ends.Worn words input before after)
 Tells status ended words input before after old new = Unit {0}
 
 -- what a run wrote in which a write failed or memory ran out, the devices aside

@@ -8,15 +8,16 @@ use Rattle.maple_io.specs.Views.{ReadFailed, SinkView, SourceView, WriteFailed, 
 use Rattle.policy_lang.specs.declared.Policy.{Policy}
 use Rattle.policy_text.specs.Printed.{policy_text}
 use Rattle.device_port.specs.Devices.{Meaning}
+use Rattle.machine_steps.specs.Histories.{Turn}
 use Rattle.model_switch.specs.States.{meaning_of, opened}
 use Rattle.sim_laws.specs.Laws.{AreWorldRun}
 use Rattle.sim_driver.specs.declared.drive.SimEnd.TheVariants as ends
 use Rattle.sim_driver.specs.Runs.{IsFollowed}
 use Rattle.maple_top.specs.declared.status.Status.{Status}
-use Rattle.maple_top.specs.declared.status.Status.TheVariants.{Done, Usage, Policy as PolicyRefused, Script, ReadFault, WriteFault, NoMemory, TooLong}
+use Rattle.maple_top.specs.declared.status.Status.TheVariants.{Done, Usage, Policy as PolicyRefused, Script, ReadFault, WriteFault, NoMemory, TooLong, Worn}
 use Rattle.maple_top.specs.declared.words.Command.{Command}
 use Rattle.maple_top.specs.declared.words.Command.TheVariants.{Sim, Check}
-use Rattle.maple_top.specs.Due.{AreWords, HasCommand, HasPolicy, IsCut, IsDue, IsExact, IsReading, IsText, run_given}
+use Rattle.maple_top.specs.Due.{AreWords, HasCommand, HasPolicy, IsCut, IsDue, IsExact, IsReading, IsShort, IsText, run_given}
 use Rattle.maple_top.specs.Running.{end_of, refused_of}
 use Rattle.maple_top.specs.Statuses.{last_line}
 
@@ -37,8 +38,9 @@ program_devices = devices_to 64
 -- which is right: each rule that a ready session's switch hits decides as plain evaluation does
 pub record IsRightReport (policy : Policy) (settings : Settings) (input text : List ℕ) : Type 0 where
   pub after : List Meaning
+  pub history : List Turn
   pub report : List ℕ
-  pub followed : IsFollowed (run_given policy settings program_devices input) after report
+  pub followed : IsFollowed (run_given policy settings program_devices input) after history report
   pub text_is : text ≡ report ++ end_of (refused_of (run_given policy settings program_devices input))
   pub world : AreWorldRun policy settings program_devices followed.events followed.last
 
@@ -61,6 +63,10 @@ pub record Reports (status : Status) (words : List (List ℕ)) (heard : List Ans
 abbrev pub IsLine : Status → List (List ℕ) → List Answer → List ℕ → Type 0
 IsLine status words heard text = IsText (tells_end heard ≡ true) (fails heard ≡ true) status words (given heard) text
 
+-- all of an input was given, up to its end, and the text is the report of its run as far as it came, and the line of a worn hall
+abbrev pub ReportsWorn : List (List ℕ) → List Answer → List ℕ → Type 0
+ReportsWorn words heard text = (tells_end heard ≡ true) × (after : List Meaning) × IsShort ends.Worn words (given heard) program_devices after text
+
 -- what a run that ended so was given, and what it wrote
 abbrev pub HasRun : Status → List (List ℕ) → List Answer → List ℕ → Type 0
 HasRun Done words heard text = Reports Done words heard text
@@ -71,6 +77,7 @@ HasRun ReadFault words heard text = IsLine ReadFault words heard text
 HasRun TooLong words heard text = IsLine TooLong words heard text
 HasRun WriteFault words heard text = IsCut ends.WriteFault (tells_end heard ≡ true) (fails heard ≡ true) words (given heard) program_devices text
 HasRun NoMemory words heard text = IsCut ends.NoMemory (tells_end heard ≡ true) (fails heard ≡ true) words (given heard) program_devices text
+HasRun Worn words heard text = ReportsWorn words heard text
 
 -- a run over the devices of the program, from any source to any sink
 pub record RunsOver (source left : SourceView) (old new : SinkView) (words : List (List ℕ)) (result : Status) : Type 0 where

@@ -17,14 +17,17 @@ use maple_base::{NoMemory, Words};
 use maple_io::{ReadSource, Sink, Source, WriteSink};
 use std::alloc::{AllocError, Global};
 use std::io::{Read, Write};
+use std::sync::Wait;
+use std::thread::Threads;
 
 /// Runs Maple with the words of a command line, from a reader to a writer of std, over the devices of
 /// the program, which it makes. The reader and the writer may be any: what is said of the input speaks
 /// of the bytes that the source gave, and what is said of the report of those that the sink took.
-pub fn run_program<R: Read, W: Write>(
+pub fn run_program<R: Threads + Wait + Copy + Send + Sync, I: Read, W: Write>(
+    rt: &R,
     alloc: Global,
     words: &Words,
-    input: &mut ReadSource<R>,
+    input: &mut ReadSource<I>,
     output: &mut WriteSink<W>,
 ) -> Status
     // Nothing was read or written yet.
@@ -37,7 +40,7 @@ pub fn run_program<R: Read, W: Write>(
     // With each status: what was given, and what was written.
     ensures run { HasRun result words.now (answers_of input.new) (took_of output.new) }
 
-    // Each status comes exactly where it is due, but for a fault or want of memory.
+    // Each status comes exactly where it is due, but for a fault, want of memory or a worn hall.
     ensures exact { IsExact result (length program_devices) words.now (given (answers_of input.new)) }
 
     // How far the input is read, and what a failed read leaves to write.
@@ -53,21 +56,28 @@ pub fn run_program<R: Read, W: Write>(
     ensures keep { AllKeep program_devices }
     ensures idle { AllIdle program_devices }
 {
-    run_over(alloc, words, input, output)
+    run_over(rt, alloc, words, input, output)
 }
 
 // Runs these words from a source to a sink, over the devices of the program.
-fn run_over<I: Source, O: Sink>(alloc: Global, words: &Words, from: &mut I, to: &mut O) -> Status
+fn run_over<R: Threads + Wait + Copy + Send + Sync, I: Source, O: Sink>(
+    rt: &R,
+    alloc: Global,
+    words: &Words,
+    from: &mut I,
+    to: &mut O,
+) -> Status
     ensures ran { RunsOver (I.tells from.old) (I.tells from.new) (O.tells to.old) (O.tells to.new) words.now result }
 {
-    match run_made(alloc, words, from, to) {
+    match run_made(rt, alloc, words, from, to) {
         Ok(status) => status,
         Err(NoMemory) => Status::NoMemory,
     }
 }
 
 // The same, where the devices find memory; where they find none, nothing is done.
-fn run_made<I: Source, O: Sink>(
+fn run_made<R: Threads + Wait + Copy + Send + Sync, I: Source, O: Sink>(
+    rt: &R,
     alloc: Global,
     words: &Words,
     from: &mut I,
@@ -84,7 +94,7 @@ fn run_made<I: Source, O: Sink>(
         push_next(&mut devices, device, place)?;
         place += 1;
     }
-    Ok(maple(&(), alloc, words, from, to, &mut devices))
+    Ok(maple(rt, alloc, words, from, to, &mut devices))
 }
 
 // Puts the program's next device behind those of the places up to this one.

@@ -19,10 +19,12 @@ use report_text::{Line, ScriptRefusal, write_line};
 use sim_driver::SimEnd;
 use sim_driver::drive::drive;
 use std::alloc::Global;
+use std::sync::Wait;
 
 /// Runs the lines of a script under a policy over all devices, and writes the report and the last line.
 /// The script's first line has this number.
-pub fn run_script<D: Device, O: Sink>(
+pub fn run_script<R: Wait, D: Device, O: Sink>(
+    rt: &R,
     alloc: Global,
     policy: Policy,
     settings: Settings,
@@ -37,11 +39,12 @@ pub fn run_script<D: Device, O: Sink>(
     ensures runs { RunsScript (given policy settings (map D.meaning all.old) script.now first) (map D.meaning all.new) (O.tells to.old) (O.tells to.new) result }
     ensures spared { result ≢ Status.WriteFault → NoWriteFailed (O.tells to.old) (O.tells to.new) }
 {
-    match drive(alloc, policy, script, first, settings, all, to) {
+    match drive(rt, alloc, policy, script, first, settings, all, to) {
         SimEnd::Done => finish(to, Status::Done),
         SimEnd::Script { line, kind } => refuse(alloc, to, line, kind),
         SimEnd::WriteFault => Status::WriteFault,
         SimEnd::NoMemory => Status::NoMemory,
+        SimEnd::Worn => finish(to, Status::Worn),
     }
 }
 

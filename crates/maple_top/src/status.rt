@@ -22,10 +22,12 @@ pub enum Status {
     NoMemory,
     /// The input has more than 67,108,864 bytes.
     TooLong,
+    /// The hall of the machine has room for no further entry: its history has 2^62 of them.
+    Worn = 9,
 }
 
 impl Status {
-    /// The exit status, 0 to 7 in the order of the variants.
+    /// The exit status: 0 to 7 in the order of the variants, and 9.
     pub fn number(self) -> u8
         ensures { result ≡ status_number self }
     {

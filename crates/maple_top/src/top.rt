@@ -21,6 +21,8 @@ use maple_base::Words;
 use maple_io::{Sink, Source};
 use script_text::split_at_mark;
 use std::alloc::Global;
+use std::sync::Wait;
+use std::thread::Threads;
 
 /// Runs Maple with the words of a command line, over devices, which stand at places from 1 on.
 ///
@@ -30,8 +32,8 @@ use std::alloc::Global;
 /// the rules of a switch (`--capacity`) and the levels of their priorities (`--levels`). The word
 /// `check`, alone, writes the printed form of the policy, and looks at no script. Where the policy is
 /// refused both write where and why.
-pub fn maple<R, I: Source, O: Sink>(
-    _rt: &R,
+pub fn maple<R: Threads + Wait + Copy + Send + Sync, I: Source, O: Sink>(
+    rt: &R,
     alloc: Global,
     words: &Words,
     input: &mut I,
@@ -79,18 +81,19 @@ pub fn maple<R, I: Source, O: Sink>(
     ensures reads_count { (I.tells input.old).failed ≤ (I.tells input.new).failed }
     ensures writes_spared { result ≢ Status.WriteFault → NoWriteFailed (O.tells output.old) (O.tells output.new) }
 
-    // Each of these comes exactly where it is due, but for a fault or want of memory.
+    // Each of these comes exactly where it is due, but for a fault, want of memory or a worn hall.
     ensures exact { IsExactBy (I.tells input.old) (I.tells input.new) result (length devices.old.items) words.now }
 
     // A write that fails, and want of memory.
     ensures write_fault { result ≡ Status.WriteFault → WriteFailed (O.tells output.old) (O.tells output.new) }
     ensures cut { CutsBy (I.tells input.old) (I.tells input.new) result words.now (over meaning devices.old) (O.tells output.old) (O.tells output.new) }
 {
-    run_words(alloc, words, input, output, devices)
+    run_words(rt, alloc, words, input, output, devices)
 }
 
 // Runs these words from a source to a sink, over all devices.
-fn run_words<D: Device, I: Source, O: Sink>(
+fn run_words<R: Wait, D: Device, I: Source, O: Sink>(
+    rt: &R,
     alloc: Global,
     words: &Words,
     from: &mut I,
@@ -116,7 +119,7 @@ fn run_words<D: Device, I: Source, O: Sink>(
         return finish(to, Status::Usage);
     };
     match read_all(alloc, from) {
-        Ok(text) => run_text(alloc, command, &text, to, all),
+        Ok(text) => run_text(rt, alloc, command, &text, to, all),
         Err(ReadStop::Failed) => finish(to, Status::ReadFault),
         Err(ReadStop::TooLong) => finish(to, Status::TooLong),
         Err(ReadStop::NoMemory) => Status::NoMemory,
@@ -124,7 +127,8 @@ fn run_words<D: Device, I: Source, O: Sink>(
 }
 
 // Runs an input that was read to its end.
-fn run_text<D: Device, O: Sink>(
+fn run_text<R: Wait, D: Device, O: Sink>(
+    rt: &R,
     alloc: Global,
     command: Command,
     text: &[u8],
@@ -145,7 +149,7 @@ fn run_text<D: Device, O: Sink>(
             Command::Check => put_policy(alloc, &policy, to),
             Command::Sim(settings) => {
                 let first = lines as u32 + 1;
-                run_script(alloc, policy, settings, first, script, all, to)
+                run_script(rt, alloc, policy, settings, first, script, all, to)
             }
         },
         Err(PolicyStop::Refused(line)) => refuse_policy(alloc, to, &line),

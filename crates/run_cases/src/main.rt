@@ -1,6 +1,7 @@
 //! Cases of the top call: whole runs over devices, with what each writes and its exit status.
 #![tactic(auto)]
 
+mod checking;
 mod devices;
 mod examples;
 mod given;
@@ -8,24 +9,39 @@ mod outcome;
 mod runs;
 mod words;
 
-use case_text::{Program, check_file, check_files};
+use checking::check_runs;
 use examples::check_example;
-use runs::Runs;
 use std::io;
 use std::io::ErrorKind;
+use std::sync::Wait;
+use std::thread::Threads;
 
-struct Cases;
-
-impl Program for Cases {
-    fn check(rt: &HostRuntime, subject: &str, file: &str) -> io::Result<bool> {
-        match subject {
-            "runs" => check_file::<Runs>(rt, file),
-            "sim" | "check" => check_example(rt, subject, file),
-            _ => Err(io::Error::from(ErrorKind::NotFound)),
-        }
+fn check<R: Threads + Wait + Copy + Send + Sync>(
+    handle: R,
+    rt: &HostRuntime,
+    subject: &str,
+    file: &str,
+) -> io::Result<bool> {
+    match subject {
+        "runs" => check_runs(handle, rt, file),
+        "sim" | "check" => check_example(&handle, rt, subject, file),
+        _ => Err(io::Error::from(ErrorKind::NotFound)),
     }
 }
 
+// Checks each file that a line of standard input names, `SUBJECT FILE`.
 fn main(rt: HostRuntime) -> io::Result<()> {
-    check_files::<Cases>(&rt)
+    let lines = io::read_to_string(rt.alloc(), rt.stdin())?;
+    let mut all_right = true;
+    for line in lines.lines() {
+        let (subject, file) = line.split_once(' ').unwrap_or((line, ""));
+        if !check(rt, &rt, subject, file)? {
+            all_right = false;
+        }
+    }
+    if all_right {
+        Ok(())
+    } else {
+        Err(io::Error::from(ErrorKind::InvalidData))
+    }
 }

@@ -8,6 +8,8 @@ use maple_base::NoMemory;
 use maple_io::{MemSink, MemSource};
 use maple_top::{maple, program_device, push_idle};
 use std::alloc::{AllocError, Global};
+use std::sync::Wait;
+use std::thread::Threads;
 
 /// The exit status, and what was written.
 #[derive(Drop)]
@@ -36,7 +38,8 @@ impl Outcome {
 }
 
 /// Runs these words on an input.
-pub fn outcome_of(
+pub fn outcome_of<R: Threads + Wait + Copy + Send + Sync>(
+    rt: &R,
     alloc: Global,
     given: &Given,
     words: &str,
@@ -57,7 +60,7 @@ pub fn outcome_of(
             Kind::Failing(call) => push_idle(&mut boxes, Box::new(alloc, failing(alloc, call)?)?)?,
         }
     }
-    let status = maple(&(), alloc, &words, &mut source, &mut sink, &mut boxes).number();
+    let status = maple(rt, alloc, &words, &mut source, &mut sink, &mut boxes).number();
     Ok(Outcome { status, sink })
 }
 

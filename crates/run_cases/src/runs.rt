@@ -1,9 +1,11 @@
 // Runs of the top call.
 use crate::given::Given;
 use crate::outcome::{Outcome, outcome_of};
-use case_text::{CaseStop, Subject, Words};
+use case_text::{CaseStop, Words};
 use maple_base::NoMemory;
 use std::alloc::Global;
+use std::sync::Wait;
+use std::thread::Threads;
 
 // The first device is plugged in, and becomes ready.
 const BOOT: &str = "plug 1\nsettle\n";
@@ -13,24 +15,28 @@ const BOOTED: &str = "open c1\nstate 1 pruned 0\nready c1 s1\nsettled 5\n";
 
 /// What a run is given, and what it is to write.
 #[derive(Drop)]
-pub struct Runs {
+pub struct Runs<R: Threads + Wait + Copy + Send + Sync> {
+    rt: R,
     alloc: Global,
     given: Given,
     input: String,
     output: String,
 }
 
-impl Subject for Runs {
-    fn new(alloc: Global) -> Result<Runs, NoMemory> {
-        Ok(Runs {
+impl<R: Threads + Wait + Copy + Send + Sync> Runs<R> {
+    /// A new one, at the head of each run.
+    pub fn new(rt: R, alloc: Global) -> Runs<R> {
+        Runs {
+            rt,
             alloc,
             given: Given::new(alloc),
             input: String::new(alloc),
             output: String::new(alloc),
-        })
+        }
     }
 
-    fn answer(&mut self, mut call: Words<'_>, out: &mut String) -> Result<(), CaseStop> {
+    /// Appends the answer to a call.
+    pub fn answer(&mut self, mut call: Words<'_>, out: &mut String) -> Result<(), CaseStop> {
         match call.word() {
             "run" => self.run(call, out),
             "sim" => self.give("sim", call, out),
@@ -43,9 +49,7 @@ impl Subject for Runs {
             }
         }
     }
-}
 
-impl Runs {
     fn set(&mut self, word: &str, mut call: Words<'_>) -> Result<(), CaseStop> {
         match word {
             "device" => self.given.device(call),
@@ -70,7 +74,7 @@ impl Runs {
     }
 
     fn came(&self, words: &str, input: &str) -> Result<Outcome, NoMemory> {
-        outcome_of(self.alloc, &self.given, words, input)
+        outcome_of(&self.rt, self.alloc, &self.given, words, input)
     }
 
     // Runs the words of the call.

@@ -67,7 +67,7 @@ module _ (here : ℕ) (old new : Driver) (h : StaysBut here old new) (n : ℕ) (
   pub taken_stays : DrivingLaws → (ds es : List Meaning) → Fits old ds → Fits new es → IsTaken n old → IsTaken n new
   taken_stays laws ds es f g was = λ k there plugged.
       (let there_before = sym (h.channels n other) ∙ there in
-      messages_same laws (n + 1) old.core new.core f.kept.reached g.kept.reached (plugged_at old n k f.kept there_before plugged)
+      messages_same laws (n + 1) old.desk.now new.desk.now f.kept.reached g.kept.reached (plugged_at old n k f.kept there_before plugged)
       (h.sessions (n + 1) (λ e. other (omega (arith, e)))) ∙ was k there_before plugged)
 
 -- ---- one place after the other
@@ -77,15 +77,16 @@ pub record DeliversTo (at : ℕ) (old : Driver) (before : List Meaning) (new : D
   pub fits : Fits new after
   pub carried : Carried (bench old before) (bench new after)
   pub through : IsHeardThrough new
+  pub footing : new.desk.footing ≡ old.desk.footing
   pub taken : (n : ℕ) → n < at → IsTaken n new
 
 pub delivers_none : (old : Driver) (ds : List Meaning) → Fits old ds → IsHeardThrough old → DeliversTo 0 old ds old ds
-delivers_none old ds fits through = record { fits = fits; carried = carried_none (bench old ds); through = through; taken = λ n below. absurd (omega (arith, below)) }
+delivers_none old ds fits through = record { fits = fits; carried = carried_none (bench old ds); through = through; footing = refl; taken = λ n below. absurd (omega (arith, below)) }
 
 pub delivers_next : DrivingLaws → (at : ℕ) (old : Driver) (before : List Meaning) (mid : Driver) (ds : List Meaning) (new : Driver) (es : List Meaning) → DeliversTo at old before mid ds
-    → Fits new es → Carried (bench mid ds) (bench new es) → IsTaken at new → IsOffered at new → (IsHeard at mid → IsHeard at new) → StaysBut at mid new → (mid.core.jobs ≡ [] → new.core.jobs ≡ [])
-    → DeliversTo (at + 1) old before new es
-delivers_next laws at old before mid ds new es h fits carried taken offered heard others jobs = record {
+    → Fits new es → Carried (bench mid ds) (bench new es) → IsTaken at new → IsOffered at new → (IsHeard at mid → IsHeard at new) → StaysBut at mid new → (mid.desk.now.jobs ≡ [] → new.desk.now.jobs ≡ [])
+    → new.desk.footing ≡ mid.desk.footing → DeliversTo (at + 1) old before new es
+delivers_next laws at old before mid ds new es h fits carried taken offered heard others jobs footing = record {
   fits = fits;
   carried = carried_then (bench old before) (bench mid ds) (bench new es) h.carried carried;
   through = record {
@@ -93,6 +94,7 @@ delivers_next laws at old before mid ds new es h fits carried taken offered hear
     offered = λ n. ⊎_elim (λ e. subst (λ m. IsOffered m new) (sym e) offered) (λ o. stays_so at mid new others n o (λ k. k.to ≡ []) (h.through.offered n)) (cases_eq n at);
     heard = λ n. ⊎_elim (λ e. subst (λ m. IsHeard m new) (sym e) (heard (h.through.heard at))) (λ o. stays_so at mid new others n o (λ k. IsHeardOut k.from.stream) (h.through.heard n)) (cases_eq n at);
   };
+  footing = footing ∙ h.footing;
   taken = λ n below. ⊎_elim (λ e. subst (λ m. IsTaken m new) (sym e) taken) (λ o. taken_stays at mid new others n o laws ds es h.fits fits (h.taken n (omega (arith, below, o)))) (cases_eq n at);
 }
 
@@ -115,7 +117,7 @@ pub record DeliversNothing (at : ℕ) (driver : Driver) (ds : List Meaning) : Ty
 pub delivers_nothing : (at : ℕ) (driver : Driver) (ds : List Meaning) (k : Channel) → slice_get driver.channels.items at ≡ Some k → (k.stage ≡ Plugged → ⊥) → DeliversNothing at driver ds
 delivers_nothing at driver ds k there other = record {
   carried = carried_none (bench driver ds);
-  taken = none_plugged (λ x. messages_for (at + 1) driver.core ≡ []) at driver k there other;
+  taken = none_plugged (λ x. messages_for (at + 1) driver.desk.now ≡ []) at driver k there other;
   offered = none_plugged (λ (x : Channel). x.to ≡ []) at driver k there other;
   spares = spares_none at driver;
 }

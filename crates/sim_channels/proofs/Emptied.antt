@@ -10,7 +10,6 @@ use Rattle.message_blocks.specs.Spelling.{IsSpelled}
 use Rattle.machine_moves.specs.Sends.{CanBeOffered}
 use Rattle.machine_steps.specs.declared.entry.Entry.TheVariants as entries
 use Rattle.machine_steps.specs.declared.reply.Reply.TheVariants.{Out}
-use Rattle.machine_steps.specs.Steps.{Steps}
 use Rattle.world_steps.specs.Worlds.{messages_for}
 use Rattle.sim_steps.specs.Benches.{MovesAt, is_plugged}
 use Rattle.sim_steps.specs.Deeds.{GetsMessages}
@@ -19,7 +18,7 @@ use Rattle.sim_steps.proofs.Moments.{carried_entry}
 use Rattle.sim_channels.specs.declared.channel.Channel.{Channel}
 use Rattle.sim_channels.specs.declared.channel.Plugging.TheVariants.{Plugged}
 use Rattle.sim_channels.specs.declared.driver.Driver.{Driver}
-use Rattle.sim_channels.specs.Channels.{IsKept, bench, slot_by, slots_of}
+use Rattle.sim_channels.specs.Channels.{EntersAlone, IsKept, bench, slot_by, slots_of}
 use Rattle.sim_channels.specs.Delivering.{TakesOut}
 use Rattle.sim_channels.specs.Driving.{DrivingLaws}
 use Rattle.sim_channels.proofs.Keeping.{can_offer, nothing_left}
@@ -40,12 +39,12 @@ device_at ks ds at k long there = go ds at (let within = slice_get_within ks at 
     go (e ∷ es) (suc n) within = go es n (omega (arith, within))
 
 module _ (laws : DrivingLaws) (at : ℕ) (old new : Driver) (bytes : List ℕ) (k l : Channel) (kept : IsKept old) (h : ChannelAt at k l old new) (plugged : k.stage ≡ Plugged)
-    (offered : k.to ≡ []) (is : l ≡ record k { to = messages_for (at + 1) old.core }) (steps : Steps old.core (entries.TakeOut (at + 1)) (Out bytes) new.core) where
-  is_open : is_plugged (at + 1) old.core ≡ true
+    (offered : k.to ≡ []) (is : l ≡ record k { to = messages_for (at + 1) old.desk.now }) (enters : EntersAlone (entries.TakeOut (at + 1)) (Out bytes) old.desk new.desk) where
+  is_open : is_plugged (at + 1) old.desk.now ≡ true
   is_open = plugged_at old at k kept h.there plugged
 
-  to_is : l.to ≡ k.to ++ messages_for (at + 1) old.core
-  to_is = ap (λ (x : Channel). x.to) is ∙ ap (λ ms. ms ++ messages_for (at + 1) old.core) (sym offered)
+  to_is : l.to ≡ k.to ++ messages_for (at + 1) old.desk.now
+  to_is = ap (λ (x : Channel). x.to) is ∙ ap (λ ms. ms ++ messages_for (at + 1) old.desk.now) (sym offered)
 
   from_same : l.from.stream ≡ k.from.stream
   from_same = ap (λ (x : Channel). x.from.stream) is
@@ -53,7 +52,7 @@ module _ (laws : DrivingLaws) (at : ℕ) (old new : Driver) (bytes : List ℕ) (
   stage_same : l.stage ≡ k.stage
   stage_same = ap (λ (x : Channel). x.stage) is
 
-  gets : (d : Meaning) → GetsMessages (messages_for (at + 1) old.core) (slot_by k d) (slot_by l d)
+  gets : (d : Meaning) → GetsMessages (messages_for (at + 1) old.desk.now) (slot_by k d) (slot_by l d)
   gets d = λ i. record { device = d; to = to_is i; from = from_same i }
 
   carried : (devices : List Meaning) → length devices ≡ length old.channels.items → Carried (bench old devices) (bench new devices)
@@ -62,23 +61,24 @@ module _ (laws : DrivingLaws) (at : ℕ) (old new : Driver) (bytes : List ℕ) (
       carried_entry (entries.TakeOut (at + 1)) (Out bytes) (bench old devices) (bench new devices) refl refl refl (record {
         may = is_open;
         admitted = tt;
-        steps = steps;
+        steps = enters.steps;
         smooth = tt;
-        slots = subst (λ ks. MovesAt (at + 1) (GetsMessages (messages_for (at + 1) old.core)) (slots_of old.channels.items devices) (slots_of ks devices)) (sym h.channels)
-            (slots_channel old.channels.items devices at k l d.0 (GetsMessages (messages_for (at + 1) old.core)) h.there d.1 (gets d.0));
+        slots = subst (λ ks. MovesAt (at + 1) (GetsMessages (messages_for (at + 1) old.desk.now)) (slots_of old.channels.items devices) (slots_of ks devices)) (sym h.channels)
+            (slots_channel old.channels.items devices at k l d.0 (GetsMessages (messages_for (at + 1) old.desk.now)) h.there d.1 (gets d.0));
+        past = enters.past;
       })
 
   pub takes_out : TakesOut at old new
   takes_out = record {
-    kept = kept_channel laws old new (entries.TakeOut (at + 1)) (Out bytes) kept tt steps refl refl (λ c. refl) at k l h stage_same (not_fresh l (stage_same ∙ plugged));
+    kept = kept_channel laws old new (entries.TakeOut (at + 1)) (Out bytes) kept tt enters.steps refl refl (λ c. refl) at k l h stage_same (not_fresh l (stage_same ∙ plugged));
     carried = carried;
     places = is_as_long at k l old new h;
     waiting = λ x y was there.
         ap (λ (z : Channel). z.waiting) (same_Some y l (sym there ∙ is_there at k l old new h)) ∙ ap (λ (z : Channel). z.waiting) is
         ∙ ap (λ (z : Channel). z.waiting) (same_Some k x (sym h.there ∙ was));
-    spares = spares laws old new (entries.TakeOut (at + 1)) (Out bytes) kept steps refl at k l h (λ c o. ne_eqb (at + 1) c (λ e. o (sym e))) from_same (λ e. sym stage_same ∙ e);
-    taken = λ x there stage. nothing_left laws (at + 1) old.core (Out bytes) new.core kept.reached steps refl is_open;
+    spares = spares laws old new (entries.TakeOut (at + 1)) (Out bytes) kept enters.steps refl at k l h (λ c o. ne_eqb (at + 1) c (λ e. o (sym e))) from_same (λ e. sym stage_same ∙ e);
+    taken = λ x there stage. nothing_left laws (at + 1) old.desk.now (Out bytes) new.desk.now kept.reached enters.steps refl is_open;
     plugged = record { channel = l; there = is_there at k l old new h; plugged = stage_same ∙ plugged };
     can = plugged_has (λ (x : Channel). AllByRecursion CanBeOffered x.to) at new l (is_there at k l old new h)
-        (subst (AllByRecursion CanBeOffered) (sym (ap (λ (x : Channel). x.to) is)) (can_offer laws old.core kept.reached (at + 1)));
+        (subst (AllByRecursion CanBeOffered) (sym (ap (λ (x : Channel). x.to) is)) (can_offer laws old.desk.now kept.reached (at + 1)));
   }

@@ -15,7 +15,7 @@ use Rattle.sim_steps.specs.Deeds.{IsSmooth}
 use Rattle.sim_channels.specs.declared.channel.Channel.{Channel}
 use Rattle.sim_channels.specs.declared.channel.Plugging.TheVariants.{Left, Plugged}
 use Rattle.sim_channels.specs.declared.driver.Driver.{Driver}
-use Rattle.sim_channels.specs.Channels.{IsKept, slots_of}
+use Rattle.sim_channels.specs.Channels.{EntersAlone, IsKept, slots_of}
 use Rattle.sim_channels.specs.Delivering.{Leaves}
 use Rattle.sim_channels.specs.Driving.{DrivingLaws}
 use Rattle.sim_channels.proofs.Kept.{ChannelAt, is_as_long, is_there, kept_left, plugged_at, spares}
@@ -27,12 +27,12 @@ told_end c fault old reply new plugged (inl (none, passes)) = (let f : true ≡ 
 told_end c fault old reply new plugged (inr (s, found, r, e)) = r
 
 module _ (laws : DrivingLaws) (at : ℕ) (old new : Driver) (reply : Reply) (k l : Channel) (kept : IsKept old) (h : ChannelAt at k l old new) (plugged : k.stage ≡ Plugged)
-    (is : l ≡ record k { stage = Left }) (steps : Steps old.core (entries.Gone (at + 1) true) reply new.core) where
-  is_open : is_plugged (at + 1) old.core ≡ true
+    (is : l ≡ record k { stage = Left }) (enters : EntersAlone (entries.Gone (at + 1) true) reply old.desk new.desk) where
+  is_open : is_plugged (at + 1) old.desk.now ≡ true
   is_open = plugged_at old at k kept h.there plugged
 
   ended : reply ≡ Ended (link_end true)
-  ended = told_end (at + 1) true old.core reply new.core is_open steps
+  ended = told_end (at + 1) true old.desk.now reply new.desk.now is_open enters.steps
 
   left : l.stage ≡ Left
   left = ap (λ (x : Channel). x.stage) is
@@ -42,19 +42,20 @@ module _ (laws : DrivingLaws) (at : ℕ) (old new : Driver) (reply : Reply) (k l
 
   pub leaves : Leaves at old new
   leaves = record {
-    kept = kept_left laws old new (entries.Gone (at + 1) true) reply kept tt steps refl refl at k l h plugged left (eq-eqb (at + 1) (at + 1) refl) (ap is_end ended)
+    kept = kept_left laws old new (entries.Gone (at + 1) true) reply kept tt enters.steps refl refl at k l h plugged left (eq-eqb (at + 1) (at + 1) refl) (ap is_end ended)
         (λ c o. ne_eqb (at + 1) c (λ e. o (sym e)));
     reply = reply;
     memory = ap lacks_memory ended;
     enters = λ devices long. record {
       may = is_open;
       admitted = tt;
-      steps = steps;
+      steps = enters.steps;
       smooth = subst IsSmooth (sym ended) tt;
       slots = ap (λ ks. slots_of ks devices) h.channels ∙ slots_alike old.channels.items devices at k l h.there (ap (λ (x : Channel). x.to) is) from_same;
+      past = enters.past;
     };
     places = is_as_long at k l old new h;
-    spares = spares laws old new (entries.Gone (at + 1) true) reply kept steps refl at k l h (λ c o. ne_eqb (at + 1) c (λ e. o (sym e))) from_same
+    spares = spares laws old new (entries.Gone (at + 1) true) reply kept enters.steps refl at k l h (λ c o. ne_eqb (at + 1) c (λ e. o (sym e))) from_same
         (λ other. (let f : Left ≡ Plugged = sym left ∙ other in absurd (cc)));
     left = λ x there. ap (λ (y : Channel). y.stage) (same_Some x l (sym there ∙ is_there at k l old new h)) ∙ left;
     waiting = λ x y was there.

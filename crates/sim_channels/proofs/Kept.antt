@@ -6,6 +6,7 @@ use Rattle.std.proofs.lemmas.Bool.{cases_eq}
 use Rattle.std.proofs.lemmas.List.{length-set}
 use Rattle.std.proofs.lemmas.Option.{get_or_from_slice_get, same_Some, slice_get_within}
 use Rattle.device_port.specs.Devices.{Meaning}
+use Rattle.machine_desk.specs.Desks.{Footing}
 use Rattle.machine_moves.specs.Told.{concerns, is_end, is_heard, may_end}
 use Rattle.machine_steps.specs.declared.entry.Entry.{Entry}
 use Rattle.machine_steps.specs.declared.entry.Entry.TheVariants as entries
@@ -19,11 +20,11 @@ use Rattle.sim_channels.specs.declared.channel.Channel.{Channel}
 use Rattle.sim_channels.specs.declared.channel.Plugging.{Plugging}
 use Rattle.sim_channels.specs.declared.channel.Plugging.TheVariants.{Left, Plugged, Unplugged}
 use Rattle.sim_channels.specs.declared.driver.Driver.{Driver}
-use Rattle.sim_channels.specs.Channels.{Fits, IsFresh, IsKept, IsStaged, is_plugged_in, was_plugged_in}
+use Rattle.sim_channels.specs.Channels.{Fits, IsAlone, IsFresh, IsKept, IsStaged, is_plugged_in, was_plugged_in}
 use Rattle.sim_channels.specs.Delivering.{Spares}
 use Rattle.sim_channels.specs.Driving.{DrivingLaws}
 use Rattle.sim_channels.specs.Waiting.{WhilePlugged}
-use Rattle.sim_channels.proofs.Keeping.{is_opening, is_policy, opened_same, plugged_ends, plugged_same, policy_same, reached_on, session_same, settings_same}
+use Rattle.sim_channels.proofs.Keeping.{is_opening, is_policy, opened_same, plugged_ends, plugged_same, reached_on, session_same}
 use Rattle.sim_channels.proofs.Making.{may_make}
 use Rattle.sim_channels.proofs.Slots.{set_beside, set_there}
 
@@ -35,8 +36,7 @@ on_err (Err e) p = p
 pub record ChannelAt (at : ℕ) (k l : Channel) (old new : Driver) : Type 0 where
   pub there : slice_get old.channels.items at ≡ Some k
   pub channels : new.channels.items ≡ set old.channels.items at l
-  pub learning : new.learning ≡ old.learning
-  pub budget : new.budget ≡ old.budget
+  pub footing : new.desk.footing ≡ old.desk.footing
 
 module _ (at : ℕ) (k l : Channel) (old new : Driver) (h : ChannelAt at k l old new) where
   pub is_there : slice_get new.channels.items at ≡ Some l
@@ -49,13 +49,12 @@ module _ (at : ℕ) (k l : Channel) (old new : Driver) (h : ChannelAt at k l old
   is_as_long = ap length h.channels ∙ length-set old.channels.items at l
 
 -- from how the machine is given an entry, and how a channel is written then
-module _ (at : ℕ) (old mid : Driver) (k : Channel) (there : slice_get old.channels.items at ≡ Some k) (rest : mid ≡ record old { core = mid.core }) where
-  pub channel_at : (l : Channel) (new : Driver) → new.channels.items ≡ set mid.channels.items at l → new.learning ≡ mid.learning → new.budget ≡ mid.budget → ChannelAt at k l old new
-  channel_at l new channels learning budget = record {
+module _ (at : ℕ) (old mid : Driver) (k : Channel) (there : slice_get old.channels.items at ≡ Some k) (rest : mid ≡ record old { desk = mid.desk }) where
+  pub channel_at : (l : Channel) (new : Driver) → new.channels.items ≡ set mid.channels.items at l → new.desk.footing ≡ old.desk.footing → ChannelAt at k l old new
+  channel_at l new channels footing = record {
     there = there;
     channels = channels ∙ ap (λ (x : Driver). set x.channels.items at l) rest;
-    learning = learning ∙ ap (λ (x : Driver). x.learning) rest;
-    budget = budget ∙ ap (λ (x : Driver). x.budget) rest;
+    footing = footing;
   }
 
   pub channel_within : at < length mid.channels.items
@@ -64,9 +63,14 @@ module _ (at : ℕ) (old mid : Driver) (k : Channel) (there : slice_get old.chan
   pub channel_read : (r : Channel) → r ≡ get_or mid.channels.items at r → r ≡ k
   channel_read r value = value ∙ ap (λ (x : Driver). get_or x.channels.items at r) rest ∙ get_or_from_slice_get old.channels.items at k r there
 
+-- ---- nobody else
+
+pub alone_still : (old new : Driver) → new.desk.footing ≡ old.desk.footing → IsAlone old → IsAlone new
+alone_still old new footing alone = ap (λ (f : Footing). f.parts) footing ∙ alone
+
 -- ---- stages
 
-pub plugged_at : (driver : Driver) (at : ℕ) (k : Channel) → IsKept driver → slice_get driver.channels.items at ≡ Some k → k.stage ≡ Plugged → is_plugged (at + 1) driver.core ≡ true
+pub plugged_at : (driver : Driver) (at : ℕ) (k : Channel) → IsKept driver → slice_get driver.channels.items at ≡ Some k → k.stage ≡ Plugged → is_plugged (at + 1) driver.desk.now ≡ true
 plugged_at driver at k kept there plugged = (kept.stages at k there).plugged ∙ ap is_plugged_in plugged
 
 pub staged : (c : ℕ) (m n : State) (stage : Plugging) → is_plugged c n ≡ is_plugged c m → was_opened c n ≡ was_opened c m → IsStaged c m stage → IsStaged c n stage
@@ -103,34 +107,33 @@ fresh_but old new kept at k l h fresh n x there unplugged =
 pub not_fresh : (k : Channel) → k.stage ≡ Plugged → k.stage ≡ Unplugged → IsFresh k
 not_fresh k plugged unplugged = (let f : Plugged ≡ Unplugged = sym plugged ∙ unplugged in absurd (cc))
 
-module _ (laws : DrivingLaws) (old new : Driver) (entry : Entry) (reply : Reply) (kept : IsKept old) (admitted : Admits old.core entry) (steps : Steps old.core entry reply new.core)
+module _ (laws : DrivingLaws) (old new : Driver) (entry : Entry) (reply : Reply) (kept : IsKept old) (admitted : Admits old.desk.now entry) (steps : Steps old.desk.now entry reply new.desk.now)
     (opens : is_opening entry ≡ false) (policy : is_policy entry ≡ false) where
-  pub kept_with : length new.channels.items ≡ length old.channels.items → new.learning ≡ old.learning → new.budget ≡ old.budget
-      → ((n : ℕ) (k : Channel) → slice_get new.channels.items n ≡ Some k → IsStaged (n + 1) new.core k.stage) → ((c : ℕ) → is_plugged c new.core ≡ true → is_plugged c old.core ≡ true)
+  pub kept_with : length new.channels.items ≡ length old.channels.items → new.desk.footing ≡ old.desk.footing
+      → ((n : ℕ) (k : Channel) → slice_get new.channels.items n ≡ Some k → IsStaged (n + 1) new.desk.now k.stage) → ((c : ℕ) → is_plugged c new.desk.now ≡ true → is_plugged c old.desk.now ≡ true)
       → ((n : ℕ) (k : Channel) → slice_get new.channels.items n ≡ Some k → k.stage ≡ Unplugged → IsFresh k) → IsKept new
-  kept_with long learning budget stages plugs fresh = record {
-    reached = reached_on old.core entry reply new.core kept.reached admitted steps;
+  kept_with long footing stages plugs fresh = record {
+    alone = alone_still old new footing kept.alone;
+    reached = reached_on old.desk.now entry reply new.desk.now kept.reached admitted steps;
     numbers = subst (λ n. n < 2 ^ 32) (sym long) kept.numbers;
     stages = stages;
     places_alone = λ c plugged. (let place = kept.places_alone c (plugs c plugged) in (place.0, subst (λ n. c ≤ n) (sym long) place.1));
-    learning = learning ∙ kept.learning ∙ sym (ap (λ p. p.learning) (policy_same laws old.core entry reply new.core kept.reached steps policy));
-    budget = budget ∙ kept.budget ∙ sym (ap (λ s. s.budget) (settings_same laws old.core entry reply new.core kept.reached steps));
     fresh = fresh;
   }
 
   -- ---- no session ends
 
   module _ (no_end : (c : ℕ) → (may_end c entry && is_end reply) ≡ false) where
-    still_plugged : (c : ℕ) → is_plugged c new.core ≡ is_plugged c old.core
-    still_plugged c = plugged_same laws old.core entry reply new.core kept.reached steps opens c (no_end c)
+    still_plugged : (c : ℕ) → is_plugged c new.desk.now ≡ is_plugged c old.desk.now
+    still_plugged c = plugged_same laws old.desk.now entry reply new.desk.now kept.reached steps opens c (no_end c)
 
-    still_staged : (c : ℕ) (stage : Plugging) → IsStaged c old.core stage → IsStaged c new.core stage
-    still_staged c stage h = staged c old.core new.core stage (still_plugged c) (opened_same laws old.core entry reply new.core kept.reached steps opens c) h
+    still_staged : (c : ℕ) (stage : Plugging) → IsStaged c old.desk.now stage → IsStaged c new.desk.now stage
+    still_staged c stage h = staged c old.desk.now new.desk.now stage (still_plugged c) (opened_same laws old.desk.now entry reply new.desk.now kept.reached steps opens c) h
 
     -- and no channel changes
-    pub kept_entry : new ≡ record old { core = new.core } → IsKept new
-    kept_entry e =
-        kept_with (ap (λ (x : Driver). length x.channels.items) e) (ap (λ (x : Driver). x.learning) e) (ap (λ (x : Driver). x.budget) e)
+    pub kept_entry : new ≡ record old { desk = new.desk } → new.desk.footing ≡ old.desk.footing → IsKept new
+    kept_entry e footing =
+        kept_with (ap (λ (x : Driver). length x.channels.items) e) footing
         (λ n k there. still_staged (n + 1) k.stage (kept.stages n k (sym (ap (λ (x : Driver). slice_get x.channels.items n) e) ∙ there)))
         (λ c plugged. sym (still_plugged c) ∙ plugged)
         (λ n k there unplugged. kept.fresh n k (sym (ap (λ (x : Driver). slice_get x.channels.items n) e) ∙ there) unplugged)
@@ -138,39 +141,39 @@ module _ (laws : DrivingLaws) (old new : Driver) (entry : Entry) (reply : Reply)
     -- and of one channel no stage
     pub kept_channel : (at : ℕ) (k l : Channel) → ChannelAt at k l old new → l.stage ≡ k.stage → (l.stage ≡ Unplugged → IsFresh l) → IsKept new
     kept_channel at k l h same fresh =
-        kept_with (is_as_long at k l old new h) h.learning h.budget (λ n x there. still_staged (n + 1) x.stage (was n x there)) (λ c open_now. sym (still_plugged c) ∙ open_now)
+        kept_with (is_as_long at k l old new h) h.footing (λ n x there. still_staged (n + 1) x.stage (was n x there)) (λ c open_now. sym (still_plugged c) ∙ open_now)
         (fresh_but old new kept at k l h fresh)
       where
-        was : (n : ℕ) (x : Channel) → slice_get new.channels.items n ≡ Some x → IsStaged (n + 1) old.core x.stage
-        was = stages_but old.core at k l old new h (subst (IsStaged (at + 1) old.core) (sym same) (kept.stages at k h.there)) (λ n x o there. kept.stages n x there)
+        was : (n : ℕ) (x : Channel) → slice_get new.channels.items n ≡ Some x → IsStaged (n + 1) old.desk.now x.stage
+        was = stages_but old.desk.now at k l old new h (subst (IsStaged (at + 1) old.desk.now) (sym same) (kept.stages at k h.there)) (λ n x o there. kept.stages n x there)
 
   -- ---- the session at a place ends
 
   module _ (at : ℕ) (k l : Channel) (h : ChannelAt at k l old new) (plugged : k.stage ≡ Plugged) (left : l.stage ≡ Left) (may : may_end (at + 1) entry ≡ true) (end : is_end reply ≡ true)
       (others : (c : ℕ) → (c ≡ at + 1 → ⊥) → may_end c entry ≡ false) where
-    beside_plugged : (c : ℕ) → (c ≡ at + 1 → ⊥) → is_plugged c new.core ≡ is_plugged c old.core
-    beside_plugged c o = plugged_same laws old.core entry reply new.core kept.reached steps opens c (ap (λ b. b && is_end reply) (others c o))
+    beside_plugged : (c : ℕ) → (c ≡ at + 1 → ⊥) → is_plugged c new.desk.now ≡ is_plugged c old.desk.now
+    beside_plugged c o = plugged_same laws old.desk.now entry reply new.desk.now kept.reached steps opens c (ap (λ b. b && is_end reply) (others c o))
 
-    shut : is_plugged (at + 1) new.core ≡ false
-    shut = plugged_ends laws old.core entry reply new.core kept.reached steps (at + 1) (plugged_at old at k kept h.there plugged) may end
+    shut : is_plugged (at + 1) new.desk.now ≡ false
+    shut = plugged_ends laws old.desk.now entry reply new.desk.now kept.reached steps (at + 1) (plugged_at old at k kept h.there plugged) may end
 
     pub kept_left : IsKept new
-    kept_left = kept_with (is_as_long at k l old new h) h.learning h.budget stages plugs (fresh_but old new kept at k l h (λ unplugged. (let f : Left ≡ Unplugged = sym left ∙ unplugged in absurd (cc))))
+    kept_left = kept_with (is_as_long at k l old new h) h.footing stages plugs (fresh_but old new kept at k l h (λ unplugged. (let f : Left ≡ Unplugged = sym left ∙ unplugged in absurd (cc))))
       where
-        opened : (c : ℕ) → was_opened c new.core ≡ was_opened c old.core
-        opened c = opened_same laws old.core entry reply new.core kept.reached steps opens c
+        opened : (c : ℕ) → was_opened c new.desk.now ≡ was_opened c old.desk.now
+        opened c = opened_same laws old.desk.now entry reply new.desk.now kept.reached steps opens c
 
-        here : IsStaged (at + 1) new.core Left
+        here : IsStaged (at + 1) new.desk.now Left
         here = record { plugged = shut; opened = opened (at + 1) ∙ (kept.stages at k h.there).opened ∙ ap was_plugged_in plugged }
 
-        stages : (n : ℕ) (x : Channel) → slice_get new.channels.items n ≡ Some x → IsStaged (n + 1) new.core x.stage
+        stages : (n : ℕ) (x : Channel) → slice_get new.channels.items n ≡ Some x → IsStaged (n + 1) new.desk.now x.stage
         stages =
-            stages_but new.core at k l old new h (subst (IsStaged (at + 1) new.core) (sym left) here)
-            (λ n x o there. staged (n + 1) old.core new.core x.stage (beside_plugged (n + 1) o) (opened (n + 1)) (kept.stages n x there))
+            stages_but new.desk.now at k l old new h (subst (IsStaged (at + 1) new.desk.now) (sym left) here)
+            (λ n x o there. staged (n + 1) old.desk.now new.desk.now x.stage (beside_plugged (n + 1) o) (opened (n + 1)) (kept.stages n x there))
 
-        plugs : (c : ℕ) → is_plugged c new.core ≡ true → is_plugged c old.core ≡ true
+        plugs : (c : ℕ) → is_plugged c new.desk.now ≡ true → is_plugged c old.desk.now ≡ true
         plugs c open_now =
-            ⊎_elim (λ e. (let f : true ≡ false = sym open_now ∙ ap (λ n. is_plugged n new.core) e ∙ shut in absurd (cc)))
+            ⊎_elim (λ e. (let f : true ≡ false = sym open_now ∙ ap (λ n. is_plugged n new.desk.now) e ∙ shut in absurd (cc)))
             (λ o. sym (beside_plugged c o) ∙ open_now) (cases_eq c (at + 1))
 
 -- ---- other places
@@ -180,15 +183,15 @@ unheard (entries.Heard c input) f = f
 unheard entry f = refl
 
 -- an entry that makes no state, and is of this place alone
-pub spares : DrivingLaws → (old new : Driver) (entry : Entry) (reply : Reply) → IsKept old → Steps old.core entry reply new.core → may_make entry ≡ false → (at : ℕ) (k l : Channel)
-    → ChannelAt at k l old new → ((c : ℕ) → (c ≡ at + 1 → ⊥) → concerns c entry old.core ≡ false) → l.from.stream ≡ k.from.stream → (l.stage ≡ Plugged → k.stage ≡ Plugged) → Spares at old new
+pub spares : DrivingLaws → (old new : Driver) (entry : Entry) (reply : Reply) → IsKept old → Steps old.desk.now entry reply new.desk.now → may_make entry ≡ false → (at : ℕ) (k l : Channel)
+    → ChannelAt at k l old new → ((c : ℕ) → (c ≡ at + 1 → ⊥) → concerns c entry old.desk.now ≡ false) → l.from.stream ≡ k.from.stream → (l.stage ≡ Plugged → k.stage ≡ Plugged) → Spares at old new
 spares laws old new entry reply kept steps none at k l h others from stage = record {
-  others = record { sessions = λ c o. session_same laws old.core entry reply new.core kept.reached steps none c (others c o); channels = λ n o. is_beside at k l old new h n o };
+  others = record { sessions = λ c o. session_same laws old.desk.now entry reply new.desk.now kept.reached steps none c (others c o); channels = λ n o. is_beside at k l old new h n o };
   heard = λ was x there plugged.
       (let is : l ≡ x = same_Some l x (sym (is_there at k l old new h) ∙ there) in
       subst (λ (y : Channel). IsHeardOut y.from.stream) is
       (subst IsHeardOut (sym from) (was k h.there (stage (ap (λ (y : Channel). y.stage) is ∙ plugged)))));
-  jobs = λ jobs. laws.none old.core entry reply new.core jobs (unheard entry none) steps;
+  jobs = λ jobs. laws.none old.desk.now entry reply new.desk.now jobs (unheard entry none) steps;
 }
 
 pub spares_none : (at : ℕ) (driver : Driver) → Spares at driver driver

@@ -11,15 +11,15 @@ use Rattle.device_port.specs.Devices.Call.{Offered}
 use Rattle.machine_moves.specs.Sends.{CanBeOffered}
 use Rattle.machine_steps.specs.declared.entry.Entry.TheVariants as entries
 use Rattle.machine_steps.specs.declared.note.Note.TheVariants as notes
+use Rattle.machine_steps.specs.declared.reply.Reply.{Reply}
 use Rattle.machine_steps.specs.declared.reply.Reply.TheVariants.{Done}
-use Rattle.machine_steps.specs.Steps.{Steps}
 use Rattle.sim_steps.specs.Benches.{MovesAt, is_plugged}
 use Rattle.sim_steps.specs.Deeds.{CallsAt, CallsSlot}
 use Rattle.sim_steps.proofs.Moments.{carried_call, carried_failed}
 use Rattle.sim_channels.specs.declared.channel.Channel.{Channel}
 use Rattle.sim_channels.specs.declared.channel.Plugging.TheVariants.{Plugged}
 use Rattle.sim_channels.specs.declared.driver.Driver.{Driver}
-use Rattle.sim_channels.specs.Channels.{Fits, IsKept, bench, slots_of}
+use Rattle.sim_channels.specs.Channels.{EntersAlone, Fits, IsKept, bench, slots_of}
 use Rattle.sim_channels.specs.Delivering.{CanOffer, Delivers, GoesOn, IsPluggedIn, Leaves, OffersFirst, Spares, left_in, offers_left, took_by}
 use Rattle.sim_channels.specs.Driving.{DrivingLaws}
 use Rattle.sim_channels.specs.Waiting.{IsTaken}
@@ -61,7 +61,7 @@ module _ (laws : DrivingLaws) (at : ℕ) (old mid : Driver) (k l : Channel) (d e
   kept : IsKept old
   kept = fits.kept
 
-  is_open : is_plugged (at + 1) old.core ≡ true
+  is_open : is_plugged (at + 1) old.desk.now ≡ true
   is_open = plugged_at old at k kept h.there plugged
 
   is_e : slice_get es at ≡ Some e
@@ -73,13 +73,13 @@ module _ (laws : DrivingLaws) (at : ℕ) (old mid : Driver) (k l : Channel) (d e
   device_beside : (n : ℕ) → (n ≡ at → ⊥) → slice_get es n ≡ slice_get ds n
   device_beside n o = ap (λ xs. slice_get xs n) g.devices ∙ set_beside ds at n e o
 
-  module _ (failed : Bool) (o : OffersFirst failed k d l e) (steps : Steps old.core (entries.Note (notes.Offered (at + 1) failed)) Done mid.core) where
+  module _ (failed : Bool) (o : OffersFirst failed k d l e) (enters : EntersAlone (entries.Note (notes.Offered (at + 1) failed)) Done old.desk mid.desk) where
     mid_kept : IsKept mid
-    mid_kept = kept_channel laws old mid (entries.Note (notes.Offered (at + 1) failed)) Done kept tt steps refl refl (λ c. refl) at k l h o.stage (not_fresh l (o.stage ∙ plugged))
+    mid_kept = kept_channel laws old mid (entries.Note (notes.Offered (at + 1) failed)) Done kept tt enters.steps refl refl (λ c. refl) at k l h o.stage (not_fresh l (o.stage ∙ plugged))
 
     mid_spares : Spares at old mid
     mid_spares =
-        spares laws old mid (entries.Note (notes.Offered (at + 1) failed)) Done kept steps refl at k l h (λ c o. refl) (ap (λ f. f.stream) o.from) (λ f. sym o.stage ∙ f)
+        spares laws old mid (entries.Note (notes.Offered (at + 1) failed)) Done kept enters.steps refl at k l h (λ c o. refl) (ap (λ f. f.stream) o.from) (λ f. sym o.stage ∙ f)
 
     slots : MovesAt (at + 1) (CallsSlot (Offered o.bytes (took_by failed))) (bench old ds).slots (bench mid es).slots
     slots =
@@ -90,16 +90,21 @@ module _ (laws : DrivingLaws) (at : ℕ) (old mid : Driver) (k l : Channel) (d e
     calls : (b : Bool) → b ≡ failed → CallsAt (at + 1) (Offered o.bytes (took_by b)) Done (bench old ds) (bench mid es)
     calls b same = go b same
       where
+        entered : (b : Bool) → b ≡ failed → EntersAlone (entries.Note (notes.Offered (at + 1) b)) Done old.desk mid.desk
+        entered b same = subst (λ f. EntersAlone (entries.Note (notes.Offered (at + 1) f)) Done old.desk mid.desk) (sym same) enters
+
         go : (b : Bool) → b ≡ failed → CallsAt (at + 1) (Offered o.bytes (took_by b)) Done (bench old ds) (bench mid es)
         go true same = record {
           plugged = is_open;
           slots = subst (λ f. MovesAt (at + 1) (CallsSlot (Offered o.bytes (took_by f))) (bench old ds).slots (bench mid es).slots) (sym same) slots;
-          noted = subst (λ f. Steps old.core (entries.Note (notes.Offered (at + 1) f)) Done mid.core) (sym same) steps;
+          noted = (entered true same).steps;
+          past = (entered true same).past;
         }
         go false same = record {
           plugged = is_open;
           slots = subst (λ f. MovesAt (at + 1) (CallsSlot (Offered o.bytes (took_by f))) (bench old ds).slots (bench mid es).slots) (sym same) slots;
-          noted = subst (λ f. Steps old.core (entries.Note (notes.Offered (at + 1) f)) Done mid.core) (sym same) steps;
+          noted = (entered false same).steps;
+          past = (entered false same).past;
         }
 
     mid_waiting : (x : Channel) (y : Meaning) → slice_get mid.channels.items at ≡ Some x → slice_get es at ≡ Some y → x.waiting ≡ length y.pending
@@ -125,8 +130,8 @@ module _ (laws : DrivingLaws) (at : ℕ) (old mid : Driver) (k l : Channel) (d e
 
     taken_still : IsTaken at old → IsTaken at mid
     taken_still taken x there stage =
-        messages_same laws (at + 1) old.core mid.core kept.reached mid_kept.reached is_open
-        (session_same laws old.core (entries.Note (notes.Offered (at + 1) failed)) Done mid.core kept.reached steps refl (at + 1) refl)
+        messages_same laws (at + 1) old.desk.now mid.desk.now kept.reached mid_kept.reached is_open
+        (session_same laws old.desk.now (entries.Note (notes.Offered (at + 1) failed)) Done mid.desk.now kept.reached enters.steps refl (at + 1) refl)
         ∙ taken k h.there plugged
 
     pub delivers_taken : failed ≡ false → IsTaken at old → Delivers at old ds mid es
@@ -171,20 +176,22 @@ pub record IsTold (at : ℕ) (old mid : Driver) (ds es : List Meaning) (failed :
   pub left : failed ≡ true → (new : Driver) → Leaves at mid new → Delivers at old ds new es
 
 pub told : DrivingLaws → {B : Type 0} (f : B → Meaning) (xs : List B) (at : ℕ) (x y : B) (old mid : Driver) (r l : Channel) (failed : Bool) (c : ℕ) → Fits old (map f xs)
-    → Reads at old r (f (get_or xs at x)) → at < length xs → OffersFirst failed r (f (get_or xs at x)) l (f y) → mid ≡ record old { core = mid.core; channels = with_item old.channels at l }
-    → c ≡ at + 1 → Steps old.core (entries.Note (notes.Offered c failed)) Done mid.core → IsTold at old mid (map f xs) (map f (set xs at y)) failed
-told laws f xs at x y old mid r l failed c fits h within o rest is steps =
+    → Reads at old r (f (get_or xs at x)) → at < length xs → OffersFirst failed r (f (get_or xs at x)) l (f y) → mid ≡ record old { desk = mid.desk; channels = with_item old.channels at l }
+    → mid.desk.footing ≡ old.desk.footing → c ≡ at + 1 → (reply : Reply) → reply ≡ Done → EntersAlone (entries.Note (notes.Offered c failed)) reply old.desk mid.desk
+    → IsTold at old mid (map f xs) (map f (set xs at y)) failed
+told laws f xs at x y old mid r l failed c fits h within o rest footing is reply done enters =
     let d = f (get_or xs at x) in
     let ds = map f xs in
     let es = map f (set xs at y) in
     let channel : ChannelAt at r l old mid =
-    record { there = h.there; channels = ap (λ (m : Driver). m.channels.items) rest; learning = ap (λ (m : Driver). m.learning) rest; budget = ap (λ (m : Driver). m.budget) rest } in
+    record { there = h.there; channels = ap (λ (m : Driver). m.channels.items) rest; footing = footing } in
     let device : DeviceAt at d (f y) ds es = record { there = device_there f xs at x within; devices = map-set f xs at y } in
-    let steps_here = subst (λ n. Steps old.core (entries.Note (notes.Offered n failed)) Done mid.core) is steps in
+    let enters_here = subst (λ n. EntersAlone (entries.Note (notes.Offered n failed)) Done old.desk mid.desk) is
+    (subst (λ r. EntersAlone (entries.Note (notes.Offered c failed)) r old.desk mid.desk) done enters) in
     record {
-      kept = mid_is_kept laws at old mid r l d (f y) ds es fits channel device h.stage failed o steps_here;
-      plugged = mid_plugged laws at old mid r l d (f y) ds es fits channel device h.stage failed o steps_here;
-      taken = delivers_taken laws at old mid r l d (f y) ds es fits channel device h.stage failed o steps_here;
-      goes_on = goes_on laws at old mid r l d (f y) ds es fits channel device h.stage failed o steps_here;
-      left = delivers_failed laws at old mid r l d (f y) ds es fits channel device h.stage failed o steps_here;
+      kept = mid_is_kept laws at old mid r l d (f y) ds es fits channel device h.stage failed o enters_here;
+      plugged = mid_plugged laws at old mid r l d (f y) ds es fits channel device h.stage failed o enters_here;
+      taken = delivers_taken laws at old mid r l d (f y) ds es fits channel device h.stage failed o enters_here;
+      goes_on = goes_on laws at old mid r l d (f y) ds es fits channel device h.stage failed o enters_here;
+      left = delivers_failed laws at old mid r l d (f y) ds es fits channel device h.stage failed o enters_here;
     }

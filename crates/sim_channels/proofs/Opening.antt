@@ -5,19 +5,17 @@ use Rattle.std.specs.FinSet as set
 use Rattle.std.specs.List.{AllByRecursion, slice_get}
 use Rattle.std.specs.Ordering.{nat_cmp}
 use Rattle.std.proofs.lemmas.Option.{none-some, same_Some}
-use Rattle.maple_base.specs.declared.decision.Settings.{Settings}
-use Rattle.policy_lang.specs.declared.Policy.{Policy}
 use Rattle.device_port.specs.Devices.{Meaning}
-use Rattle.machine_steps.specs.Machine.{State, opening, was_opened}
-use Rattle.machine_steps.specs.Sound.{AreInRange}
+use Rattle.machine_desk.specs.Desks.{DeskView}
+use Rattle.machine_steps.specs.Machine.{State, was_opened}
 use Rattle.world_steps.specs.Worlds.{messages_for}
-use Rattle.sim_steps.specs.Benches.{is_plugged, opening_bench, slot_of}
+use Rattle.sim_steps.specs.Benches.{is_plugged, slot_of}
 use Rattle.sim_steps.specs.Parts.{IsHeardOut}
 use Rattle.sim_steps.specs.Showing.{AllIdle}
 use Rattle.sim_channels.specs.declared.channel.Channel.{Channel}
 use Rattle.sim_channels.specs.declared.channel.Plugging.TheVariants.{Plugged, Unplugged}
 use Rattle.sim_channels.specs.declared.driver.Driver.{Driver}
-use Rattle.sim_channels.specs.Channels.{Fits, IsKept, IsStaged, bench, slot_by, slots_of}
+use Rattle.sim_channels.specs.Channels.{Fits, IsAtStart, IsKept, IsStaged, bench, bench_at_start, slot_by, slots_of}
 use Rattle.sim_channels.specs.Delivering.{IsUnused}
 use Rattle.sim_channels.specs.Waiting.{IsAtRest, WhilePlugged}
 
@@ -41,35 +39,34 @@ slots_unused (k ∷ ks) [] e all = absurd (omega (arith, e))
 slots_unused (k ∷ ks) (d ∷ ds) e all =
     ap (λ s. s ∷ slots_of ks ds) (slot_unused k d all.0) ∙ ap (λ ss. slot_of d ∷ ss) (slots_unused ks ds (omega (arith, e)) all.1)
 
--- a driver over the opening state
-pub record IsNewDriver (policy : Policy) (settings : Settings) (driver : Driver) (places : ℕ) : Type 0 where
-  pub ranges : AreInRange settings
-  pub core : driver.core ≡ opening policy settings
-  pub learning : driver.learning ≡ policy.learning
-  pub budget : driver.budget ≡ settings.budget
+pub nothing_waits : (desk : DeskView) → IsAtStart desk → (c : ℕ) → messages_for c desk.now ≡ []
+nothing_waits desk start c = ap (messages_for c) start.opening
+
+-- a driver at a desk at its start
+pub record IsNewDriver (driver : Driver) (places : ℕ) : Type 0 where
+  pub start : IsAtStart driver.desk
   pub unused : AllByRecursion IsUnused driver.channels.items
   pub count : length driver.channels.items ≡ places
   pub few : places < 2 ^ 32
 
-module _ (policy : Policy) (settings : Settings) (driver : Driver) (ds : List Meaning) (h : IsNewDriver policy settings driver (length ds)) where
-  pub new_bench : bench driver ds ≡ opening_bench policy settings ds
-  new_bench = (let slots = slots_unused driver.channels.items ds h.count h.unused in λ i. record { machine = h.core i; slots = slots i })
+module _ (driver : Driver) (ds : List Meaning) (h : IsNewDriver driver (length ds)) where
+  pub new_bench : bench driver ds ≡ bench_at_start driver.desk ds
+  new_bench = (let slots = slots_unused driver.channels.items ds h.count h.unused in λ i. record { past = h.start.none i; machine = h.start.opening i; slots = slots i })
 
-  none_open : (c : ℕ) → is_plugged c driver.core ≡ false
-  none_open c = ap (is_plugged c) h.core
+  none_open : (c : ℕ) → is_plugged c driver.desk.now ≡ false
+  none_open c = ap (is_plugged c) h.start.opening
 
-  none_opened : (c : ℕ) → was_opened c driver.core ≡ false
-  none_opened c = ap (was_opened c) h.core ∙ set.contains-empty nat_cmp c
+  none_opened : (c : ℕ) → was_opened c driver.desk.now ≡ false
+  none_opened c = ap (was_opened c) h.start.opening ∙ set.contains-empty nat_cmp c
 
   new_kept : IsKept driver
   new_kept = record {
-    reached = record { policy = policy; settings = settings; ranges = h.ranges; turns = []; leads = h.core };
+    alone = h.start.alone;
+    reached = record { policy = driver.desk.now.policy; settings = driver.desk.now.settings; ranges = h.start.ranges; turns = []; leads = h.start.opening };
     numbers = subst (λ n. n < 2 ^ 32) (sym h.count) h.few;
     stages = λ n k there.
-        subst (IsStaged (n + 1) driver.core) (sym (unused_at driver.channels.items n k h.unused there).stage) (record { plugged = none_open (n + 1); opened = none_opened (n + 1) });
+        subst (IsStaged (n + 1) driver.desk.now) (sym (unused_at driver.channels.items n k h.unused there).stage) (record { plugged = none_open (n + 1); opened = none_opened (n + 1) });
     places_alone = λ c plugged. (let f : true ≡ false = sym plugged ∙ none_open c in absurd (cc));
-    learning = h.learning ∙ sym (ap (λ (m : State). m.policy.learning) h.core);
-    budget = h.budget ∙ sym (ap (λ (m : State). m.settings.budget) h.core);
     fresh = λ n k there unplugged. (let unused = unused_at driver.channels.items n k h.unused there in record { to = unused.to; from = unused.from });
   }
 
@@ -86,8 +83,8 @@ module _ (policy : Policy) (settings : Settings) (driver : Driver) (ds : List Me
 
   pub new_rest : IsAtRest driver
   new_rest = record {
-    jobs = ap (λ (m : State). m.jobs) h.core;
-    taken = λ n. none_waits (λ k. messages_for (n + 1) driver.core ≡ []) n;
+    jobs = ap (λ (m : State). m.jobs) h.start.opening;
+    taken = λ n. none_waits (λ k. messages_for (n + 1) driver.desk.now ≡ []) n;
     offered = λ n. none_waits (λ (k : Channel). k.to ≡ []) n;
     heard = λ n. none_waits (λ (k : Channel). IsHeardOut k.from.stream) n;
   }

@@ -31,15 +31,15 @@ pub record PluggedBy (c : ℕ) (driver : Driver) : Type 0 where
   pub there : slice_get driver.channels.items at ≡ Some channel
   pub plugged : channel.stage ≡ Plugged
 
-pub stage_plugged : (driver : Driver) (at : ℕ) (k : Channel) → IsKept driver → slice_get driver.channels.items at ≡ Some k → is_plugged (at + 1) driver.core ≡ true → k.stage ≡ Plugged
+pub stage_plugged : (driver : Driver) (at : ℕ) (k : Channel) → IsKept driver → slice_get driver.channels.items at ≡ Some k → is_plugged (at + 1) driver.desk.now ≡ true → k.stage ≡ Plugged
 stage_plugged driver at k kept there open_now = plugged_in k.stage (sym (kept.stages at k there).plugged ∙ open_now)
 
-pub plugged_by : (driver : Driver) (c : ℕ) → IsKept driver → is_plugged c driver.core ≡ true → PluggedBy c driver
+pub plugged_by : (driver : Driver) (c : ℕ) → IsKept driver → is_plugged c driver.desk.now ≡ true → PluggedBy c driver
 plugged_by driver c kept open_now =
     let place = kept.places_alone c open_now in
     let found = channel_there driver.channels.items (c - 1) (omega (arith, place.0, place.1)) in
     let is : c ≡ (c - 1) + 1 = omega (arith, place.0) in
-    record { at = c - 1; place = is; channel = found.0; there = found.1; plugged = stage_plugged driver (c - 1) found.0 kept found.1 (ap (λ n. is_plugged n driver.core) (sym is) ∙ open_now) }
+    record { at = c - 1; place = is; channel = found.0; there = found.1; plugged = stage_plugged driver (c - 1) found.0 kept found.1 (ap (λ n. is_plugged n driver.desk.now) (sym is) ∙ open_now) }
   where
     channel_there : (ks : List Channel) (n : ℕ) → n < length ks → (k : Channel) × (slice_get ks n ≡ Some k)
     channel_there [] n within = absurd (omega (arith, within))
@@ -54,7 +54,7 @@ pub record SlotPlugged (c : ℕ) (driver : Driver) (devices : List Meaning) (s :
 pub slot_plugged : (driver : Driver) (devices : List Meaning) (c : ℕ) (s : Slot) → IsKept driver → IsPluggedAt c (bench driver devices) s → SlotPlugged c driver devices s
 slot_plugged driver devices c s kept is =
     let found = slots_found driver.channels.items devices c s is.there in
-    record { slot = found; plugged = stage_plugged driver found.at found.channel kept found.there (ap (λ n. is_plugged n driver.core) (sym found.place) ∙ is.plugged) }
+    record { slot = found; plugged = stage_plugged driver found.at found.channel kept found.there (ap (λ n. is_plugged n driver.desk.now) (sym found.place) ∙ is.plugged) }
 
 pub none_to : (driver : Driver) (devices : List Meaning) → IsKept driver → ((at : ℕ) → IsOffered at driver) → (c : ℕ) (s : Slot) → IsPluggedAt c (bench driver devices) s → s.to ≡ []
 none_to driver devices kept offered c s is =
@@ -66,7 +66,7 @@ rest_is_still driver devices fits rest = record {
   jobs = rest.jobs;
   taken = λ c open_now.
       (let h = plugged_by driver c fits.kept open_now in
-      ap (λ n. messages_for n driver.core) h.place ∙ rest.taken h.at h.channel h.there h.plugged);
+      ap (λ n. messages_for n driver.desk.now) h.place ∙ rest.taken h.at h.channel h.there h.plugged);
   offered = none_to driver devices fits.kept rest.offered;
   heard = λ c s is.
       (let h = slot_plugged driver devices c s fits.kept is in
@@ -74,7 +74,7 @@ rest_is_still driver devices fits rest = record {
 }
 
 -- of the place where all was offered something may be heard, while no packet waits
-pub hears_in_order : (driver : Driver) (devices : List Meaning) (at : ℕ) (input : Input) (reply : Reply) → IsKept driver → driver.core.jobs ≡ [] → IsOffered at driver
+pub hears_in_order : (driver : Driver) (devices : List Meaning) (at : ℕ) (input : Input) (reply : Reply) → IsKept driver → driver.desk.now.jobs ≡ [] → IsOffered at driver
     → HearsInOrder (Enters (entries.Heard (at + 1) input) reply) (bench driver devices)
 hears_in_order driver devices at input reply kept jobs offered = (
   jobs,

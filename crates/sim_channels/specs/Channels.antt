@@ -1,14 +1,19 @@
 -- The driver of the machine and devices: the bench that it is with the devices, and what it keeps.
-use Rattle.std.specs.Prelude.{◌≡◌, ℕ, ◌+◌, ◌^◌, ◌<◌, ◌≤◌, Bool, true, false, List, [], ◌∷◌, length, Some}
+use Rattle.std.specs.Prelude.{◌≡◌, ℕ, ◌+◌, ◌^◌, ◌<◌, ◌≤◌, Bool, true, false, List, [], ◌∷◌, ◌++◌, length, Some}
 use Rattle.std.specs.List.{slice_get}
 use Rattle.maple_base.specs.declared.decision.Settings.{Settings}
 use Rattle.policy_lang.specs.declared.Policy.{Policy}
 use Rattle.of10_stream.specs.Steps.{beginning}
 use Rattle.device_port.specs.Devices.{Meaning}
+use Rattle.machine_desk.specs.Desks.{DeskView}
+use Rattle.machine_steps.specs.declared.entry.Entry.{Entry}
+use Rattle.machine_steps.specs.declared.reply.Reply.{Reply}
 use Rattle.machine_steps.specs.Histories.{Leads, Turn}
 use Rattle.machine_steps.specs.Machine.{State, opening, was_opened}
 use Rattle.machine_steps.specs.Sound.{AreInRange}
-use Rattle.sim_steps.specs.Benches.{Slot, Bench, is_plugged}
+use Rattle.machine_steps.specs.Steps.{Steps}
+use Rattle.sim_steps.specs.Benches.{Slot, Bench, is_plugged, opening_bench}
+use Rattle.sim_steps.specs.Deeds.{turn_by}
 use Rattle.sim_steps.specs.Stretches.{Carried}
 use Rattle.sim_channels.specs.declared.channel.Channel.{Channel}
 use Rattle.sim_channels.specs.declared.channel.Plugging.{Plugging}
@@ -27,7 +32,7 @@ slots_of (k ∷ ks) [] = []
 slots_of (k ∷ ks) (d ∷ ds) = slot_by k d ∷ slots_of ks ds
 
 abbrev pub bench : Driver → List Meaning → Bench
-bench driver devices = record { machine = driver.core; slots = slots_of driver.channels.items devices }
+bench driver devices = record { past = driver.desk.past; machine = driver.desk.now; slots = slots_of driver.channels.items devices }
 
 -- ---- what is kept
 
@@ -58,15 +63,17 @@ pub record IsFresh (k : Channel) : Type 0 where
   pub to : k.to ≡ []
   pub from : k.from.stream ≡ beginning
 
--- what the driver knows of the machine: the stages of sessions, whether the policy learns hosts, and the budget of a run; a device that
--- never was plugged in has a fresh channel
+-- nobody else has a part of the machine
+abbrev pub IsAlone : Driver → Type 0
+IsAlone driver = driver.desk.footing.parts ≡ 1024
+
+-- what the driver knows of the machine: nobody else uses it, and which stages its sessions have; a device that never was plugged in has a fresh channel
 pub record IsKept (driver : Driver) : Type 0 where
-  pub reached : IsReached driver.core
+  pub alone : IsAlone driver
+  pub reached : IsReached driver.desk.now
   pub numbers : length driver.channels.items < 2 ^ 32
-  pub stages : (at : ℕ) (k : Channel) → slice_get driver.channels.items at ≡ Some k → IsStaged (at + 1) driver.core k.stage
-  pub places_alone : (c : ℕ) → is_plugged c driver.core ≡ true → (1 ≤ c) × (c ≤ length driver.channels.items)
-  pub learning : driver.learning ≡ driver.core.policy.learning
-  pub budget : driver.budget ≡ driver.core.settings.budget
+  pub stages : (at : ℕ) (k : Channel) → slice_get driver.channels.items at ≡ Some k → IsStaged (at + 1) driver.desk.now k.stage
+  pub places_alone : (c : ℕ) → is_plugged c driver.desk.now ≡ true → (1 ≤ c) × (c ≤ length driver.channels.items)
   pub fresh : (at : ℕ) (k : Channel) → slice_get driver.channels.items at ≡ Some k → k.stage ≡ Unplugged → IsFresh k
 
 -- the channels are those of these devices, and count the messages that wait in them
@@ -76,6 +83,24 @@ pub record Fits (driver : Driver) (devices : List Meaning) : Type 0 where
   pub waiting :
       (at : ℕ) (k : Channel) (d : Meaning)
       → slice_get driver.channels.items at ≡ Some k → slice_get devices at ≡ Some d → k.waiting ≡ length d.pending
+
+-- the machine of a desk is ahead of its first entry, and nobody else has a part of it
+pub record IsAtStart (desk : DeskView) : Type 0 where
+  pub alone : desk.footing.parts ≡ 1024
+  pub none : desk.past ≡ []
+  pub opening : desk.now ≡ opening desk.now.policy desk.now.settings
+  pub ranges : AreInRange desk.now.settings
+
+-- the bench of such a desk and these devices
+abbrev pub bench_at_start : DeskView → List Meaning → Bench
+bench_at_start desk devices = opening_bench desk.now.policy desk.now.settings devices
+
+-- ---- an entry
+
+-- the machine made a turn, and nobody came between
+pub record EntersAlone (entry : Entry) (reply : Reply) (a b : DeskView) : Type 0 where
+  pub steps : Steps a.now entry reply b.now
+  pub past : b.past ≡ a.past ++ turn_by a.now entry reply b.now ∷ []
 
 -- ---- without a call of a device
 

@@ -31,7 +31,7 @@ CanOffer at driver = WhilePlugged (λ k. AllByRecursion CanBeOffered k.to) at dr
 pub record Spares (at : ℕ) (old new : Driver) : Type 0 where
   pub others : StaysBut at old new
   pub heard : IsHeard at old → IsHeard at new
-  pub jobs : old.core.jobs ≡ [] → new.core.jobs ≡ []
+  pub jobs : old.desk.now.jobs ≡ [] → new.desk.now.jobs ≡ []
 
 -- ---- the messages are taken out
 

@@ -14,7 +14,7 @@ WhilePlugged P at driver = (k : Channel) → slice_get driver.channels.items at 
 
 -- all that the machine has for the device was taken out
 abbrev pub IsTaken : ℕ → Driver → Type 0
-IsTaken at driver = WhilePlugged (λ k. messages_for (at + 1) driver.core ≡ []) at driver
+IsTaken at driver = WhilePlugged (λ k. messages_for (at + 1) driver.desk.now ≡ []) at driver
 
 -- all that was taken out was offered
 abbrev pub IsOffered : ℕ → Driver → Type 0
@@ -26,25 +26,25 @@ IsHeard at driver = WhilePlugged (λ k. IsHeardOut k.from.stream) at driver
 
 -- nothing is left to do
 pub record IsAtRest (driver : Driver) : Type 0 where
-  pub jobs : driver.core.jobs ≡ []
+  pub jobs : driver.desk.now.jobs ≡ []
   pub taken : (at : ℕ) → IsTaken at driver
   pub offered : (at : ℕ) → IsOffered at driver
   pub heard : (at : ℕ) → IsHeard at driver
 
 -- nothing is left to do but to take out and offer
 pub record IsHeardThrough (driver : Driver) : Type 0 where
-  pub jobs : driver.core.jobs ≡ []
+  pub jobs : driver.desk.now.jobs ≡ []
   pub offered : (at : ℕ) → IsOffered at driver
   pub heard : (at : ℕ) → IsHeard at driver
 
 -- nothing is left to do but at this place, where all was offered
 pub record IsAtRestBut (here : ℕ) (driver : Driver) : Type 0 where
-  pub jobs : driver.core.jobs ≡ []
+  pub jobs : driver.desk.now.jobs ≡ []
   pub taken : (at : ℕ) → (at ≡ here → ⊥) → IsTaken at driver
   pub offered : (at : ℕ) → IsOffered at driver
   pub heard : (at : ℕ) → (at ≡ here → ⊥) → IsHeard at driver
 
 -- all other places are as they were
 pub record StaysBut (here : ℕ) (old new : Driver) : Type 0 where
-  pub sessions : (c : ℕ) → (c ≡ here + 1 → ⊥) → session_at c new.core ≡ session_at c old.core
+  pub sessions : (c : ℕ) → (c ≡ here + 1 → ⊥) → session_at c new.desk.now ≡ session_at c old.desk.now
   pub channels : (at : ℕ) → (at ≡ here → ⊥) → slice_get new.channels.items at ≡ slice_get old.channels.items at

@@ -6,18 +6,23 @@ ghost use Rattle.sim_channels.specs.Delivering.{Delivers, IsPluggedIn};
 ghost use Rattle.sim_channels.specs.Waiting.{IsAtRest, IsHeard, IsHeardThrough, IsOffered, IsTaken, StaysBut};
 
 use crate::laws::driving_laws;
-use crate::{Driver, Plugging};
+use crate::{Driver, Plugging, Stopped};
 use device_port::Device;
-use maple_base::NoMemory;
+use std::sync::Wait;
 
-impl Driver {
+impl<'h> Driver<'h> {
     /// What the machine has for the device with this index is taken out and offered to it, message by
     /// message. Where the device fails it is left. Nothing is done where its session isn't open.
     ///
     /// # Errors
     ///
-    /// `NoMemory`.
-    pub fn deliver<D: Device>(&mut self, devices: &mut [D], at: usize) -> Result<(), NoMemory>
+    /// `Stopped`.
+    pub fn deliver<R: Wait, D: Device>(
+        &mut self,
+        rt: &R,
+        devices: &mut [D],
+        at: usize,
+    ) -> Result<(), Stopped>
         requires fits { Fits self.old (map D.meaning devices.old) }
         requires within { at < length devices.old }
         requires offered { IsOffered at self.old }
@@ -27,10 +32,11 @@ impl Driver {
         ensures offered { OnOk result (IsOffered at self.new) }
         ensures heard { OnOk result (IsHeard at self.old → IsHeard at self.new) }
         ensures others { OnOk result (StaysBut at self.old self.new) }
-        ensures jobs { OnOk result (self.old.core.jobs ≡ [] → self.new.core.jobs ≡ []) }
+        ensures jobs { OnOk result (self.old.desk.now.jobs ≡ [] → self.new.desk.now.jobs ≡ []) }
+        ensures footing { self.new.desk.footing ≡ self.old.desk.footing }
     {
         match self.channels[at].stage {
-            Plugging::Plugged => self.deliver_plugged(devices, at),
+            Plugging::Plugged => self.deliver_plugged(rt, devices, at),
             Plugging::Unplugged | Plugging::Left => Ok(()),
         }
     }
@@ -39,33 +45,44 @@ impl Driver {
     ///
     /// # Errors
     ///
-    /// `NoMemory`.
-    pub fn deliver_all<D: Device>(&mut self, devices: &mut [D]) -> Result<(), NoMemory>
+    /// `Stopped`.
+    pub fn deliver_all<R: Wait, D: Device>(
+        &mut self,
+        rt: &R,
+        devices: &mut [D],
+    ) -> Result<(), Stopped>
         requires fits { Fits self.old (map D.meaning devices.old) }
         requires through { IsHeardThrough self.old }
         ensures fits { OnOk result (Fits self.new (map D.meaning devices.new)) }
         ensures carried { OnOk result (Carried (bench self.old (map D.meaning devices.old)) (bench self.new (map D.meaning devices.new))) }
         ensures rest { OnOk result (IsAtRest self.new) }
+        ensures footing { self.new.desk.footing ≡ self.old.desk.footing }
     {
         driving_laws();
         for at in 0..devices.len() {
-            self.deliver(devices, at)?;
+            self.deliver(rt, devices, at)?;
         }
         Ok(())
     }
 
     // The same where its session is open.
-    fn deliver_plugged<D: Device>(&mut self, devices: &mut [D], at: usize) -> Result<(), NoMemory>
+    fn deliver_plugged<R: Wait, D: Device>(
+        &mut self,
+        rt: &R,
+        devices: &mut [D],
+        at: usize,
+    ) -> Result<(), Stopped>
         requires fits { Fits self.old (map D.meaning devices.old) }
         requires within { at < length devices.old }
         requires plugged { IsPluggedIn at self.old }
         requires offered { IsOffered at self.old }
         ensures done { OnOk result (Delivers at self.old (map D.meaning devices.old) self.new (map D.meaning devices.new)) }
         ensures offered { OnOk result (IsOffered at self.new) }
+        ensures footing { self.new.desk.footing ≡ self.old.desk.footing }
     {
-        self.take_out(at)?;
+        self.take_out(rt, at)?;
         while !self.channels[at].to.is_empty() {
-            if !self.offer_next(devices, at)? {
+            if !self.offer_next(rt, devices, at)? {
                 return Ok(());
             }
         }

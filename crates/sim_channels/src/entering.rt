@@ -1,18 +1,25 @@
 // The machine is given an entry.
-ghost use Rattle.std.specs.Prelude.{◌≡◌};
+ghost use Rattle.std.specs.Prelude.{◌≡◌, IfOk};
 ghost use Rattle.machine_steps.specs.Admitting.{Admits};
-ghost use Rattle.machine_steps.specs.Steps.{Steps};
+ghost use Rattle.sim_channels.specs.Channels.{EntersAlone, IsAlone};
 
-use crate::Driver;
+use crate::{Driver, Stopped};
 use core_machine::{Entry, Reply};
+use std::sync::Wait;
 
-impl Driver {
+impl<'h> Driver<'h> {
     /// The machine does what an entry asks. All entries are made here.
-    pub fn enter(&mut self, entry: Entry) -> Reply
-        requires admits { Admits self.old.core entry }
-        ensures step { Steps self.old.core entry result self.new.core }
-        ensures rest { self.new ≡ record self.old { core = self.new.core } }
+    ///
+    /// # Errors
+    ///
+    /// `Stopped`, where the hall is worn: nothing was made.
+    pub fn enter<R: Wait>(&mut self, rt: &R, entry: Entry) -> Result<Reply, Stopped>
+        requires admits { Admits self.old.desk.now entry }
+        requires alone { IsAlone self.old }
+        ensures enters { IfOk result (λ reply. EntersAlone entry reply self.old.desk self.new.desk) }
+        ensures rest { self.new ≡ record self.old { desk = self.new.desk } }
+        ensures footing { self.new.desk.footing ≡ self.old.desk.footing }
     {
-        self.core.step(entry)
+        Ok(self.desk.enter(rt, entry)?)
     }
 }

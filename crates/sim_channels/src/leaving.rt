@@ -1,25 +1,36 @@
 // A device that failed is left.
+ghost use Rattle.std.specs.Prelude.{◌≡◌, OnOk};
 ghost use Rattle.sim_channels.specs.Channels.{IsKept};
 ghost use Rattle.sim_channels.specs.Delivering.{IsPluggedIn, Leaves};
 
 use crate::laws::driving_laws;
 use crate::outbox::connection_of;
-use crate::{Driver, Plugging};
+use crate::{Driver, Plugging, Stopped};
 use core_machine::Entry;
+use std::sync::Wait;
 
-impl Driver {
+impl<'h> Driver<'h> {
     /// The device with this index failed: its session ends, and it is left alone from then on. That
     /// takes no memory.
-    pub fn leave(&mut self, at: usize)
+    ///
+    /// # Errors
+    ///
+    /// `Stopped`, where the hall is worn.
+    pub fn leave<R: Wait>(&mut self, rt: &R, at: usize) -> Result<(), Stopped>
         requires kept { IsKept self.old }
         requires plugged { IsPluggedIn at self.old }
-        ensures { Leaves at self.old self.new }
+        ensures leaves { OnOk result (Leaves at self.old self.new) }
+        ensures footing { self.new.desk.footing ≡ self.old.desk.footing }
     {
         driving_laws();
-        self.enter(Entry::Gone {
-            connection: connection_of(at),
-            fault: true,
-        });
+        self.enter(
+            rt,
+            Entry::Gone {
+                connection: connection_of(at),
+                fault: true,
+            },
+        )?;
         self.channels[at].stage = Plugging::Left;
+        Ok(())
     }
 }

@@ -9,9 +9,11 @@ pub mod laws;
 mod leaving;
 mod offering;
 mod outbox;
+mod stopped;
 mod taking;
 
 pub use channel::{Channel, Plugging};
 pub use driver::Driver;
 pub use laws::driving_laws;
 pub use outbox::connection_of;
+pub use stopped::Stopped;

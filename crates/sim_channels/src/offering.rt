@@ -8,19 +8,21 @@ ghost use Rattle.sim_channels.specs.Waiting.{IsTaken};
 
 use crate::laws::driving_laws;
 use crate::outbox::connection_of;
-use crate::{Channel, Driver};
+use crate::{Channel, Driver, Stopped};
 use core_machine::{Entry, Note, Reply};
 use device_port::{Device, Took};
 use maple_base::NoMemory;
+use std::sync::Wait;
 
-impl Driver {
+impl<'h> Driver<'h> {
     // The next message is offered to the device with this index, which is left where it fails. Gives
     // whether it took the message in.
-    pub(crate) fn offer_next<D: Device>(
+    pub(crate) fn offer_next<R: Wait, D: Device>(
         &mut self,
+        rt: &R,
         devices: &mut [D],
         at: usize,
-    ) -> Result<bool, NoMemory>
+    ) -> Result<bool, Stopped>
         requires fits { Fits self.old (map D.meaning devices.old) }
         requires within { at < length devices.old }
         requires plugged { IsPluggedIn at self.old }
@@ -29,6 +31,7 @@ impl Driver {
         requires some { 0 < offers_left at self.old }
         ensures done { OnOk result (Delivers at self.old (map D.meaning devices.old) self.new (map D.meaning devices.new)) }
         ensures goes_on { IfOk result (λ took. GoesOn took at self.old self.new) }
+        ensures footing { self.new.desk.footing ≡ self.old.desk.footing }
     {
         driving_laws();
         let failed = offer_first(&mut self.channels[at], &mut devices[at])?;
@@ -36,11 +39,11 @@ impl Driver {
             device: connection_of(at),
             failed,
         };
-        let Reply::Done = self.enter(Entry::Note(note)) else {
-            return Err(NoMemory);
+        let Reply::Done = self.enter(rt, Entry::Note(note))? else {
+            return Err(Stopped);
         };
         if failed {
-            self.leave(at);
+            self.leave(rt, at)?;
             return Ok(false);
         }
         Ok(true)

@@ -2,7 +2,7 @@
 ghost use Rattle.std.specs.Prelude.{◌≡◌, ◌+◌, ◌^◌, ◌<◌};
 ghost use Rattle.world_steps.specs.Worlds.{messages_for};
 
-use core_machine::Core;
+use machine_desk::Desk;
 use maple_base::Witness;
 use message_blocks::Messages;
 
@@ -15,8 +15,8 @@ pub fn connection_of(at: usize) -> u32
 }
 
 // The messages that wait in the machine for a connection. It does nothing when it runs.
-pub fn messages_for(core: &Core, connection: &u32) -> Messages
-    ensures { result.value ≡ messages_for connection.now core.now }
+pub fn messages_for<'h>(desk: &Desk<'h>, connection: &u32) -> Messages
+    ensures { result.value ≡ messages_for connection.now desk.now.now }
 {
-    Witness::picked(&(core, connection))
+    Witness::picked(&(desk, connection))
 }

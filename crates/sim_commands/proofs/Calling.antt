@@ -14,7 +14,6 @@ use Rattle.machine_steps.specs.declared.entry.Entry.{Entry}
 use Rattle.machine_steps.specs.declared.entry.Entry.TheVariants as entries
 use Rattle.machine_steps.specs.declared.note.Note.TheVariants as notes
 use Rattle.machine_steps.specs.declared.reply.Reply.TheVariants.{Done}
-use Rattle.machine_steps.specs.Steps.{Steps}
 use Rattle.sim_steps.specs.Benches.{MovesAt, is_plugged}
 use Rattle.sim_steps.specs.Deeds.{CallsSlot, has_failed}
 use Rattle.script_text.specs.Orders.Order.{Arrival}
@@ -25,7 +24,7 @@ use Rattle.sim_steps.proofs.Moments.{called, stretch_call, stretch_failed}
 use Rattle.sim_channels.specs.declared.channel.Channel.{Channel}
 use Rattle.sim_channels.specs.declared.channel.Plugging.TheVariants.{Unplugged, Plugged}
 use Rattle.sim_channels.specs.declared.driver.Driver.{Driver}
-use Rattle.sim_channels.specs.Channels.{Fits, IsKept, bench, slots_of}
+use Rattle.sim_channels.specs.Channels.{EntersAlone, Fits, IsKept, bench, slots_of}
 use Rattle.sim_channels.specs.Delivering.{IsPluggedIn, Leaves}
 use Rattle.sim_channels.specs.Driving.{DrivingLaws}
 use Rattle.sim_channels.specs.Waiting.{IsAtRest, IsAtRestBut, IsOffered}
@@ -77,7 +76,7 @@ failing port frame seen bytes = refl
 -- of the channel with one index the device was called and the machine told
 module _ (laws : DrivingLaws) (d e : Driver) (before after : List Meaning) (at port : ℕ) (frame : List ℕ) (seen : Seen) (k l : Channel) (m n : Meaning) (fits : Fits d before) (rest : IsAtRest d)
     (channel : ChannelAt at k l d e) (device : slice_get before at ≡ Some m) (plugged : k.stage ≡ Plugged) (looks : LooksUpBy port frame seen k m l n) (devices : after ≡ set before at n)
-    (steps : Steps d.core (entries.Note (notes.Seen (at + 1) port frame seen)) Done e.core) where
+    (enters : EntersAlone (entries.Note (notes.Seen (at + 1) port frame seen)) Done d.desk e.desk) where
   abbrev Telling : Entry
   Telling = entries.Note (notes.Seen (at + 1) port frame seen)
 
@@ -91,7 +90,7 @@ module _ (laws : DrivingLaws) (d e : Driver) (before after : List Meaning) (at p
   stage = looks.stage ∙ plugged
 
   kept_called : IsKept e
-  kept_called = kept_channel laws d e Telling Done fits.kept tt steps refl refl (λ c. refl) at k l channel looks.stage (λ f. (let no : Unplugged ≡ Plugged = sym f ∙ stage in absurd (cc)))
+  kept_called = kept_channel laws d e Telling Done fits.kept tt enters.steps refl refl (λ c. refl) at k l channel looks.stage (λ f. (let no : Unplugged ≡ Plugged = sym f ∙ stage in absurd (cc)))
 
   pub fits_called : Fits e after
   fits_called = record {
@@ -105,8 +104,8 @@ module _ (laws : DrivingLaws) (d e : Driver) (before after : List Meaning) (at p
 
   pub rest_called : IsAtRestBut at e
   rest_called = record {
-    jobs = laws.none d.core Telling Done e.core rest.jobs refl steps;
-    taken = λ i other. taken_still laws d e i fits.kept kept_called (session_same laws d.core Telling Done e.core fits.kept.reached steps refl (i + 1) refl) (others i other) (rest.taken i);
+    jobs = laws.none d.desk.now Telling Done e.desk.now rest.jobs refl enters.steps;
+    taken = λ i other. taken_still laws d e i fits.kept kept_called (session_same laws d.desk.now Telling Done e.desk.now fits.kept.reached enters.steps refl (i + 1) refl) (others i other) (rest.taken i);
     offered = λ i. by_index i at
         (λ same. subst (λ j. IsOffered j e) (sym same) (plugged_has _ at e l here (looks.to ∙ rest.offered at k channel.there plugged)))
         (λ other. while_still _ i d e (others i other) (rest.offered i));
@@ -130,7 +129,7 @@ module _ (laws : DrivingLaws) (d e : Driver) (before after : List Meaning) (at p
       seen = seen;
       bytes = looks.bytes;
       reply = Done;
-      calls = record { plugged = plugged_at d at k fits.kept channel.there plugged; slots = slots_called; noted = steps };
+      calls = record { plugged = plugged_at d at k fits.kept channel.there plugged; slots = slots_called; noted = enters.steps; past = enters.past };
       memory = refl;
       failed_is = failing port frame seen looks.bytes ∙ sym is;
     };
@@ -138,17 +137,17 @@ module _ (laws : DrivingLaws) (d e : Driver) (before after : List Meaning) (at p
 
 pub is_called : {B : Type 0} (f : B → Meaning) (laws : DrivingLaws) (d e : Driver) (xs : List B) (at port : ℕ) (frame given : List ℕ) (seen : Seen) (number : ℕ) (k l : Channel) (x y : B) (failed : Bool)
     → Fits d (map f xs) → IsAtRest d → IsPluggedIn at d → at < length xs → k ≡ get_or d.channels.items at k → x ≡ get_or xs at x → given ≡ frame → LooksUpBy port given seen k (f (get_or xs at x)) l (f y)
-    → e.channels.items ≡ set d.channels.items at l → e.budget ≡ d.budget → e.learning ≡ d.learning → number ≡ at + 1 → Steps d.core (entries.Note (notes.Seen number port frame seen)) Done e.core
+    → e.channels.items ≡ set d.channels.items at l → e.desk.footing ≡ d.desk.footing → number ≡ at + 1 → EntersAlone (entries.Note (notes.Seen number port frame seen)) Done d.desk e.desk
     → failed ≡ is_failure seen → IsCalled at port frame failed d (map f xs) e (map f (set xs at y))
-is_called {B} f laws d e xs at port frame given seen number k l x y failed fits rest open_now within channel_is device_is same looks channels budget learning place steps is =
+is_called {B} f laws d e xs at port frame given seen number k l x y failed fits rest open_now within channel_is device_is same looks channels footing place enters is =
     let few : at < length d.channels.items = (let many = fits.places ∙ length-map xs f in omega arith) in
     let there : slice_get d.channels.items at ≡ Some k = slice_get-get_or d.channels.items at k few ∙ ap Some (sym channel_is) in
     let device : slice_get (map f xs) at ≡ Some (f x) = slice_get-map f xs at ∙ ap (option_map f) (slice_get-get_or xs at x within ∙ ap Some (sym device_is)) in
     let plugged : k.stage ≡ Plugged = ap (λ (z : Channel). z.stage) (same_Some k open_now.channel (sym there ∙ open_now.there)) ∙ open_now.plugged in
     let looked : LooksUpBy port frame seen k (f x) l (f y) =
     subst (λ bytes. LooksUpBy port bytes seen k (f x) l (f y)) same (subst (λ (z : B). LooksUpBy port given seen k (f z) l (f y)) (sym device_is) looks) in
-    let told : Steps d.core (entries.Note (notes.Seen (at + 1) port frame seen)) Done e.core = subst (λ n. Steps d.core (entries.Note (notes.Seen n port frame seen)) Done e.core) place steps in
-    let channel : ChannelAt at k l d e = record { there = there; channels = channels; learning = learning; budget = budget } in
+    let told : EntersAlone (entries.Note (notes.Seen (at + 1) port frame seen)) Done d.desk e.desk = subst (λ n. EntersAlone (entries.Note (notes.Seen n port frame seen)) Done d.desk e.desk) place enters in
+    let channel : ChannelAt at k l d e = record { there = there; channels = channels; footing = footing } in
     called_so laws d e (map f xs) (map f (set xs at y)) at port frame seen k l (f x) (f y) fits rest channel device plugged looked (map-set f xs at y) told failed is
 
 -- ---- and the device is left where it failed
@@ -192,9 +191,9 @@ rest_left_but laws m e at kept left rest = record {
 
 -- ---- and what that brings about was done
 
-pub obeyed_looked : (d : Driver) (before : List Meaning) (m : Driver) (mid : List Meaning) (e : Driver) (after : List Meaning) (c at port : ℕ) (frame : List ℕ) → c ≡ at + 1 → is_plugged c d.core ≡ true
+pub obeyed_looked : (d : Driver) (before : List Meaning) (m : Driver) (mid : List Meaning) (e : Driver) (after : List Meaning) (c at port : ℕ) (frame : List ℕ) → c ≡ at + 1 → is_plugged c d.desk.now ≡ true
     → Looked (at + 1) port frame (bench d before) (bench m mid) → Carried (bench m mid) (bench e after) → Fits e after → IsAtRest e → Obeyed (Arrival c port frame) (bench d before) (bench e after)
 obeyed_looked d before m mid e after c at port frame place plugged looked carried fits rest =
     let one : Looked c port frame (bench d before) (bench m mid) = subst (λ n. Looked n port frame (bench d before) (bench m mid)) (sym place) looked in
     obeyed (Arrival c port frame) (one.event ∷ []) (bench d before) (bench e after) (carried_behind (one.event ∷ []) [] (bench d before) (bench m mid) (bench e after) one.stretch carried)
-    (if_plugged c d.core (one.event ∷ []) (JustLooks c port frame (one.event ∷ [])) plugged (one.event, one.seen, one.bytes, one.reply, refl, one.deed)) (rest_is_still e after fits rest)
+    (if_plugged c d.desk.now (one.event ∷ []) (JustLooks c port frame (one.event ∷ [])) plugged (one.event, one.seen, one.bytes, one.reply, refl, one.deed)) (rest_is_still e after fits rest)

@@ -38,13 +38,13 @@ of_ok P r x e h = subst (λ s. OnOk s P) e h
 
 -- ---- places
 
-pub staged_there : (d : Driver) (c at : ℕ) (k : Channel) → IsKept d → IsAmong (length d.channels.items) c → c ≡ at + 1 → k ≡ get_or d.channels.items at k → IsStaged c d.core k.stage
+pub staged_there : (d : Driver) (c at : ℕ) (k : Channel) → IsKept d → IsAmong (length d.channels.items) c → c ≡ at + 1 → k ≡ get_or d.channels.items at k → IsStaged c d.desk.now k.stage
 staged_there d c at k kept among place is =
     let within : at < length d.channels.items = (let few = among.1 in omega arith) in
-    subst (λ n. IsStaged n d.core k.stage) (sym place) (kept.stages at k (slice_get-get_or d.channels.items at k within ∙ ap Some (sym is)))
+    subst (λ n. IsStaged n d.desk.now k.stage) (sym place) (kept.stages at k (slice_get-get_or d.channels.items at k within ∙ ap Some (sym is)))
 
 pub staged_at : {B : Type 0} (f : B → Meaning) (d : Driver) (devices : List B) (c at : ℕ) (k : Channel) → Fits d (map f devices) → IsAmong (length devices) c → c ≡ at + 1
-    → k ≡ get_or d.channels.items at k → IsStaged c d.core k.stage
+    → k ≡ get_or d.channels.items at k → IsStaged c d.desk.now k.stage
 staged_at f d devices c at k fits among place is = staged_there d c at k fits.kept (among.0, (let few = among.1 in let same = fits.places ∙ length-map devices f in omega arith)) place is
 
 pub others_closed : (stage : Plugging) → (stage ≡ Plugged → ⊥) → is_plugged_in stage ≡ false

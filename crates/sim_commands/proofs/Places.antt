@@ -41,8 +41,8 @@ restaged d at stage k within is e rest sets =
       channel = k;
       there = there;
       channels = sets;
-      slots = λ devices. ap (λ (x : Driver). bench x devices) rest ∙ ap (λ xs. record { machine = d.core; slots = slots_of xs devices }) sets
-          ∙ ap (λ xs. record { machine = d.core; slots = xs }) (slots_alike d.channels.items devices at k (record k { stage = stage }) there refl refl);
+      slots = λ devices. ap (λ (x : Driver). bench x devices) rest ∙ ap (λ xs. record { past = d.desk.past; machine = d.desk.now; slots = slots_of xs devices }) sets
+          ∙ ap (λ xs. record { past = d.desk.past; machine = d.desk.now; slots = xs }) (slots_alike d.channels.items devices at k (record k { stage = stage }) there refl refl);
     }
 
 -- ---- the devices
@@ -70,14 +70,14 @@ fits_same d e devices kept same fits = record {
 pub while_still : (P : Channel → Type 0) (at : ℕ) (d e : Driver) → slice_get e.channels.items at ≡ slice_get d.channels.items at → WhilePlugged P at d → WhilePlugged P at e
 while_still P at d e same h k there plugged = h k (sym same ∙ there) plugged
 
-pub taken_still : (laws : DrivingLaws) (d e : Driver) (at : ℕ) → IsKept d → IsKept e → session_at (at + 1) e.core ≡ session_at (at + 1) d.core
+pub taken_still : (laws : DrivingLaws) (d e : Driver) (at : ℕ) → IsKept d → IsKept e → session_at (at + 1) e.desk.now ≡ session_at (at + 1) d.desk.now
     → slice_get e.channels.items at ≡ slice_get d.channels.items at → IsTaken at d → IsTaken at e
 taken_still laws d e at kept also session same taken k there plugged =
     let was = sym same ∙ there in
-    messages_same laws (at + 1) d.core e.core kept.reached also.reached (plugged_at d at k kept was plugged) session ∙ taken k was plugged
+    messages_same laws (at + 1) d.desk.now e.desk.now kept.reached also.reached (plugged_at d at k kept was plugged) session ∙ taken k was plugged
 
 -- all other places are as they were
-pub rest_but : (laws : DrivingLaws) (d e : Driver) (here : ℕ) → IsKept d → IsKept e → IsAtRest d → StaysBut here d e → e.core.jobs ≡ [] → IsTaken here e → IsOffered here e → IsHeard here e → IsAtRest e
+pub rest_but : (laws : DrivingLaws) (d e : Driver) (here : ℕ) → IsKept d → IsKept e → IsAtRest d → StaysBut here d e → e.desk.now.jobs ≡ [] → IsTaken here e → IsOffered here e → IsHeard here e → IsAtRest e
 rest_but laws d e here kept also rest stays jobs taken offered heard = record {
   jobs = jobs;
   taken = λ at. by_index at here (λ same. subst (λ n. IsTaken n e) (sym same) taken)

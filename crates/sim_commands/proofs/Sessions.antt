@@ -40,7 +40,7 @@ ends_now old c fault reply new (inl (found, (r, e))) plugged = (let no : false �
 ends_now old c fault reply new (inr (t, found, r, e)) plugged = ap is_end r
 
 -- the machine was given an entry, and then a channel has another stage
-module _ (laws : DrivingLaws) (d m e : Driver) (at : ℕ) (stage : Plugging) (kept : IsKept d) (same : m ≡ record d { core = m.core }) (r : Restages at stage m e) where
+module _ (laws : DrivingLaws) (d m e : Driver) (at : ℕ) (stage : Plugging) (kept : IsKept d) (same : m ≡ record d { desk = m.desk }) (footing : m.desk.footing ≡ d.desk.footing) (r : Restages at stage m e) where
   abbrev K : Channel
   K = r.channel
 
@@ -51,17 +51,17 @@ module _ (laws : DrivingLaws) (d m e : Driver) (at : ℕ) (stage : Plugging) (ke
   there = ap (λ (x : Driver). slice_get x.channels.items at) (sym same) ∙ r.there
 
   at_channel : ChannelAt at K L d e
-  at_channel = channel_at at d m K there same L e r.channels (ap (λ (x : Driver). x.learning) r.rest) (ap (λ (x : Driver). x.budget) r.rest)
+  at_channel = channel_at at d m K there same L e r.channels (ap (λ (x : Driver). x.desk.footing) r.rest ∙ footing)
 
-  core : e.core ≡ m.core
-  core = ap (λ (x : Driver). x.core) r.rest
+  now : e.desk.now ≡ m.desk.now
+  now = ap (λ (x : Driver). x.desk.now) r.rest
 
-  changed : (entry : Entry) (reply : Reply) → Steps d.core entry reply e.core → may_make entry ≡ false → is_heard entry ≡ false
-      → ((c : ℕ) → (c ≡ at + 1 → ⊥) → concerns c entry d.core ≡ false) → IsKept e → IsChanged at d e
+  changed : (entry : Entry) (reply : Reply) → Steps d.desk.now entry reply e.desk.now → may_make entry ≡ false → is_heard entry ≡ false
+      → ((c : ℕ) → (c ≡ at + 1 → ⊥) → concerns c entry d.desk.now ≡ false) → IsKept e → IsChanged at d e
   changed entry reply steps none other others also = record {
     kept = also;
     stays = record {
-      sessions = λ c o. session_same laws d.core entry reply e.core kept.reached steps none c (others c o);
+      sessions = λ c o. session_same laws d.desk.now entry reply e.desk.now kept.reached steps none c (others c o);
       channels = is_beside at K L d e at_channel;
     };
     channels = record {
@@ -70,26 +70,26 @@ module _ (laws : DrivingLaws) (d m e : Driver) (at : ℕ) (stage : Plugging) (ke
       waiting = λ k l was now.
           ap (λ (x : Channel). x.waiting) (same_Some l L (sym now ∙ is_there at K L d e at_channel)) ∙ ap (λ (x : Channel). x.waiting) (same_Some K k (sym there ∙ was));
     };
-    jobs = λ idle. laws.none d.core entry reply e.core idle other steps;
+    jobs = λ idle. laws.none d.desk.now entry reply e.desk.now idle other steps;
   }
 
-  pub opened : (c : ℕ) (reply : Reply) → IsUnplugged at d → c ≡ at + 1 → stage ≡ stage_behind (is_end reply) → Steps d.core (entries.Open c) reply m.core → lacks_memory reply ≡ false → IsChanged at d e
+  pub opened : (c : ℕ) (reply : Reply) → IsUnplugged at d → c ≡ at + 1 → stage ≡ stage_behind (is_end reply) → Steps d.desk.now (entries.Open c) reply m.desk.now → lacks_memory reply ≡ false → IsChanged at d e
   opened c reply un place stage_is steps memory =
-      let at_place : Steps d.core (entries.Open (at + 1)) reply m.core = subst (λ n. Steps d.core (entries.Open n) reply m.core) place steps in
-      let so : Steps d.core (entries.Open (at + 1)) reply e.core = subst (λ x. Steps d.core (entries.Open (at + 1)) reply x) (sym core) at_place in
+      let at_place : Steps d.desk.now (entries.Open (at + 1)) reply m.desk.now = subst (λ n. Steps d.desk.now (entries.Open n) reply m.desk.now) place steps in
+      let so : Steps d.desk.now (entries.Open (at + 1)) reply e.desk.now = subst (λ x. Steps d.desk.now (entries.Open (at + 1)) reply x) (sym now) at_place in
       let unplugged : r.channel.stage ≡ Unplugged = ap (λ (x : Channel). x.stage) (same_Some K un.channel (sym there ∙ un.there)) ∙ un.unplugged in
       changed (entries.Open (at + 1)) reply so refl refl (λ x o. ne_eqb (at + 1) x (λ f. o (sym f)))
       (kept_opened laws d e reply kept at K L at_channel unplugged (stage_is ∙ same_stage (is_end reply)) memory so)
 
-  pub closed : (c : ℕ) (fault : Bool) (reply : Reply) → IsPluggedIn at d → c ≡ at + 1 → stage ≡ Left → Steps d.core (entries.Gone c fault) reply m.core → IsChanged at d e
+  pub closed : (c : ℕ) (fault : Bool) (reply : Reply) → IsPluggedIn at d → c ≡ at + 1 → stage ≡ Left → Steps d.desk.now (entries.Gone c fault) reply m.desk.now → IsChanged at d e
   closed c fault reply open_now place left steps =
-      let at_place : Steps d.core (entries.Gone (at + 1) fault) reply m.core = subst (λ n. Steps d.core (entries.Gone n fault) reply m.core) place steps in
-      let so : Steps d.core (entries.Gone (at + 1) fault) reply e.core = subst (λ x. Steps d.core (entries.Gone (at + 1) fault) reply x) (sym core) at_place in
+      let at_place : Steps d.desk.now (entries.Gone (at + 1) fault) reply m.desk.now = subst (λ n. Steps d.desk.now (entries.Gone n fault) reply m.desk.now) place steps in
+      let so : Steps d.desk.now (entries.Gone (at + 1) fault) reply e.desk.now = subst (λ x. Steps d.desk.now (entries.Gone (at + 1) fault) reply x) (sym now) at_place in
       let plugged : r.channel.stage ≡ Plugged = ap (λ (x : Channel). x.stage) (same_Some K open_now.channel (sym there ∙ open_now.there)) ∙ open_now.plugged in
       let others : (x : ℕ) → (x ≡ at + 1 → ⊥) → (at + 1 == x) ≡ false = λ x o. ne_eqb (at + 1) x (λ f. o (sym f)) in
       changed (entries.Gone (at + 1) fault) reply so refl refl others
       (kept_left laws d e (entries.Gone (at + 1) fault) reply kept tt so refl refl at K L at_channel plugged left (eq-eqb (at + 1) (at + 1) refl)
-      (ends_now d.core (at + 1) fault reply e.core so (plugged_at d at K kept there plugged)) others)
+      (ends_now d.desk.now (at + 1) fault reply e.desk.now so (plugged_at d at K kept there plugged)) others)
 
   -- the device is left
   pub rest_left : IsAtRest d → IsChanged at d e → stage ≡ Left → IsAtRest e
@@ -105,8 +105,8 @@ may_open d at c un place devices fits =
     let device = there_too devices d.channels.items at un.channel (sym fits.places) un.there in
     let ks = d.channels.items in (
       ap (λ n. is_some (slot_at n (slots_of ks devices))) place ∙ ap (λ (o : Option Slot). is_some o) (slot_next at (slots_of ks devices) ∙ slots_get ks devices at un.channel device.0 un.there device.1),
-      ap (λ n. was_opened n d.core) place ∙ (fits.kept.stages at un.channel un.there).opened ∙ ap was_plugged_in un.unplugged,
+      ap (λ n. was_opened n d.desk.now) place ∙ (fits.kept.stages at un.channel un.there).opened ∙ ap was_plugged_in un.unplugged,
     )
 
 pub may_close : (d : Driver) (at c : ℕ) (fault : Bool) → IsPluggedIn at d → c ≡ at + 1 → (devices : List Meaning) → Fits d devices → MayEnter (entries.Gone c fault) (bench d devices)
-may_close d at c fault open_now place devices fits = ap (λ n. is_plugged n d.core) place ∙ plugged_at d at open_now.channel fits.kept open_now.there open_now.plugged
+may_close d at c fault open_now place devices fits = ap (λ n. is_plugged n d.desk.now) place ∙ plugged_at d at open_now.channel fits.kept open_now.there open_now.plugged

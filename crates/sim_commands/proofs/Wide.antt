@@ -1,5 +1,5 @@
 -- An entry that is of no place was asked for.
-use Rattle.std.proofs.Common.{◌≡◌, ℕ, ◌+◌, Bool, true, false, List, refl, sym, ap, ◌∙◌, inl, inr}
+use Rattle.std.proofs.Common.{◌≡◌, ℕ, ◌+◌, true, false, List, refl, sym, ap, ◌∙◌, inl, inr}
 use Rattle.std.specs.List.{slice_get}
 use Rattle.env_cells.specs.declared.updates.Update.{Update}
 use Rattle.env_cells.specs.declared.updates.Update.TheVariants.{Host, NoHost, Link, NoLink, Set, Unset}
@@ -12,7 +12,6 @@ use Rattle.machine_steps.specs.Machine.{State, session_at}
 use Rattle.machine_steps.specs.Steps.{Steps}
 use Rattle.machine_moves.specs.Told.{is_heard, is_new_state}
 use Rattle.script_text.specs.Steps.{IsOfLine}
-use Rattle.world_steps.specs.Worlds.{lacks_memory}
 use Rattle.sim_channels.specs.declared.channel.Channel.{Channel}
 use Rattle.sim_channels.specs.declared.driver.Driver.{Driver}
 use Rattle.sim_channels.specs.Channels.{IsKept}
@@ -47,24 +46,17 @@ listed old switch reply new (inr (r, e)) c = ap (λ (m : State). session_at c m)
 
 -- ---- what is kept
 
-renewed_policy : (old : State) (p : Policy) (reply : Reply) (new : State) → Steps old (entries.NewPolicy p) reply new → lacks_memory reply ≡ false → new.policy ≡ p
-renewed_policy old p reply new (inl (r, a)) memory = ap (λ (m : State). m.policy) a.now_is
-renewed_policy old p reply new (inr (r, e)) memory = (let lacks : false ≡ true = sym memory ∙ ap lacks_memory r in absurd (cc))
+module _ (laws : DrivingLaws) (d m : Driver) (reply : Reply) (kept : IsKept d) (same : m ≡ record d { desk = m.desk }) (footing : m.desk.footing ≡ d.desk.footing) where
+  pub kept_renewed : (p : Policy) → Steps d.desk.now (entries.NewPolicy p) reply m.desk.now → IsKept m
+  kept_renewed p steps = kept_policy laws d m reply kept p steps (ap (λ (x : Driver). x.channels.items) same) footing
 
--- the driver behind another policy knows whether it learns hosts
-pub kept_renewed : (laws : DrivingLaws) (d m : Driver) (p : Policy) (reply : Reply) (learning : Bool) → IsKept d → m ≡ record d { core = m.core } → Steps d.core (entries.NewPolicy p) reply m.core
-    → lacks_memory reply ≡ false → learning ≡ p.learning → IsKept (record m { learning = learning })
-kept_renewed laws d m p reply learning kept same steps memory is =
-    kept_policy laws d (record m { learning = learning }) reply kept p steps (ap (λ (x : Driver). x.channels.items) same) (ap (λ (x : Driver). x.budget) same)
-    (is ∙ sym (ap (λ (q : Policy). q.learning) (renewed_policy d.core p reply m.core steps memory)))
+  pub kept_changed : (u : Update) → IsOfLine u → Steps d.desk.now (entries.Change u) reply m.desk.now → IsKept m
+  kept_changed u line steps = kept_entry laws d m (entries.Change u) reply kept (operators u line) steps refl refl (λ c. refl) same footing
 
-pub kept_changed : (laws : DrivingLaws) (d m : Driver) (u : Update) (reply : Reply) → IsKept d → IsOfLine u → m ≡ record d { core = m.core } → Steps d.core (entries.Change u) reply m.core → IsKept m
-kept_changed laws d m u reply kept line same steps = kept_entry laws d m (entries.Change u) reply kept (operators u line) steps refl refl (λ c. refl) same
+  pub kept_listed : (switch : ℕ) → Steps d.desk.now (entries.ReadRules switch) reply m.desk.now → IsKept m
+  kept_listed switch steps = kept_entry laws d m (entries.ReadRules switch) reply kept tt steps refl refl (λ c. refl) same footing
 
-pub kept_listed : (laws : DrivingLaws) (d m : Driver) (switch : ℕ) (reply : Reply) → IsKept d → m ≡ record d { core = m.core } → Steps d.core (entries.ReadRules switch) reply m.core → IsKept m
-kept_listed laws d m switch reply kept same steps = kept_entry laws d m (entries.ReadRules switch) reply kept tt steps refl refl (λ c. refl) same
-
-module _ (laws : DrivingLaws) (d e : Driver) (entry : Entry) (reply : Reply) (kept : IsKept d) (also : IsKept e) (rest : IsAtRest d) (steps : Steps d.core entry reply e.core)
+module _ (laws : DrivingLaws) (d e : Driver) (entry : Entry) (reply : Reply) (kept : IsKept d) (also : IsKept e) (rest : IsAtRest d) (steps : Steps d.desk.now entry reply e.desk.now)
     (other : is_heard entry ≡ false) (same : e.channels.items ≡ d.channels.items) where
   at_index : (at : ℕ) → slice_get e.channels.items at ≡ slice_get d.channels.items at
   at_index at = ap (λ (xs : List Channel). slice_get xs at) same
@@ -74,13 +66,13 @@ module _ (laws : DrivingLaws) (d e : Driver) (entry : Entry) (reply : Reply) (ke
 
   pub through_asked : IsHeardThrough e
   through_asked = record {
-    jobs = laws.none d.core entry reply e.core rest.jobs other steps;
+    jobs = laws.none d.desk.now entry reply e.desk.now rest.jobs other steps;
     offered = λ at. while_still _ at d e (at_index at) (rest.offered at);
     heard = λ at. while_still _ at d e (at_index at) (rest.heard at);
   }
 
   -- where all sessions are as they were
-  pub rest_asked : ((c : ℕ) → session_at c e.core ≡ session_at c d.core) → IsAtRest e
+  pub rest_asked : ((c : ℕ) → session_at c e.desk.now ≡ session_at c d.desk.now) → IsAtRest e
   rest_asked sessions = record {
     jobs = through_asked.jobs;
     taken = λ at. taken_still laws d e at kept also (sessions (at + 1)) (at_index at) (rest.taken at);

@@ -47,7 +47,7 @@ pub record IsChanged (at : ℕ) (old new : Driver) : Type 0 where
   pub kept : IsKept new
   pub stays : StaysBut at old new
   pub channels : KeepsChannels at old new
-  pub jobs : old.core.jobs ≡ [] → new.core.jobs ≡ []
+  pub jobs : old.desk.now.jobs ≡ [] → new.desk.now.jobs ≡ []
 
 -- an entry alone was asked for
 abbrev pub AsksFor : Entry → Driver → Driver → Type 0

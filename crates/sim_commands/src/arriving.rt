@@ -2,11 +2,10 @@
 ghost use Rattle.std.specs.Prelude.{◌≡◌, ◌+◌, ◌<◌, ◌≤◌, map, length, IfOk, OnOk};
 ghost use Rattle.machine_steps.specs.declared.entry.Entry.TheVariants as entries;
 ghost use Rattle.machine_steps.specs.declared.reply.Reply.TheVariants.{Done};
-ghost use Rattle.machine_steps.specs.Steps.{Steps};
 ghost use Rattle.script_text.specs.Orders.{Order};
 ghost use Rattle.script_text.specs.Steps.{IsAmong};
 ghost use Rattle.script_text.specs.Grammar.{most_bytes};
-ghost use Rattle.sim_channels.specs.Channels.{Fits, IsKept, bench};
+ghost use Rattle.sim_channels.specs.Channels.{EntersAlone, Fits, IsAlone, bench};
 ghost use Rattle.sim_channels.specs.Delivering.{IsPluggedIn};
 ghost use Rattle.sim_channels.specs.Waiting.{IsAtRest, IsAtRestBut};
 ghost use Rattle.sim_commands.specs.Commands.{IsCalled, Looked, LooksUpBy, ObeyedBy, is_failure};
@@ -15,24 +14,26 @@ use crate::staging::index_of;
 use core_machine::{Entry, Note, Reply};
 use device_port::Device;
 use maple_base::{Bytes, NoMemory, Seen};
-use sim_channels::{Channel, Driver, Plugging, connection_of, driving_laws};
+use sim_channels::{Channel, Driver, Plugging, Stopped, connection_of, driving_laws};
 use sim_turns::attend::attend;
 use sim_turns::note;
 use std::alloc::Global;
+use std::sync::Wait;
 
 /// A frame comes to the device at a place by a port, and what that brings about is done. Where the
 /// device fails it is left. Where its session isn't open that alone is told.
 ///
 /// # Errors
 ///
-/// `NoMemory`.
-pub(crate) fn arrive<D: Device>(
-    driver: &mut Driver,
+/// `Stopped`.
+pub(crate) fn arrive<R: Wait, D: Device>(
+    rt: &R,
+    driver: &mut Driver<'_>,
     devices: &mut [D],
     place: u32,
     port: u16,
     frame: Bytes,
-) -> Result<(), NoMemory>
+) -> Result<(), Stopped>
     requires fits { Fits driver.old (map D.meaning devices.old) }
     requires rest { IsAtRest driver.old }
     requires among { IsAmong (length devices.old) place }
@@ -40,25 +41,27 @@ pub(crate) fn arrive<D: Device>(
     ensures fits { OnOk result (Fits driver.new (map D.meaning devices.new)) }
     ensures rest { OnOk result (IsAtRest driver.new) }
     ensures obeyed { OnOk result (ObeyedBy (Order.Arrival place port frame) driver.old (map D.meaning devices.old) driver.new (map D.meaning devices.new)) }
+    ensures footing { driver.new.desk.footing ≡ driver.old.desk.footing }
 {
     let at = index_of(place);
     match driver.channels[at].stage {
         Plugging::Plugged => {
-            look(driver, devices, at, port, frame)?;
-            attend(driver, devices, at)
+            look(rt, driver, devices, at, port, frame)?;
+            attend(rt, driver, devices, at)
         }
-        _ => note(driver, Note::Absent(place)),
+        _ => note(rt, driver, Note::Absent(place)),
     }
 }
 
 // A frame comes to the device with this index. Where it fails it is left.
-fn look<D: Device>(
-    driver: &mut Driver,
+fn look<R: Wait, D: Device>(
+    rt: &R,
+    driver: &mut Driver<'_>,
     devices: &mut [D],
     at: usize,
     port: u16,
     frame: Bytes,
-) -> Result<(), NoMemory>
+) -> Result<(), Stopped>
     requires fits { Fits driver.old (map D.meaning devices.old) }
     requires rest { IsAtRest driver.old }
     requires plugged { IsPluggedIn at driver.old }
@@ -67,28 +70,31 @@ fn look<D: Device>(
     ensures fits { OnOk result (Fits driver.new (map D.meaning devices.new)) }
     ensures rest { OnOk result (IsAtRestBut at driver.new) }
     ensures looked { OnOk result (Looked (at + 1) port frame (bench driver.old (map D.meaning devices.old)) (bench driver.new (map D.meaning devices.new))) }
+    ensures footing { driver.new.desk.footing ≡ driver.old.desk.footing }
 {
     driving_laws();
-    if call(driver, devices, at, port, frame)? {
-        driver.leave(at);
+    if call(rt, driver, devices, at, port, frame)? {
+        driver.leave(rt, at)?;
     }
     Ok(())
 }
 
 // A frame comes to the device with this index, and that is noted. Tells whether the device failed.
-fn call<D: Device>(
-    driver: &mut Driver,
+fn call<R: Wait, D: Device>(
+    rt: &R,
+    driver: &mut Driver<'_>,
     devices: &mut [D],
     at: usize,
     port: u16,
     frame: Bytes,
-) -> Result<bool, NoMemory>
+) -> Result<bool, Stopped>
     requires fits { Fits driver.old (map D.meaning devices.old) }
     requires rest { IsAtRest driver.old }
     requires plugged { IsPluggedIn at driver.old }
     requires within { at < length devices.old }
     requires short { length frame ≤ most_bytes }
-    ensures { IfOk result (λ failed. IsCalled at port frame failed driver.old (map D.meaning devices.old) driver.new (map D.meaning devices.new)) }
+    ensures called { IfOk result (λ failed. IsCalled at port frame failed driver.old (map D.meaning devices.old) driver.new (map D.meaning devices.new)) }
+    ensures footing { driver.new.desk.footing ≡ driver.old.desk.footing }
 {
     driving_laws();
     let alloc = driver.alloc;
@@ -102,6 +108,7 @@ fn call<D: Device>(
     let failed = has_failed(&seen);
     let device = connection_of(at);
     tell(
+        rt,
         driver,
         Note::Seen {
             device,
@@ -120,13 +127,15 @@ fn has_failed(seen: &Seen) -> bool
 }
 
 // The machine is told what a device did.
-fn tell(driver: &mut Driver, note: Note) -> Result<(), NoMemory>
-    ensures step { OnOk result (Steps driver.old.core (entries.Note note) Done driver.new.core) }
-    ensures same { OnOk result (driver.new ≡ record driver.old { core = driver.new.core }) }
+fn tell<R: Wait>(rt: &R, driver: &mut Driver<'_>, note: Note) -> Result<(), Stopped>
+    requires alone { IsAlone driver.old }
+    ensures enters { OnOk result (EntersAlone (entries.Note note) Done driver.old.desk driver.new.desk) }
+    ensures same { OnOk result (driver.new ≡ record driver.old { desk = driver.new.desk }) }
+    ensures footing { driver.new.desk.footing ≡ driver.old.desk.footing }
 {
-    match driver.enter(Entry::Note(note)) {
+    match driver.enter(rt, Entry::Note(note))? {
         Reply::Done => Ok(()),
-        Reply::NoMemory => Err(NoMemory),
+        Reply::NoMemory => Err(Stopped),
         _ => unreachable!(),
     }
 }

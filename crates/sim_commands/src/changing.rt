@@ -2,7 +2,6 @@
 ghost use Rattle.std.specs.Prelude.{◌≡◌, false, map, Ok, OnOk};
 ghost use Rattle.machine_steps.specs.declared.entry.Entry.TheVariants as entries;
 ghost use Rattle.machine_moves.specs.Told.{is_new_state};
-ghost use Rattle.policy_text.specs.Texts.{IsTextOf};
 ghost use Rattle.script_text.specs.Orders.{Order};
 ghost use Rattle.script_text.specs.Steps.{IsOfLine};
 ghost use Rattle.sim_channels.specs.Channels.{Fits, IsKept};
@@ -13,38 +12,40 @@ ghost use Rattle.sim_commands.specs.Commands.{AsksFor, ObeyedBy, ObeyedOver};
 use core_machine::{Entry, Note, Reply};
 use device_port::Device;
 use env_cells::Update;
-use maple_base::NoMemory;
 use policy_lang::Policy;
 use policy_text::{ReadError, read_policy};
-use sim_channels::{Driver, driving_laws};
+use sim_channels::{Driver, Stopped, driving_laws};
 use sim_turns::{ask, note};
+use std::sync::Wait;
 
 /// What is known of the network changes, and what the machine has for devices then is given to them.
 ///
 /// # Errors
 ///
-/// `NoMemory`.
-pub(crate) fn change<D: Device>(
-    driver: &mut Driver,
+/// `Stopped`.
+pub(crate) fn change<R: Wait, D: Device>(
+    rt: &R,
+    driver: &mut Driver<'_>,
     devices: &mut [D],
     update: Update,
-) -> Result<(), NoMemory>
+) -> Result<(), Stopped>
     requires fits { Fits driver.old (map D.meaning devices.old) }
     requires rest { IsAtRest driver.old }
     requires line { IsOfLine update }
     ensures fits { OnOk result (Fits driver.new (map D.meaning devices.new)) }
     ensures rest { OnOk result (IsAtRest driver.new) }
     ensures obeyed { OnOk result (ObeyedBy (Order.Change update) driver.old (map D.meaning devices.old) driver.new (map D.meaning devices.new)) }
+    ensures footing { driver.new.desk.footing ≡ driver.old.desk.footing }
 {
-    if update_network(driver, update)? {
-        driver.deliver_all(devices)
+    if update_network(rt, driver, update)? {
+        driver.deliver_all(rt, devices)
     } else {
         Ok(())
     }
 }
 
 // Tells whether the network changed: the update may be refused.
-fn update_network(driver: &mut Driver, update: Update) -> Result<bool, NoMemory>
+fn update_network<R: Wait>(rt: &R, driver: &mut Driver<'_>, update: Update) -> Result<bool, Stopped>
     requires kept { IsKept driver.old }
     requires rest { IsAtRest driver.old }
     requires line { IsOfLine update }
@@ -52,9 +53,10 @@ fn update_network(driver: &mut Driver, update: Update) -> Result<bool, NoMemory>
     ensures through { OnOk result (IsHeardThrough driver.new) }
     ensures rest { result ≡ Ok false → IsAtRest driver.new }
     ensures asked { OnOk result (AsksFor (entries.Change update) driver.old driver.new) }
+    ensures footing { driver.new.desk.footing ≡ driver.old.desk.footing }
 {
     driving_laws();
-    let reply = ask(driver, Entry::Change(update))?;
+    let reply = ask(rt, driver, Entry::Change(update))?;
     Ok(is_new_state(&reply))
 }
 
@@ -69,42 +71,43 @@ fn is_new_state(reply: &Reply) -> bool
 ///
 /// # Errors
 ///
-/// `NoMemory`.
-pub(crate) fn renew<D: Device>(
-    driver: &mut Driver,
+/// `Stopped`.
+pub(crate) fn renew<R: Wait, D: Device>(
+    rt: &R,
+    driver: &mut Driver<'_>,
     devices: &mut [D],
     text: &[u8],
-) -> Result<(), NoMemory>
+) -> Result<(), Stopped>
     requires fits { Fits driver.old (map D.meaning devices.old) }
     requires rest { IsAtRest driver.old }
     ensures fits { OnOk result (Fits driver.new (map D.meaning devices.new)) }
     ensures rest { OnOk result (IsAtRest driver.new) }
     ensures obeyed { OnOk result (ObeyedBy (Order.NewPolicy text.now) driver.old (map D.meaning devices.old) driver.new (map D.meaning devices.new)) }
+    ensures footing { driver.new.desk.footing ≡ driver.old.desk.footing }
 {
     match read_policy(driver.alloc, text) {
         Ok(policy) => {
-            put_in_force(driver, policy)?;
-            driver.deliver_all(devices)
+            put_in_force(rt, driver, policy)?;
+            driver.deliver_all(rt, devices)
         }
         Err(ReadError::Refused { line, column, kind }) => {
-            note(driver, Note::PolicyRefused { line, column, kind })
+            note(rt, driver, Note::PolicyRefused { line, column, kind })
         }
-        Err(ReadError::NoMemory) => Err(NoMemory),
+        Err(ReadError::NoMemory) => Err(Stopped),
     }
 }
 
 // The policy is put in force.
-fn put_in_force(driver: &mut Driver, policy: Policy) -> Result<(), NoMemory>
+fn put_in_force<R: Wait>(rt: &R, driver: &mut Driver<'_>, policy: Policy) -> Result<(), Stopped>
     requires kept { IsKept driver.old }
     requires rest { IsAtRest driver.old }
     ensures fits { OnOk result (FitsStill driver.old driver.new) }
     ensures through { OnOk result (IsHeardThrough driver.new) }
     ensures asked { OnOk result (AsksFor (entries.NewPolicy policy) driver.old driver.new) }
+    ensures footing { driver.new.desk.footing ≡ driver.old.desk.footing }
 {
     driving_laws();
-    let learning = policy.learning();
-    ask(driver, Entry::NewPolicy(policy))?;
-    driver.learning = learning;
+    ask(rt, driver, Entry::NewPolicy(policy))?;
     Ok(())
 }
 
@@ -112,15 +115,20 @@ fn put_in_force(driver: &mut Driver, policy: Policy) -> Result<(), NoMemory>
 ///
 /// # Errors
 ///
-/// `NoMemory`.
-pub(crate) fn list_rules(driver: &mut Driver, switch: u64) -> Result<(), NoMemory>
+/// `Stopped`.
+pub(crate) fn list_rules<R: Wait>(
+    rt: &R,
+    driver: &mut Driver<'_>,
+    switch: u64,
+) -> Result<(), Stopped>
     requires kept { IsKept driver.old }
     requires rest { IsAtRest driver.old }
     ensures fits { OnOk result (FitsStill driver.old driver.new) }
     ensures rest { OnOk result (IsAtRest driver.new) }
     ensures obeyed { OnOk result (ObeyedOver (Order.Rules switch) driver.old driver.new) }
+    ensures footing { driver.new.desk.footing ≡ driver.old.desk.footing }
 {
     driving_laws();
-    ask(driver, Entry::ReadRules(switch))?;
+    ask(rt, driver, Entry::ReadRules(switch))?;
     Ok(())
 }

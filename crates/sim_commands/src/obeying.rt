@@ -9,39 +9,41 @@ use crate::arriving::arrive;
 use crate::changing::{change, list_rules, renew};
 use crate::plugging::{plug, unplug};
 use device_port::Device;
-use maple_base::NoMemory;
 use script_text::Step;
-use sim_channels::Driver;
+use sim_channels::{Driver, Stopped};
 use sim_turns::{settle, turn};
+use std::sync::Wait;
 
 /// Does what a step of a script asks for, of a new policy with the text behind it, and all that this
 /// brings about.
 ///
 /// # Errors
 ///
-/// `NoMemory`.
-pub fn obey<D: Device>(
-    driver: &mut Driver,
+/// `Stopped`.
+pub fn obey<R: Wait, D: Device>(
+    rt: &R,
+    driver: &mut Driver<'_>,
     devices: &mut [D],
     step: Step,
     text: &[u8],
-) -> Result<(), NoMemory>
+) -> Result<(), Stopped>
     requires fits { Fits driver.old (map D.meaning devices.old) }
     requires rest { IsAtRest driver.old }
     requires step { IsKeptStep (length devices.old) step }
     ensures fits { OnOk result (Fits driver.new (map D.meaning devices.new)) }
     ensures rest { OnOk result (IsAtRest driver.new) }
     ensures obeyed { OnOk result (ObeyedBy (order_with step text.now) driver.old (map D.meaning devices.old) driver.new (map D.meaning devices.new)) }
+    ensures footing { driver.new.desk.footing ≡ driver.old.desk.footing }
 {
     match step {
         Step::Nothing => Ok(()),
-        Step::Plug(place) => plug(driver, devices, place),
-        Step::Unplug(place) => unplug(driver, place),
-        Step::Arrival { place, port, frame } => arrive(driver, devices, place, port, frame),
-        Step::Turn { place, turns } => turn(driver, devices, place, turns),
-        Step::Settle => settle(driver, devices),
-        Step::Change(update) => change(driver, devices, update),
-        Step::NewPolicy => renew(driver, devices, text),
-        Step::Rules(switch) => list_rules(driver, switch),
+        Step::Plug(place) => plug(rt, driver, devices, place),
+        Step::Unplug(place) => unplug(rt, driver, place),
+        Step::Arrival { place, port, frame } => arrive(rt, driver, devices, place, port, frame),
+        Step::Turn { place, turns } => turn(rt, driver, devices, place, turns),
+        Step::Settle => settle(rt, driver, devices),
+        Step::Change(update) => change(rt, driver, devices, update),
+        Step::NewPolicy => renew(rt, driver, devices, text),
+        Step::Rules(switch) => list_rules(rt, driver, switch),
     }
 }

@@ -13,36 +13,38 @@ ghost use Rattle.sim_commands.specs.Commands.{AsksFor, IsChanged, IsUnplugged, O
 use crate::staging::{index_of, set_stage};
 use core_machine::{Entry, Note, Reply};
 use device_port::Device;
-use maple_base::NoMemory;
-use sim_channels::{Driver, Plugging, driving_laws};
+use sim_channels::{Driver, Plugging, Stopped, driving_laws};
 use sim_turns::{ask, note};
+use std::sync::Wait;
 
 /// A session is opened for the device at a place, and what the machine has for it then is given to it.
 /// Where one is open already, or it was left, that alone is told.
 ///
 /// # Errors
 ///
-/// `NoMemory`.
-pub(crate) fn plug<D: Device>(
-    driver: &mut Driver,
+/// `Stopped`.
+pub(crate) fn plug<R: Wait, D: Device>(
+    rt: &R,
+    driver: &mut Driver<'_>,
     devices: &mut [D],
     place: u32,
-) -> Result<(), NoMemory>
+) -> Result<(), Stopped>
     requires fits { Fits driver.old (map D.meaning devices.old) }
     requires rest { IsAtRest driver.old }
     requires among { IsAmong (length devices.old) place }
     ensures fits { OnOk result (Fits driver.new (map D.meaning devices.new)) }
     ensures rest { OnOk result (IsAtRest driver.new) }
     ensures obeyed { OnOk result (ObeyedBy (Order.Plug place) driver.old (map D.meaning devices.old) driver.new (map D.meaning devices.new)) }
+    ensures footing { driver.new.desk.footing ≡ driver.old.desk.footing }
 {
     driving_laws();
     let at = index_of(place);
     match driver.channels[at].stage {
-        Plugging::Plugged => note(driver, Note::Present(place)),
-        Plugging::Left => note(driver, Note::GoneAlready(place)),
+        Plugging::Plugged => note(rt, driver, Note::Present(place)),
+        Plugging::Left => note(rt, driver, Note::GoneAlready(place)),
         Plugging::Unplugged => {
-            open(driver, at, place)?;
-            driver.deliver(devices, at)
+            open(rt, driver, at, place)?;
+            driver.deliver(rt, devices, at)
         }
     }
 }
@@ -51,24 +53,25 @@ pub(crate) fn plug<D: Device>(
 ///
 /// # Errors
 ///
-/// `NoMemory`.
-pub(crate) fn unplug(driver: &mut Driver, place: u32) -> Result<(), NoMemory>
+/// `Stopped`.
+pub(crate) fn unplug<R: Wait>(rt: &R, driver: &mut Driver<'_>, place: u32) -> Result<(), Stopped>
     requires kept { IsKept driver.old }
     requires rest { IsAtRest driver.old }
     requires among { IsAmong (length driver.old.channels.items) place }
     ensures fits { OnOk result (FitsStill driver.old driver.new) }
     ensures rest { OnOk result (IsAtRest driver.new) }
     ensures obeyed { OnOk result (ObeyedOver (Order.Unplug place) driver.old driver.new) }
+    ensures footing { driver.new.desk.footing ≡ driver.old.desk.footing }
 {
     let at = index_of(place);
     match driver.channels[at].stage {
-        Plugging::Plugged => close(driver, at, place),
-        _ => note(driver, Note::Absent(place)),
+        Plugging::Plugged => close(rt, driver, at, place),
+        _ => note(rt, driver, Note::Absent(place)),
     }
 }
 
 // A session is opened for the device with this index; in vain it is left.
-fn open(driver: &mut Driver, at: usize, place: u32) -> Result<(), NoMemory>
+fn open<R: Wait>(rt: &R, driver: &mut Driver<'_>, at: usize, place: u32) -> Result<(), Stopped>
     requires kept { IsKept driver.old }
     requires rest { IsAtRest driver.old }
     requires unplugged { IsUnplugged at driver.old }
@@ -77,9 +80,10 @@ fn open(driver: &mut Driver, at: usize, place: u32) -> Result<(), NoMemory>
     ensures asked { OnOk result (AsksFor (entries.Open place) driver.old driver.new) }
     ensures offered { OnOk result (IsOffered at driver.new) }
     ensures heard { OnOk result (IsHeard at driver.new) }
+    ensures footing { driver.new.desk.footing ≡ driver.old.desk.footing }
 {
     driving_laws();
-    let reply = ask(driver, Entry::Open(place))?;
+    let reply = ask(rt, driver, Entry::Open(place))?;
     set_stage(driver, at, stage_behind(&reply));
     Ok(())
 }
@@ -94,7 +98,7 @@ fn stage_behind(reply: &Reply) -> Plugging
 }
 
 // The session of the device with this index ends.
-fn close(driver: &mut Driver, at: usize, place: u32) -> Result<(), NoMemory>
+fn close<R: Wait>(rt: &R, driver: &mut Driver<'_>, at: usize, place: u32) -> Result<(), Stopped>
     requires kept { IsKept driver.old }
     requires rest { IsAtRest driver.old }
     requires plugged { IsPluggedIn at driver.old }
@@ -102,9 +106,11 @@ fn close(driver: &mut Driver, at: usize, place: u32) -> Result<(), NoMemory>
     ensures changes { OnOk result (IsChanged at driver.old driver.new) }
     ensures asked { OnOk result (AsksFor (entries.Gone place false) driver.old driver.new) }
     ensures rest { OnOk result (IsAtRest driver.new) }
+    ensures footing { driver.new.desk.footing ≡ driver.old.desk.footing }
 {
     driving_laws();
     ask(
+        rt,
         driver,
         Entry::Gone {
             connection: place,

@@ -1,6 +1,5 @@
 // The stages of channels.
-ghost use Rattle.std.specs.Prelude.{◌≡◌, ◌+◌, ◌<◌, ◌≤◌, length, map};
-ghost use Rattle.script_text.specs.Steps.{IsAmong};
+ghost use Rattle.std.specs.Prelude.{◌≡◌, ◌+◌, ◌<◌, ◌≤◌, length};
 ghost use Rattle.sim_commands.specs.Commands.{Restages};
 
 use sim_channels::{Driver, Plugging};
@@ -14,7 +13,7 @@ pub(crate) fn index_of(place: u32) -> usize
 }
 
 /// The channel with this index has this stage from now on.
-pub(crate) fn set_stage(driver: &mut Driver, at: usize, stage: Plugging)
+pub(crate) fn set_stage(driver: &mut Driver<'_>, at: usize, stage: Plugging)
     requires { at < length driver.old.channels.items }
     ensures { Restages at stage driver.old driver.new }
 {

@@ -1,6 +1,6 @@
 -- How far a run has come, and how it ends.
-use Rattle.std.proofs.Common.{◌≡◌, ◌⊎◌, ℕ, ◌+◌, List, [], ◌∷◌, ◌++◌, append-nil, append_assoc, refl, sym, ap, ◌∙◌, subst, length, inl, inr}
-use Rattle.std.specs.Prelude.{Some, None}
+use Rattle.std.proofs.Common.{◌≡◌, ◌⊎◌, ℕ, ◌+◌, ◌≤◌, List, [], ◌∷◌, ◌++◌, append-nil, append_assoc, refl, sym, ap, ◌∙◌, subst, length, inl, inr, arith}
+use Rattle.std.specs.Prelude.{Some, None, Err}
 use Rattle.std.specs.List.{flat_map}
 use Rattle.std.proofs.lemmas.Grind.{flat_map-append}
 use Rattle.std.proofs.lemmas.List.{append_cancel_left}
@@ -12,24 +12,29 @@ use Rattle.report_text.specs.declared.line.Line.{Line}
 use Rattle.report_text.specs.declared.line.ScriptRefusal.{ScriptRefusal}
 use Rattle.report_text.specs.Report.{spelled}
 use Rattle.device_port.specs.Devices.{Meaning}
-use Rattle.machine_steps.specs.Histories.{Turn, report_of, said}
+use Rattle.machine_desk.specs.declared.report.ReportStop.{ReportStop}
+use Rattle.machine_desk.specs.declared.report.ReportStop.TheVariants.{Failed, NoMemory, Worn}
+use Rattle.machine_desk.specs.Desks.{DeskLaw, DeskView, Footing}
+use Rattle.machine_steps.specs.Histories.{Leads as Steady, Turn, report_of, said}
 use Rattle.machine_steps.specs.Machine.{State, opening}
 use Rattle.machine_steps.specs.Sound.{AreInRange}
 use Rattle.script_text.specs.Orders.{Order, orders_of, refused_from}
-use Rattle.script_text.specs.Steps.{Halts, Leads}
+use Rattle.script_text.specs.declared.step.Step.{Step}
+use Rattle.script_text.specs.Steps.{Halts, Leads, order_with}
 use Rattle.sim_steps.specs.Agreeing.{taken_report}
 use Rattle.sim_steps.specs.Benches.{Bench, opening_bench}
 use Rattle.sim_steps.specs.Deeds.{Event, Runs, turn_of, turns_of}
 use Rattle.sim_steps.specs.Parts.{IsStill}
 use Rattle.sim_steps.specs.Showing.{AllIdle}
-use Rattle.sim_laws.specs.Laws.{AgreeLaw, HistoryLaw, ReportLaw, WorldLaw}
+use Rattle.sim_laws.specs.Laws.{AgreeLaw, HistoryLaw, PastLaw, ReportLaw, WorldLaw}
 use Rattle.sim_steps.proofs.Joining.{report_then}
 use Rattle.sim_channels.specs.declared.driver.Driver.{Driver}
 use Rattle.sim_channels.specs.Channels.{Fits, bench}
 use Rattle.sim_channels.specs.Waiting.{IsAtRest}
 use Rattle.sim_driver.specs.declared.drive.SimEnd.{SimEnd}
-use Rattle.sim_driver.specs.Passes.{IsOpened, IsReported, IsUnreported, given_to}
-use Rattle.sim_driver.specs.Runs.{Ends, Given, IsBrokenOff, IsFollowed, IsRunOf, IsUnwritten, given, opened, orders, report}
+use Rattle.sim_driver.specs.declared.drive.SimEnd.TheVariants as ends
+use Rattle.sim_driver.specs.Passes.{EndsAt, IsMarked, IsReported, IsUnreported, Passed, SameHall, end_of}
+use Rattle.sim_driver.specs.Runs.{Ends, EndsOver, Given, GoesOnFrom, IsBrokenOff, IsFollowed, IsRunOf, IsUnwritten, given, opened, orders, report}
 use Rattle.sim_driver.proofs.Parting.{Parts, parts_follow, parts_run, parts_then}
 use Rattle.sim_driver.proofs.Taking.{bench_devices}
 
@@ -39,6 +44,7 @@ pub record Known (g : Given) : Type 0 where
   pub told : ReportLaw
   pub agree : AgreeLaw
   pub world : WorldLaw
+  pub past : PastLaw
   pub ranges : AreInRange g.settings
   pub idle : AllIdle g.devices
 
@@ -51,7 +57,7 @@ pub record Went (g : Given) (places : ℕ) (old now : SinkView) (driver : Driver
   pub orders_are : orders g ≡ done ++ orders_of places left
   pub refused_is : refused_from places g.first g.lines ≡ refused_from places line left
   pub wrote : Wrote old now (taken_report events)
-  pub none_waits : driver.core.lines ≡ []
+  pub none_waits : driver.desk.now.lines ≡ []
 
 -- ---- ahead of the script
 
@@ -71,30 +77,13 @@ went_none g places old driver devices known n e = record {
   none_waits = ap (λ (b : Bench). b.machine.lines) e;
 }
 
--- the driver of a machine ahead of its first entry
-module _ (policy : Policy) (settings : Settings) (driver : Driver) (devices : List Meaning) (e : bench driver devices ≡ opening_bench policy settings devices) where
-  core_is : driver.core ≡ opening policy settings
-  core_is = ap (λ (b : Bench). b.machine) e
-
-  same_policy : driver.core.policy ≡ policy
-  same_policy = ap (λ (m : State). m.policy) core_is
-
-  same_settings : driver.core.settings ≡ settings
-  same_settings = ap (λ (m : State). m.settings) core_is
-
-  pub is_opened : AreInRange settings → AllIdle devices → Fits driver devices → IsAtRest driver → IsOpened driver devices
-  is_opened ranges idle fits rest = record {
-    ready = record { fits = fits; rest = rest; none_waits = ap (λ (m : State). m.lines) core_is };
-    opening = e ∙ ap (λ (p : Policy). opening_bench p settings devices) (sym same_policy) ∙ ap (λ (s : Settings). opening_bench driver.core.policy s devices) (sym same_settings);
-    ranges = subst AreInRange (sym same_settings) ranges;
-    idle = idle;
-  }
-
-  pub ends_alike : (end : SimEnd) (script : List ℕ) (first : ℕ) (after : List Meaning) (old new : SinkView) → Ends end (given_to driver devices script first) after old new
-      → Ends end (given policy settings devices script first) after old new
-  ends_alike end script first after old new h =
-      subst (λ (s : Settings). Ends end (given policy s devices script first) after old new) same_settings
-      (subst (λ (p : Policy). Ends end (given p driver.core.settings devices script first) after old new) same_policy h)
+-- a desk that was marked is in the same hall
+pub marked_hall : (f : Footing) (a b : DeskView) → SameHall f a.footing → IsMarked a b → SameHall f b.footing
+marked_hall f a b same marked = record {
+  place = ap (λ (x : Footing). x.place) marked ∙ same.place;
+  start = ap (λ (x : Footing). x.start) marked ∙ same.start;
+  parts = ap (λ (x : Footing). x.parts) marked ∙ same.parts;
+}
 
 -- ---- one order more
 
@@ -105,7 +94,7 @@ orders_on g places left behind done o passed are leads =
 
 pub went_further : {g : Given} {places : ℕ} {old now : SinkView} {driver : Driver} {devices : List Meaning} {line : ℕ} {left : List (List ℕ)} → (new : SinkView) (next : Driver)
     (after : List Meaning) (o : Order) (passed : ℕ) (behind : List (List ℕ)) → Went g places old now driver devices line left → Leads places left o passed behind
-    → IsReported o (bench driver devices) (bench next after) now new → next.core.lines ≡ [] → Went g places old new next after (line + passed) behind
+    → IsReported o (bench driver devices) (bench next after) now new → next.desk.now.lines ≡ [] → Went g places old new next after (line + passed) behind
 went_further {g} {places} {old} {now} {driver} {devices} {line} {left} new next after o passed behind h leads k none = record {
   known = h.known;
   done = h.done ++ o ∷ [];
@@ -154,25 +143,30 @@ module _ {g : Given} {places : ℕ} {old now : SinkView} {driver : Driver} {devi
   written : Wrote old now (report h.events)
   written = subst (Wrote old now) (sym whole) h.wrote
 
-  pub followed : orders_of places left ≡ [] → Fits driver devices → (text : List ℕ) × IsFollowed g devices text × Wrote old now text
+  -- the desk knows of no other turns
+  past_is : driver.desk.past ≡ turns_of h.events
+  past_is = h.known.past (opened g) h.events (bench driver devices) runs
+
+  pub followed : orders_of places left ≡ [] → Fits driver devices → (text : List ℕ) × IsFollowed g devices driver.desk.past text × Wrote old now text
   followed none fits = (report h.events, of_all, written)
     where
       all : orders g ≡ h.done
       all = h.orders_are ∙ ap (λ (os : List Order). h.done ++ os) none ∙ append-nil h.done
 
-      of_all : IsFollowed g devices (report h.events)
+      of_all : IsFollowed g devices driver.desk.past (report h.events)
       of_all = record {
         events = h.events;
         last = bench driver devices;
         run = run_of g h.known h.events (bench driver devices) runs;
         follows = parts_follow (orders g) (opened g) h.events (bench driver devices) (subst (λ (os : List Order). Parts os (opened g) h.events (bench driver devices)) (sym all) h.parts);
+        history_is = past_is;
         text_is = refl;
         devices = bench_devices driver devices fits;
       }
 
-  -- memory ran out ahead of an order, or in it
-  broken : IsBrokenOff g (report h.events)
-  broken = record {
+  -- memory ran out ahead of an order, or in it, or the hall was found worn
+  broken : (history : List Turn) → GoesOnFrom g h.events history → IsBrokenOff g history (report h.events)
+  broken history goes_on = record {
     done = h.done;
     events = h.events;
     last = bench driver devices;
@@ -182,33 +176,43 @@ module _ {g : Given} {places : ℕ} {old now : SinkView} {driver : Driver} {devi
       orders_are = h.orders_are;
       follows = parts_follow h.done (opened g) h.events (bench driver devices) h.parts;
     };
+    goes_on = goes_on;
     text_is = refl;
   }
 
-  pub broken_off : (text : List ℕ) × (IsBrokenOff g text ⊎ IsUnwritten g devices text) × Wrote old now text
-  broken_off = (report h.events, inl broken, written)
+  so_far : GoesOnFrom g h.events driver.desk.past
+  so_far = record {
+    last = driver.desk.now;
+    leads =
+        subst (λ (ts : List Turn). Steady (opening g.policy g.settings) ts driver.desk.now) (sym past_is)
+        (h.known.history g.policy g.settings g.devices h.events (bench driver devices) runs);
+    begins = ([], past_is ∙ sym (append-nil (turns_of h.events)));
+  }
 
-  module _ {new : SinkView} {after : List Meaning} {o : Order} (u : IsUnreported o (bench driver devices) after now new) where
-    parts : Parts (h.done ++ o ∷ []) (opened g) (h.events ++ u.events) u.last
-    parts = parts_then h.done (opened g) h.events (bench driver devices) o u.events u.last h.parts u.part
+  pub broken_off : (text : List ℕ) × (IsBrokenOff g driver.desk.past text ⊎ IsUnwritten g devices driver.desk.past text) × Wrote old now text
+  broken_off = (report h.events, inl (broken driver.desk.past so_far), written)
 
-    all_runs : Runs (opened g) (h.events ++ u.events) u.last
-    all_runs = parts_run (h.done ++ o ∷ []) (opened g) (h.events ++ u.events) u.last parts
+  module _ {new : SinkView} {after : List Meaning} {o : Order} {last : Bench} (u : IsUnreported o (bench driver devices) last after now new) where
+    parts : Parts (h.done ++ o ∷ []) (opened g) (h.events ++ u.events) last
+    parts = parts_then h.done (opened g) h.events (bench driver devices) o u.events last h.parts u.part
+
+    all_runs : Runs (opened g) (h.events ++ u.events) last
+    all_runs = parts_run (h.done ++ o ∷ []) (opened g) (h.events ++ u.events) last parts
 
     -- of the last order the report is what was taken, and what waits
-    last_report : report u.events ≡ taken_report u.events ++ flat_map spelled u.last.machine.lines
+    last_report : report u.events ≡ taken_report u.events ++ flat_map spelled last.machine.lines
     last_report =
         let t = taken_report h.events in
-        let w = flat_map spelled u.last.machine.lines in
+        let w = flat_map spelled last.machine.lines in
         append_cancel_left t (report u.events) (taken_report u.events ++ w) (
         ap (λ (bs : List ℕ). bs ++ report u.events) (sym whole)
         ∙ sym (report_append h.events u.events)
-        ∙ h.known.told g.policy g.settings g.devices (h.events ++ u.events) u.last all_runs
+        ∙ h.known.told g.policy g.settings g.devices (h.events ++ u.events) last all_runs
         ∙ ap (λ (bs : List ℕ). bs ++ w) (report_then h.events u.events)
         ∙ append_assoc t (taken_report u.events) w
         )
 
-    cut : {passed : ℕ} {behind : List (List ℕ)} → Leads places left o passed behind → IsUnwritten g after (report h.events ++ u.front)
+    cut : {passed : ℕ} {behind : List (List ℕ)} → Leads places left o passed behind → IsUnwritten g after last.past (report h.events ++ u.front)
     cut {passed} {behind} leads = record {
       ahead = h.done;
       order = o;
@@ -216,35 +220,51 @@ module _ {g : Given} {places : ℕ} {old now : SinkView} {driver : Driver} {devi
       between = bench driver devices;
       follows = parts_follow h.done (opened g) h.events (bench driver devices) h.parts;
       part = u.events;
-      last = u.last;
+      last = last;
       is_part = u.part;
       are = record {
-        run = run_of g h.known (h.events ++ u.events) u.last all_runs;
+        run = run_of g h.known (h.events ++ u.events) last all_runs;
         later = orders_of places behind;
         orders_are = orders_on g places left behind h.done o passed h.orders_are leads;
-        follows = parts_follow (h.done ++ o ∷ []) (opened g) (h.events ++ u.events) u.last parts;
+        follows = parts_follow (h.done ++ o ∷ []) (opened g) (h.events ++ u.events) last parts;
       };
+      history_is = h.known.past (opened g) (h.events ++ u.events) last all_runs;
       front = u.front;
-      rest = u.is_front.0 ++ flat_map spelled u.last.machine.lines;
+      rest = u.is_front.0 ++ flat_map spelled last.machine.lines;
       report_is =
           last_report
-          ∙ ap (λ (bs : List ℕ). bs ++ flat_map spelled u.last.machine.lines) (sym u.is_front.1)
-          ∙ append_assoc u.front u.is_front.0 (flat_map spelled u.last.machine.lines);
+          ∙ ap (λ (bs : List ℕ). bs ++ flat_map spelled last.machine.lines) (sym u.is_front.1)
+          ∙ append_assoc u.front u.is_front.0 (flat_map spelled last.machine.lines);
       text_is = refl;
       devices = u.devices;
     }
 
-    pub unwritten : {passed : ℕ} {behind : List (List ℕ)} → Leads places left o passed behind → (text : List ℕ) × IsUnwritten g after text × Wrote old new text
+    pub unwritten : {passed : ℕ} {behind : List (List ℕ)} → Leads places left o passed behind → (text : List ℕ) × IsUnwritten g after last.past text × Wrote old new text
     unwritten leads = (report h.events ++ u.front, cut leads, wrote_then old now new (report h.events) u.front written u.wrote)
 
-  -- memory ran out in an order, or for the writing of its report
-  pub cut_off : {new : SinkView} {after : List Meaning} {o : Order} {passed : ℕ} {behind : List (List ℕ)} → (new ≡ now) ⊎ IsUnreported o (bench driver devices) after now new
-      → Leads places left o passed behind → (text : List ℕ) × (IsBrokenOff g text ⊎ IsUnwritten g after text) × Wrote old new text
-  cut_off (inl same) leads = (report h.events, inl broken, subst (λ (s : SinkView). Wrote old s (report h.events)) (sym same) written)
-  cut_off (inr u) leads = let (text, cut, wrote) = unwritten u leads in (text, inr cut, wrote)
+  -- a step wasn't followed to its end: a write failed, memory ran out, or the hall was found worn
+  unchanged : (new : SinkView) → new ≡ now → Wrote old new (report h.events)
+  unchanged new same = subst (λ (s : SinkView). Wrote old s (report h.events)) (sym same) written
+
+  module _ (next : Driver) (law : DeskLaw next.desk) (marked : IsMarked driver.desk next.desk) (start : driver.desk.footing.start ≡ opening g.policy g.settings) where
+    later : GoesOnFrom g h.events next.desk.past
+    later = record {
+      last = next.desk.now;
+      leads =
+          subst (λ (m : State). Steady m next.desk.past next.desk.now) (ap (λ (f : Footing). f.start) marked ∙ start) law.legal;
+      begins = (law.begins.0, law.begins.1 ∙ ap (λ (ts : List Turn). ts ++ law.begins.0) (ap (λ (f : Footing). f.marked) marked ∙ past_is));
+    }
+
+    pub stopped : (new : SinkView) (after : List Meaning) (step : Step) (text : List ℕ) (passed : ℕ) (behind : List (List ℕ)) (stop : ReportStop)
+        → Passed (Err stop) step text (bench driver devices) next after now new → Leads places left (order_with step text) passed behind
+        → EndsAt (end_of stop) g next.desk after old new
+    stopped new after step text passed behind Failed u leads = unwritten u leads
+    stopped new after step text passed behind NoMemory (inl e) leads = (report h.events, inl (broken next.desk.past later), unchanged new e)
+    stopped new after step text passed behind NoMemory (inr u) leads = let (text, cut, wrote) = unwritten u leads in (text, inr cut, wrote)
+    stopped new after step text passed behind Worn (e, worn) leads = (report h.events, (broken next.desk.past later, law.full worn), unchanged new e)
 
 -- memory ran out ahead of the machine
-never : (g : Given) → Known g → IsBrokenOff g []
+never : (g : Given) → Known g → IsBrokenOff g [] []
 never g known = record {
   done = [];
   events = [];
@@ -255,8 +275,21 @@ never g known = record {
     orders_are = refl;
     follows = parts_follow [] (opened g) [] (opened g) (refl, refl, opened_still g);
   };
+  goes_on = record { last = opening g.policy g.settings; leads = refl; begins = ([], refl) };
   text_is = refl;
 }
 
-pub never_begun : (g : Given) → Known g → (after : List Meaning) (old : SinkView) → (text : List ℕ) × (IsBrokenOff g text ⊎ IsUnwritten g after text) × Wrote old old text
-never_begun g known after old = ([], inl (never g known), wrote_nothing old)
+pub never_begun : (g : Given) → Known g → (after : List Meaning) (number : ℕ) (history : List Turn) → history ≡ [] → (old : SinkView) → EndsOver ends.NoMemory g after number history old old
+never_begun g known after number history none old =
+    ([], inl (subst (λ (ts : List Turn). IsBrokenOff g ts []) (sym none) (never g known)), wrote_nothing old)
+
+-- ---- the history of a hall that was closed
+
+-- a front of it was read
+pub closed : (end : SimEnd) (g : Given) (after : List Meaning) (number : ℕ) (history : List Turn) (old new : SinkView) → number ≤ length history
+    → EndsOver end g after number history old new → Ends end g after old new
+closed ends.Done g after number history old new few (text, e, wrote) = (text, (history, e), wrote)
+closed (ends.Script line kind) g after number history old new few (text, e, wrote) = (text, (history, e), wrote)
+closed ends.WriteFault g after number history old new few (text, e, wrote) = (text, (history, e), wrote)
+closed ends.NoMemory g after number history old new few (text, e, wrote) = (text, (history, e), wrote)
+closed ends.Worn g after number history old new few (text, (e, full), wrote) = (text, (history, (e, omega (arith, full, few))), wrote)

@@ -1,6 +1,6 @@
 -- One order is followed, and the report is taken and written behind it.
-use Rattle.std.proofs.Common.{◌≡◌, ℕ, List, ◌++◌, refl, sym, ap, ◌∙◌, subst, inr}
-use Rattle.std.specs.Prelude.{OnOk, OnErr, Result, Ok, Err}
+use Rattle.std.proofs.Common.{◌≡◌, ℕ, List, ◌++◌, sym, ap, ◌∙◌, subst, inl, inr}
+use Rattle.std.specs.Prelude.{OnOk, Result, Ok, Err}
 use Rattle.maple_io.specs.Views.{SinkView, Wrote}
 use Rattle.device_port.specs.Devices.{Meaning}
 use Rattle.script_text.specs.Orders.{Order}
@@ -13,55 +13,122 @@ use Rattle.sim_steps.specs.Parts.{IsPart}
 use Rattle.sim_steps.specs.Stretches.{Obeyed}
 use Rattle.sim_steps.proofs.Joining.{report_then}
 use Rattle.sim_channels.specs.declared.driver.Driver.{Driver}
-use Rattle.sim_channels.specs.Channels.{Fits, bench}
+use Rattle.sim_channels.specs.Channels.{EntersAlone, Fits, IsAlone, bench}
 use Rattle.sim_channels.specs.Waiting.{IsAtRest}
-use Rattle.maple_io.specs.declared.whole.PutStop.{PutStop}
-use Rattle.maple_io.specs.declared.whole.PutStop.TheVariants.{Failed, NoMemory}
+use Rattle.sim_driver.proofs.Alone.{enters_alone}
+use Rattle.machine_desk.specs.declared.report.ReportStop.{ReportStop}
+use Rattle.machine_desk.specs.declared.report.ReportStop.TheVariants.{Failed, NoMemory, Worn}
+use Rattle.machine_desk.specs.Desks.{DeskView, Enters}
+use Rattle.machine_desk.specs.Reports.{ReportsBy, ReportsInPart}
+use Rattle.machine_steps.specs.declared.entry.Entry.TheVariants.{TakeReport}
+use Rattle.machine_steps.specs.declared.reply.Reply.TheVariants.{Lines}
+use Rattle.machine_steps.specs.Steps.{Steps}
 use Rattle.maple_io.specs.Fronts.{IsFront}
-use Rattle.sim_driver.specs.Passes.{Passed, IsReady, IsReported, IsUnreported, taken, waiting}
+use Rattle.sim_driver.specs.Passes.{IsReady, IsReported, IsUnreported, Passed, TakesReport, waiting}
 use Rattle.sim_driver.proofs.Parting.{part_longer}
-use Rattle.sim_driver.proofs.Taking.{bench_devices, taken_fits, taken_rests, taken_still, taking}
+use Rattle.sim_driver.proofs.Taking.{bench_devices, taken_fits, taken_lines, taken_rests, taken_still, taking}
 
 -- a front of this text was written
 abbrev pub WroteFront : List ℕ → SinkView → SinkView → Type 0
 WroteFront text old new = (front : List ℕ) × IsFront front text × Wrote old new front
 
-module _ (o : Order) (a : Bench) (d : Driver) (ds : List Meaning) (h : Obeyed o a (bench d ds)) where
+module _ (o : Order) (a : Bench) (d next : Driver) (taken : TakesReport d next) (ds : List Meaning) (h : Obeyed o a (bench d ds)) where
   -- with the report taken
   abbrev events : List Event
-  events = h.events ++ (taking d ds).events
+  events = h.events ++ (taking d next taken ds).events
 
-  part : IsPart o a events (bench (taken d) ds)
-  part = part_longer o a h.events (bench d ds) (waiting d) (bench (taken d) ds) h.part (taking d ds) (taken_still d ds h.part.still)
+  part : IsPart o a events (bench next ds)
+  part = part_longer o a h.events (bench d ds) (waiting d) (bench next ds) h.part (taking d next taken ds) (taken_still d next taken ds h.part.still)
 
   text : taken_report events ≡ waiting d
-  text = report_then h.events (taking d ds).events ∙ ap (λ (bs : List ℕ). bs ++ taken_report (taking d ds).events) h.none ∙ (taking d ds).text_is
+  text =
+      report_then h.events (taking d next taken ds).events
+      ∙ ap (λ (bs : List ℕ). bs ++ taken_report (taking d next taken ds).events) h.none
+      ∙ (taking d next taken ds).text_is
 
-  pub reported : (old new : SinkView) → Wrote old new (waiting d) → IsReported o a (bench (taken d) ds) old new
+  pub reported : (old new : SinkView) → Wrote old new (waiting d) → IsReported o a (bench next ds) old new
   reported old new w = record { events = events; part = part; wrote = subst (Wrote old new) (sym text) w }
 
-  pub unreported : (old new : SinkView) → Fits d ds → WroteFront (waiting d) old new → IsUnreported o a ds old new
+  pub unreported : (old new : SinkView) → Fits d ds → WroteFront (waiting d) old new → IsUnreported o a (bench next ds) ds old new
   unreported old new fits (front, is, w) = record {
     events = events;
-    last = bench (taken d) ds;
     part = part;
-    devices = bench_devices (taken d) ds (taken_fits d ds fits);
+    devices = bench_devices next ds (taken_fits d next taken ds fits);
     front = front;
     is_front = subst (IsFront front) (sym text) is;
     wrote = w;
   }
 
--- ---- as the report is written
+-- ---- as the report is written at the desk
 
-pub ready_by : (r : Result (Unit {0}) PutStop) (d next : Driver) (ds : List Meaning) → OnOk r (next ≡ taken d) → Fits d ds → IsAtRest d → OnOk r (IsReady next ds)
-ready_by (Ok u) d next ds e fits rest =
-    subst (λ (x : Driver). IsReady x ds) (sym e) (record { fits = taken_fits d ds fits; rest = taken_rests d rest; none_waits = refl })
-ready_by (Err stop) d next ds e fits rest = tt
+-- what was taken there is what waited
+module _ (d next : Driver) (same : next ≡ record d { desk = next.desk }) (alone : IsAlone d) where
+  text_is : (bytes : List ℕ) → EntersAlone TakeReport (Lines bytes) d.desk next.desk → bytes ≡ waiting d
+  text_is bytes e = go e.steps
+    where
+      go : Steps d.desk.now TakeReport (Lines bytes) next.desk.now → bytes ≡ waiting d
+      go (inl (told, is)) = let t = told in cc
+      go (inr lacks) = let other = lacks.0 in absurd (cc)
 
-pub follows_by : (r : Result (Unit {0}) PutStop) (step : Step) (text : List ℕ) (a : Bench) (d next : Driver) (ds : List Meaning) (old new : SinkView)
-    → Obeyed (order_with step text) a (bench d ds) → Fits d ds → OnOk r (next ≡ taken d) → OnOk r (Wrote old new (waiting d)) → OnErr r (WroteFront (waiting d) old new)
-    → Passed r step text a next ds old new
-follows_by (Ok u) step text a d next ds old new h fits e w front =
-    subst (λ (x : Driver). IsReported (order_with step text) a (bench x ds) old new) (sym e) (reported (order_with step text) a d ds h old new w)
-follows_by (Err Failed) step text a d next ds old new h fits e w front = unreported (order_with step text) a d ds h old new fits front
-follows_by (Err NoMemory) step text a d next ds old new h fits e w front = inr (unreported (order_with step text) a d ds h old new fits front)
+  takes : (bytes : List ℕ) → Enters d.desk TakeReport (Lines bytes) next.desk → TakesReport d next × (bytes ≡ waiting d)
+  takes bytes e =
+      let entered = enters_alone d.desk next.desk TakeReport (Lines bytes) alone e in
+      let is = text_is bytes entered in (
+        record {
+          same = same;
+          enters = subst (λ (bs : List ℕ). EntersAlone TakeReport (Lines bs) d.desk next.desk) is entered;
+          footing = e.footing;
+        },
+        is,
+      )
+
+  pub ready_by : (r : Result (Unit {0}) ReportStop) (ds : List Meaning) (old new : SinkView) → ReportsBy r d.desk next.desk old new → Fits d ds → IsAtRest d
+      → OnOk r (IsReady next ds)
+  ready_by (Ok u) ds old new w fits rest =
+      let (taken, is) = takes w.text w.enters in
+      record { fits = taken_fits d next taken ds fits; rest = taken_rests d next taken rest; none_waits = taken_lines d next taken }
+  ready_by (Err stop) ds old new w fits rest = tt
+
+  in_part : (o : Order) (a : Bench) (ds : List Meaning) (old new : SinkView) → Obeyed o a (bench d ds) → Fits d ds → ReportsInPart d.desk next.desk old new
+      → IsUnreported o a (bench next ds) ds old new
+  in_part o a ds old new h fits w =
+      let (taken, is) = takes w.text w.enters in
+      unreported o a d next taken ds h old new fits (w.front, subst (IsFront w.front) is w.is_front, w.wrote)
+
+  pub follows_by : (r : Result (Unit {0}) ReportStop) (step : Step) (text : List ℕ) (a : Bench) (ds : List Meaning) (old new : SinkView)
+      → Obeyed (order_with step text) a (bench d ds) → Fits d ds → ReportsBy r d.desk next.desk old new → Passed r step text a next ds old new
+  follows_by (Ok u) step text a ds old new h fits w =
+      let (taken, is) = takes w.text w.enters in
+      reported (order_with step text) a d next taken ds h old new (subst (Wrote old new) is w.wrote)
+  follows_by (Err Failed) step text a ds old new h fits (w, failed) = in_part (order_with step text) a ds old new h fits w
+  follows_by (Err NoMemory) step text a ds old new h fits (inl (enters, same)) = inl same
+  follows_by (Err NoMemory) step text a ds old new h fits (inr w) = inr (in_part (order_with step text) a ds old new h fits w)
+  follows_by (Err Worn) step text a ds old new h fits (wears, same) = (same, ap (λ (v : DeskView). v.worn) wears.same)
+
+-- ---- the mark
+
+-- a marked desk is at the same point
+module _ (d : Driver) where
+  abbrev pub marked : Driver
+  marked = record d { desk = record d.desk { footing = record d.desk.footing { marked = d.desk.past } } }
+
+  pub marked_fits : (ds : List Meaning) → Fits d ds → Fits marked ds
+  marked_fits ds h = record {
+    kept = record {
+      alone = h.kept.alone;
+      reached = h.kept.reached;
+      numbers = h.kept.numbers;
+      stages = h.kept.stages;
+      places_alone = h.kept.places_alone;
+      fresh = h.kept.fresh;
+    };
+    places = h.places;
+    waiting = h.waiting;
+  }
+
+  pub marked_rests : IsAtRest d → IsAtRest marked
+  marked_rests h = record { jobs = h.jobs; taken = h.taken; offered = h.offered; heard = h.heard }
+
+-- so what was obeyed from there was obeyed from here
+pub as_before : (d : Driver) (m : DeskView) (ds : List Meaning) (o : Order) (b : Bench) → m ≡ (marked d).desk → Obeyed o (bench (record d { desk = m }) ds) b → Obeyed o (bench d ds) b
+as_before d m ds o b e h = subst (λ (x : DeskView). Obeyed o (bench (record d { desk = x }) ds) b) e h

@@ -1,11 +1,14 @@
 -- The report is taken: nothing else changes.
-use Rattle.std.proofs.Common.{◌≡◌, ℕ, List, [], ◌∷◌, ◌++◌, length, map, refl, ap, ◌∙◌, inl}
+use Rattle.std.proofs.Common.{◌≡◌, ℕ, List, [], ◌∷◌, ◌++◌, length, map, refl, sym, ap, ◌∙◌, subst, inl, inr}
 use Rattle.device_port.specs.Devices.{Meaning}
 use Rattle.machine_steps.specs.declared.entry.Entry.TheVariants as entries
 use Rattle.machine_steps.specs.declared.reply.Reply.TheVariants.{Lines}
 use Rattle.machine_steps.specs.Histories.{IsTurn, Leads, Turn}
+use Rattle.machine_desk.specs.Desks.{DeskView, Footing}
 use Rattle.machine_steps.specs.Machine.{State}
+use Rattle.machine_steps.specs.Steps.{Steps}
 use Rattle.sim_steps.specs.Benches.{IsPluggedAt, Slot}
+use Rattle.sim_steps.specs.Deeds.{turn_by}
 use Rattle.sim_steps.specs.Parts.{IsStill}
 use Rattle.sim_steps.specs.Stretches.{Stretch}
 use Rattle.sim_steps.proofs.Moments.{report_taken}
@@ -13,52 +16,91 @@ use Rattle.sim_channels.specs.declared.channel.Channel.{Channel}
 use Rattle.sim_channels.specs.declared.driver.Driver.{Driver}
 use Rattle.sim_channels.specs.Channels.{Fits, IsReached, bench, slots_of}
 use Rattle.sim_channels.specs.Waiting.{IsAtRest}
-use Rattle.sim_driver.specs.Passes.{taken, waiting}
+use Rattle.sim_driver.specs.Passes.{TakesReport, waiting}
 use Rattle.sim_driver.specs.Runs.{devices_of}
 
 leads_on : (m : State) (ts : List Turn) (b : State) (t : Turn) → Leads m ts b → t.before ≡ b → IsTurn t → Leads m (ts ++ t ∷ []) t.behind
 leads_on m [] b t same before is = (before ∙ same, is, refl)
 leads_on m (u ∷ ts) b t (first, turn, rest) before is = (first, turn, leads_on u.behind ts b t rest before is)
 
-reached_on : (d : Driver) → IsReached d.core → IsReached (taken d).core
-reached_on d h =
-    let t : Turn = record { before = d.core; entry = entries.TakeReport; reply = Lines (waiting d); behind = (taken d).core } in
-    record {
-      policy = h.policy;
-      settings = h.settings;
-      ranges = h.ranges;
-      turns = h.turns ++ t ∷ [];
-      leads = leads_on _ h.turns d.core t h.leads refl (record { admitted = tt; steps = inl (refl, refl) });
-    }
+-- the machine with its lines taken
+abbrev cleared : State → State
+cleared m = record m { lines = [] }
 
-pub taken_fits : (d : Driver) (ds : List Meaning) → Fits d ds → Fits (taken d) ds
-taken_fits d ds h = record {
-  kept = record {
-    reached = reached_on d h.kept.reached;
-    numbers = h.kept.numbers;
-    stages = λ at k there. let s = h.kept.stages at k there in record { plugged = s.plugged; opened = s.opened };
-    places_alone = h.kept.places_alone;
-    learning = h.kept.learning;
-    budget = h.kept.budget;
-    fresh = h.kept.fresh;
-  };
-  places = h.places;
-  waiting = h.waiting;
-}
+-- the desk is so behind it, and the driver
+module _ (d : Driver) (to : DeskView) where
+  abbrev behind : Driver
+  behind = record d { desk = record to { now = cleared d.desk.now } }
 
-pub taken_rests : (d : Driver) → IsAtRest d → IsAtRest (taken d)
-taken_rests d h = record { jobs = h.jobs; taken = h.taken; offered = h.offered; heard = h.heard }
+  reached_on : IsReached d.desk.now → IsReached behind.desk.now
+  reached_on h =
+      let t : Turn = turn_by d.desk.now entries.TakeReport (Lines (waiting d)) behind.desk.now in
+      record {
+        policy = h.policy;
+        settings = h.settings;
+        ranges = h.ranges;
+        turns = h.turns ++ t ∷ [];
+        leads = leads_on _ h.turns d.desk.now t h.leads refl (record { admitted = tt; steps = inl (refl, refl) });
+      }
 
-pub taken_still : (d : Driver) (ds : List Meaning) → IsStill (bench d ds) → IsStill (bench (taken d) ds)
-taken_still d ds h = record { jobs = h.jobs; taken = h.taken; offered = λ c s p. h.offered c s (as_before c s p); heard = λ c s p. h.heard c s (as_before c s p) }
-  where
-    as_before : (c : ℕ) (s : Slot) → IsPluggedAt c (bench (taken d) ds) s → IsPluggedAt c (bench d ds) s
-    as_before c s p = record { plugged = p.plugged; there = p.there }
+  fits_on : (ds : List Meaning) → to.footing ≡ d.desk.footing → Fits d ds → Fits behind ds
+  fits_on ds footing h = record {
+    kept = record {
+      alone = ap (λ (f : Footing). f.parts) footing ∙ h.kept.alone;
+      reached = reached_on h.kept.reached;
+      numbers = h.kept.numbers;
+      stages = λ at k there. let s = h.kept.stages at k there in record { plugged = s.plugged; opened = s.opened };
+      places_alone = h.kept.places_alone;
+      fresh = h.kept.fresh;
+    };
+    places = h.places;
+    waiting = h.waiting;
+  }
 
--- the deed
-pub taking : (d : Driver) (ds : List Meaning) → Stretch [] (waiting d) (bench d ds) (bench (taken d) ds)
-taking d ds =
-    report_taken (waiting d) (bench d ds) (bench (taken d) ds) (record { may = tt; admitted = tt; steps = inl (refl, refl); smooth = tt; slots = refl })
+  rests_on : IsAtRest d → IsAtRest behind
+  rests_on h = record { jobs = h.jobs; taken = h.taken; offered = h.offered; heard = h.heard }
+
+  still_on : (ds : List Meaning) → IsStill (bench d ds) → IsStill (bench behind ds)
+  still_on ds h = record { jobs = h.jobs; taken = h.taken; offered = λ c s p. h.offered c s (as_before c s p); heard = λ c s p. h.heard c s (as_before c s p) }
+    where
+      as_before : (c : ℕ) (s : Slot) → IsPluggedAt c (bench behind ds) s → IsPluggedAt c (bench d ds) s
+      as_before c s p = record { plugged = p.plugged; there = p.there }
+
+  -- the deed
+  taking_on : (ds : List Meaning) → to.past ≡ d.desk.past ++ turn_by d.desk.now entries.TakeReport (Lines (waiting d)) behind.desk.now ∷ []
+      → Stretch [] (waiting d) (bench d ds) (bench behind ds)
+  taking_on ds past =
+      report_taken (waiting d) (bench d ds) (bench behind ds)
+      (record { may = tt; admitted = tt; steps = inl (refl, refl); smooth = tt; slots = refl; past = past })
+
+module _ (d next : Driver) (h : TakesReport d next) where
+  now_is : next.desk.now ≡ cleared d.desk.now
+  now_is = go h.enters.steps
+    where
+      go : Steps d.desk.now entries.TakeReport (Lines (waiting d)) next.desk.now → next.desk.now ≡ cleared d.desk.now
+      go (inl (told, is)) = is
+      go (inr lacks) = let other = lacks.0 in absurd (cc)
+
+  next_is : next ≡ behind d next.desk
+  next_is = h.same ∙ ap (λ (m : State). record d { desk = record next.desk { now = m } }) now_is
+
+  past_is : next.desk.past ≡ d.desk.past ++ turn_by d.desk.now entries.TakeReport (Lines (waiting d)) (cleared d.desk.now) ∷ []
+  past_is = h.enters.past ∙ ap (λ (m : State). d.desk.past ++ turn_by d.desk.now entries.TakeReport (Lines (waiting d)) m ∷ []) now_is
+
+  pub taken_fits : (ds : List Meaning) → Fits d ds → Fits next ds
+  taken_fits ds fits = subst (λ (x : Driver). Fits x ds) (sym next_is) (fits_on d next.desk ds h.footing fits)
+
+  pub taken_rests : IsAtRest d → IsAtRest next
+  taken_rests rest = subst IsAtRest (sym next_is) (rests_on d next.desk rest)
+
+  pub taken_still : (ds : List Meaning) → IsStill (bench d ds) → IsStill (bench next ds)
+  taken_still ds still = subst (λ (x : Driver). IsStill (bench x ds)) (sym next_is) (still_on d next.desk ds still)
+
+  pub taken_lines : next.desk.now.lines ≡ []
+  taken_lines = ap (λ (m : State). m.lines) now_is
+
+  pub taking : (ds : List Meaning) → Stretch [] (waiting d) (bench d ds) (bench next ds)
+  taking ds = subst (λ (x : Driver). Stretch [] (waiting d) (bench d ds) (bench x ds)) (sym next_is) (taking_on d next.desk ds past_is)
 
 -- the devices of a driver's bench
 devices_in : (ks : List Channel) (ds : List Meaning) → length ks ≡ length ds → map (λ (s : Slot). s.device) (slots_of ks ds) ≡ ds

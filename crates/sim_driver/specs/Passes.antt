@@ -1,5 +1,5 @@
 -- One order is followed, and the report is taken and written behind it.
-use Rattle.std.specs.Prelude.{◌≡◌, ◌⊎◌, ℕ, List, [], Result, Ok, Err}
+use Rattle.std.specs.Prelude.{◌≡◌, ◌⊎◌, ℕ, true, List, [], Result, Ok, Err}
 use Rattle.std.specs.List.{flat_map}
 use Rattle.maple_io.specs.Views.{SinkView, Wrote}
 use Rattle.report_text.specs.Report.{spelled}
@@ -14,39 +14,92 @@ use Rattle.sim_steps.specs.Deeds.{Event}
 use Rattle.sim_steps.specs.Parts.{IsPart}
 use Rattle.sim_steps.specs.Showing.{AllIdle}
 use Rattle.sim_channels.specs.declared.driver.Driver.{Driver}
-use Rattle.sim_channels.specs.Channels.{Fits, bench}
+use Rattle.sim_channels.specs.Channels.{EntersAlone, Fits, bench}
 use Rattle.sim_channels.specs.Waiting.{IsAtRest}
-use Rattle.maple_io.specs.declared.whole.PutStop.{PutStop}
-use Rattle.maple_io.specs.declared.whole.PutStop.TheVariants.{Failed, NoMemory}
+use Rattle.machine_desk.specs.declared.report.ReportStop.{ReportStop}
+use Rattle.machine_desk.specs.declared.report.ReportStop.TheVariants.{Failed, NoMemory, Worn}
+use Rattle.machine_desk.specs.Desks.{DeskView, Footing}
+use Rattle.machine_steps.specs.declared.entry.Entry.TheVariants.{TakeReport}
+use Rattle.machine_steps.specs.declared.reply.Reply.TheVariants.{Lines}
 use Rattle.maple_io.specs.Fronts.{IsFront}
-use Rattle.sim_driver.specs.Runs.{Given, devices_of, given}
+use Rattle.history_lock.specs.declared.view.Known.{Known}
+use Rattle.machine_desk.specs.declared.opening.Opening.{Opening}
+use Rattle.machine_desk.specs.Openings.{IsAhead, IsMachineOf}
+use Rattle.machine_steps.specs.declared.entry.Entry.{Entry}
+use Rattle.machine_steps.specs.declared.reply.Reply.{Reply}
+use Rattle.machine_steps.specs.Machine.{State}
+use Rattle.machine_sharing.specs.Legal.{turns_of}
+use Rattle.sim_driver.specs.declared.drive.SimEnd.{SimEnd}
+use Rattle.sim_driver.specs.declared.drive.SimEnd.TheVariants as ends
+use Rattle.sim_driver.specs.Runs.{EndsOver, Given, devices_of, given}
 
 -- the lines of the report that weren't taken yet
 abbrev pub waiting : Driver → List ℕ
-waiting driver = flat_map spelled driver.core.lines
+waiting driver = flat_map spelled driver.desk.now.lines
 
--- they were taken
-abbrev pub taken : Driver → Driver
-taken driver = record driver { core = record driver.core { lines = [] } }
+-- they were taken, and nobody came between
+pub record TakesReport (old new : Driver) : Type 0 where
+  pub same : new ≡ record old { desk = new.desk }
+  pub enters : EntersAlone TakeReport (Lines (waiting old)) old.desk new.desk
+  pub footing : new.desk.footing ≡ old.desk.footing
+
+-- what a desk keeps through a run: which hall it is, the machine at first, and the parts
+pub record SameHall (a b : Footing) : Type 0 where
+  pub place : b.place ≡ a.place
+  pub start : b.start ≡ a.start
+  pub parts : b.parts ≡ a.parts
+
+-- it was marked, and then its footing stayed
+abbrev pub IsMarked : DeskView → DeskView → Type 0
+IsMarked old new = new.footing ≡ record old.footing { marked = old.past }
 
 -- nothing is left to do, and no line of the report waits
 pub record IsReady (driver : Driver) (devices : List Meaning) : Type 0 where
   pub fits : Fits driver devices
   pub rest : IsAtRest driver
-  pub none_waits : driver.core.lines ≡ []
+  pub none_waits : driver.desk.now.lines ≡ []
 
 -- ---- ahead of a script
 
 -- the machine is ahead of its first entry
 pub record IsOpened (driver : Driver) (devices : List Meaning) : Type 0 where
   pub ready : IsReady driver devices
-  pub opening : bench driver devices ≡ opening_bench driver.core.policy driver.core.settings devices
-  pub ranges : AreInRange driver.core.settings
+  pub opening : bench driver devices ≡ opening_bench driver.desk.now.policy driver.desk.now.settings devices
+  pub start : driver.desk.footing.start ≡ driver.desk.now
+  pub ranges : AreInRange driver.desk.now.settings
   pub idle : AllIdle devices
 
--- what is given to its run
-abbrev pub given_to : Driver → List Meaning → List ℕ → ℕ → Given
-given_to driver devices script first = given driver.core.policy driver.core.settings devices script first
+-- so it is of a hall that was just opened
+pub record IsOpening (o : Opening) (devices : List Meaning) : Type 0 where
+  pub ahead : IsAhead o
+  pub machine : IsMachineOf o.start.value.policy o.start.value.settings o
+  pub ranges : AreInRange o.start.value.settings
+  pub idle : AllIdle devices
+
+-- what is given to a run over a machine that is so at first
+abbrev pub given_by : State → List Meaning → List ℕ → ℕ → Given
+given_by start devices script first = given start.policy start.settings devices script first
+
+abbrev pub given_over : Opening → List Meaning → List ℕ → ℕ → Given
+given_over o devices script first = given_by o.start.value devices script first
+
+abbrev pub given_at : DeskView → List Meaning → List ℕ → ℕ → Given
+given_at desk devices script first = given_by desk.now devices script first
+
+-- ---- the end of a run
+
+-- by what the desk knows
+abbrev pub EndsAt : SimEnd → Given → DeskView → List Meaning → SinkView → SinkView → Type 0
+EndsAt end g desk after old new = EndsOver end g after desk.number desk.past old new
+
+-- by what its pass has seen of the hall
+abbrev pub EndsByPass : SimEnd → Given → State → List Meaning → Known State Entry Reply → SinkView → SinkView → Type 0
+EndsByPass end g start after k old new = EndsOver end g after k.number (turns_of start k.seen) old new
+
+abbrev pub end_of : ReportStop → SimEnd
+end_of Failed = ends.WriteFault
+end_of NoMemory = ends.NoMemory
+end_of Worn = ends.Worn
 
 -- ---- one order
 
@@ -57,17 +110,17 @@ pub record IsReported (o : Order) (a b : Bench) (old new : SinkView) : Type 0 wh
   pub wrote : Wrote old new (taken_report events)
 
 -- the part of an order, and a front of the report that was taken in it was written; these are the devices then
-pub record IsUnreported (o : Order) (a : Bench) (after : List Meaning) (old new : SinkView) : Type 0 where
+pub record IsUnreported (o : Order) (a b : Bench) (after : List Meaning) (old new : SinkView) : Type 0 where
   pub events : List Event
-  pub last : Bench
-  pub part : IsPart o a events last
-  pub devices : devices_of last ≡ after
+  pub part : IsPart o a events b
+  pub devices : devices_of b ≡ after
   pub front : List ℕ
   pub is_front : IsFront front (taken_report events)
   pub wrote : Wrote old new front
 
 -- how it ends that a step is followed, with this text behind its line; where memory runs out nothing was written, or memory ran out for the writing
-abbrev pub Passed : Result (Unit {0}) PutStop → Step → List ℕ → Bench → Driver → List Meaning → SinkView → SinkView → Type 0
+abbrev pub Passed : Result (Unit {0}) ReportStop → Step → List ℕ → Bench → Driver → List Meaning → SinkView → SinkView → Type 0
 Passed (Ok done) step text a driver after old new = IsReported (order_with step text) a (bench driver after) old new
-Passed (Err Failed) step text a driver after old new = IsUnreported (order_with step text) a after old new
-Passed (Err NoMemory) step text a driver after old new = (new ≡ old) ⊎ IsUnreported (order_with step text) a after old new
+Passed (Err Failed) step text a driver after old new = IsUnreported (order_with step text) a (bench driver after) after old new
+Passed (Err NoMemory) step text a driver after old new = (new ≡ old) ⊎ IsUnreported (order_with step text) a (bench driver after) after old new
+Passed (Err Worn) step text a driver after old new = (new ≡ old) × (driver.desk.worn ≡ true)

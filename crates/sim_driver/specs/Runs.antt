@@ -1,5 +1,5 @@
 -- A run of a script over devices, and how it ends.
-use Rattle.std.specs.Prelude.{◌≡◌, ◌⊎◌, ℕ, map, List, [], ◌∷◌, ◌++◌, Option, Some, length}
+use Rattle.std.specs.Prelude.{◌≡◌, ◌⊎◌, ℕ, ◌^◌, ◌≤◌, true, map, List, [], ◌∷◌, ◌++◌, Option, Some, length}
 use Rattle.std.specs.List.{flat_map}
 use Rattle.std.specs.declared.vec.Vec.{Vec}
 use Rattle.maple_base.specs.declared.decision.Settings.{Settings}
@@ -8,8 +8,9 @@ use Rattle.policy_lang.specs.declared.Policy.{Policy}
 use Rattle.report_text.specs.declared.line.ScriptRefusal.{ScriptRefusal}
 use Rattle.report_text.specs.Report.{spelled}
 use Rattle.device_port.specs.Devices.{Meaning}
-use Rattle.machine_steps.specs.Histories.{Leads, report_of}
-use Rattle.machine_steps.specs.Machine.{opening}
+use Rattle.history_lock.specs.Histories.{StartsWith}
+use Rattle.machine_steps.specs.Histories.{Leads, Turn, report_of}
+use Rattle.machine_steps.specs.Machine.{State, opening}
 use Rattle.script_text.specs.Lines.{ended_lines}
 use Rattle.script_text.specs.Orders.{Order, orders_of, refused_from}
 use Rattle.sim_steps.specs.Agreeing.{AllAgree}
@@ -19,7 +20,7 @@ use Rattle.sim_steps.specs.Parts.{Follows, IsPart}
 use Rattle.sim_steps.specs.Showing.{AllKeep}
 use Rattle.sim_laws.specs.Laws.{AreWorldRun}
 use Rattle.sim_driver.specs.declared.drive.SimEnd.{SimEnd}
-use Rattle.sim_driver.specs.declared.drive.SimEnd.TheVariants.{Done, Script, WriteFault, NoMemory}
+use Rattle.sim_driver.specs.declared.drive.SimEnd.TheVariants.{Done, Script, WriteFault, NoMemory, Worn}
 
 -- what devices in a vector mean, from place 1 on
 abbrev pub over : {A Alloc : Type 0} → (A → Meaning) → Vec A Alloc → List Meaning
@@ -74,16 +75,17 @@ devices_of b = map (λ (s : Slot). s.device) b.slots
 
 -- ---- where the script came to its end, or to a line that is refused
 
--- deeds follow all orders, and the text is their whole report; the devices are those of the last bench
-pub record IsFollowed (g : Given) (after : List Meaning) (text : List ℕ) : Type 0 where
+-- deeds follow all orders, their turns are the history, and the text is their whole report; the devices are those of the last bench
+pub record IsFollowed (g : Given) (after : List Meaning) (history : List Turn) (text : List ℕ) : Type 0 where
   pub events : List Event
   pub last : Bench
   pub run : IsRunOf g events last
   pub follows : Follows (orders g) (opened g) events last
+  pub history_is : history ≡ turns_of events
   pub text_is : text ≡ report events
   pub devices : devices_of last ≡ after
 
--- ---- where a write failed, or memory ran out
+-- ---- where a write failed, memory ran out, or the hall was worn
 
 -- deeds follow these first orders
 pub record AreDone (g : Given) (done : List Order) (es : List Event) (b : Bench) : Type 0 where
@@ -92,17 +94,24 @@ pub record AreDone (g : Given) (done : List Order) (es : List Event) (b : Bench)
   pub orders_are : orders g ≡ done ++ later
   pub follows : Follows done (opened g) es b
 
--- some first orders were followed, and the text is their whole report. Of what was begun behind them nothing is said
-pub record IsBrokenOff (g : Given) (text : List ℕ) : Type 0 where
+-- a legal history begins with the turns of these deeds
+pub record GoesOnFrom (g : Given) (es : List Event) (history : List Turn) : Type 0 where
+  pub last : State
+  pub leads : Leads (opening g.policy g.settings) history last
+  pub begins : StartsWith history (turns_of es)
+
+-- some first orders were followed, and the text is their whole report. Of what was begun behind them only the machine's history is told
+pub record IsBrokenOff (g : Given) (history : List Turn) (text : List ℕ) : Type 0 where
   pub done : List Order
   pub events : List Event
   pub last : Bench
   pub are : AreDone g done events last
+  pub goes_on : GoesOnFrom g events history
   pub text_is : text ≡ report events
 
 -- some first orders were followed, the last of them too, and the text is their whole report, but of the last one's part only a front; the devices are those of
 -- the last bench
-pub record IsUnwritten (g : Given) (after : List Meaning) (text : List ℕ) : Type 0 where
+pub record IsUnwritten (g : Given) (after : List Meaning) (history : List Turn) (text : List ℕ) : Type 0 where
   pub ahead : List Order
   pub order : Order
   pub events : List Event
@@ -112,19 +121,33 @@ pub record IsUnwritten (g : Given) (after : List Meaning) (text : List ℕ) : Ty
   pub last : Bench
   pub is_part : IsPart order between part last
   pub are : AreDone g (ahead ++ order ∷ []) (events ++ part) last
+  pub history_is : history ≡ turns_of (events ++ part)
   pub front : List ℕ
   pub rest : List ℕ
   pub report_is : report part ≡ front ++ rest
   pub text_is : text ≡ report events ++ front
   pub devices : devices_of last ≡ after
 
--- how a run ends that wrote this text; memory may run out as a report is written
-abbrev pub EndsWith : SimEnd → Given → List Meaning → List ℕ → Type 0
-EndsWith Done g after text = IsFollowed g after text
-EndsWith (Script line kind) g after text = IsFollowed g after text
-EndsWith WriteFault g after text = IsUnwritten g after text
-EndsWith NoMemory g after text = IsBrokenOff g text ⊎ IsUnwritten g after text
+-- the hall read so many entries that it has room for no more
+abbrev pub IsFull : ℕ → Type 0
+IsFull number = 2 ^ 62 ≤ number
+
+-- how a run ends that wrote this text, where the machine has this history, and so many entries were read of it; memory may run out as a report is written
+abbrev pub EndsWith : SimEnd → Given → List Meaning → ℕ → List Turn → List ℕ → Type 0
+EndsWith Done g after number history text = IsFollowed g after history text
+EndsWith (Script line kind) g after number history text = IsFollowed g after history text
+EndsWith WriteFault g after number history text = IsUnwritten g after history text
+EndsWith NoMemory g after number history text = IsBrokenOff g history text ⊎ IsUnwritten g after history text
+EndsWith Worn g after number history text = IsBrokenOff g history text × IsFull number
+
+-- the same with what was written
+abbrev pub EndsOver : SimEnd → Given → List Meaning → ℕ → List Turn → SinkView → SinkView → Type 0
+EndsOver end g after number history old new = (text : List ℕ) × EndsWith end g after number history text × Wrote old new text
+
+-- how a run ends that wrote this text, where the machine has some history in the end
+abbrev pub HasEnded : SimEnd → Given → List Meaning → List ℕ → Type 0
+HasEnded end g after text = (history : List Turn) × EndsWith end g after (length history) history text
 
 -- how a run ends
 abbrev pub Ends : SimEnd → Given → List Meaning → SinkView → SinkView → Type 0
-Ends end g after old new = (text : List ℕ) × EndsWith end g after text × Wrote old new text
+Ends end g after old new = (text : List ℕ) × HasEnded end g after text × Wrote old new text

@@ -3,19 +3,26 @@ ghost use Rattle.std.specs.Prelude.{◌≡◌, ◌≢◌, ◌+◌, ◌^◌, ◌<
 ghost use Rattle.maple_io.specs.Views.{NoWriteFailed, WriteFailed};
 ghost use Rattle.machine_steps.specs.Sound.{AreInRange};
 ghost use Rattle.sim_steps.specs.Showing.{AllIdle};
-ghost use Rattle.sim_driver.specs.Passes.{IsOpened, given_to};
+ghost use Rattle.history_lock.specs.Passes.{IsPassOf, hall as place_of, known, parts};
+ghost use Rattle.sim_channels.specs.Channels.{IsAtStart};
+ghost use Rattle.sim_driver.specs.Passes.{EndsAt, EndsByPass, IsOpened, IsOpening, SameHall, end_of, given_at, given_over};
 ghost use Rattle.sim_driver.specs.Runs.{Ends, IsAtRefused, given, over, refused_line};
 
 use crate::following::follow;
+use core_machine::Core;
 use device_port::Device;
+use history_lock::{Hall, Pass};
+use machine_desk::{Desk, Opening, ReportStop, close_hall, open_hall};
 use maple_base::Settings;
-use maple_io::{PutStop, Sink};
+use maple_io::Sink;
 use policy_lang::Policy;
 use report_text::ScriptRefusal;
 use script_text::{StepStop, next_order};
 use sim_channels::Driver;
-use sim_laws::{agreeing_laws, world_law};
+use sim_laws::{agreeing_laws, past_law, world_law};
 use std::alloc::Global;
+use std::sync::Wait;
+use std::thread::Threads;
 
 /// How a run ends.
 #[derive(Clone, Copy, Debug, PartialEq, Eq)]
@@ -28,12 +35,15 @@ pub enum SimEnd {
     WriteFault,
     /// Memory ran out.
     NoMemory,
+    /// The hall of the machine has room for no further entry: its history has 2^62 of them.
+    Worn,
 }
 
 /// Runs a script over a machine and devices, which stand at places from 1 on. Behind each line all
 /// that it brings about is done, and what the report gains by it is written. The script's first line
 /// has this number. 2^32 devices or more are too many for memory.
-pub fn run_sim<O: Sink>(
+pub fn run_sim<R: Threads + Wait + Copy + Send + Sync, O: Sink>(
+    rt: &R,
     alloc: Global,
     policy: Policy,
     script: &[u8],
@@ -51,11 +61,12 @@ pub fn run_sim<O: Sink>(
     ensures fault { result ≡ SimEnd.WriteFault → WriteFailed (O.tells out.old) (O.tells out.new) }
     ensures spared { result ≢ SimEnd.WriteFault → NoWriteFailed (O.tells out.old) (O.tells out.new) }
 {
-    drive(alloc, policy, script, first, settings, devices, out)
+    drive(rt, alloc, policy, script, first, settings, devices, out)
 }
 
 /// The same as `run_sim`, over devices of one type.
-pub fn drive<D: Device, O: Sink>(
+pub fn drive<R: Wait, D: Device, O: Sink>(
+    rt: &R,
     alloc: Global,
     policy: Policy,
     script: &[u8],
@@ -75,16 +86,86 @@ pub fn drive<D: Device, O: Sink>(
 {
     agreeing_laws();
     world_law();
-    let Ok(mut driver) = Driver::new(alloc, policy, settings, devices) else {
-        return SimEnd::NoMemory;
-    };
-    run_lines(alloc, &mut driver, script, first, devices, to)
+    past_law();
+    match open_hall(alloc, policy, settings) {
+        Ok((hall, opening)) => in_hall(rt, alloc, hall, opening, script, first, devices, to),
+        Err(_) => SimEnd::NoMemory,
+    }
+}
+
+// Runs the lines of a script over the machine of a hall that was just opened, and devices; then the hall is closed.
+fn in_hall<R: Wait, D: Device, O: Sink>(
+    rt: &R,
+    alloc: Global,
+    hall: Hall<Core>,
+    opening: Opening,
+    script: &[u8],
+    first: u32,
+    devices: &mut [D],
+    to: &mut O,
+) -> SimEnd
+    requires hall { IsPassOf hall opening.pass }
+    requires opened { IsOpening opening (map D.meaning devices.old) }
+    requires numbers { first + length script.now < 2 ^ 32 }
+    ensures ends { Ends result (given_over opening (map D.meaning devices.old) script.now first) (map D.meaning devices.new) (O.tells to.old) (O.tells to.new) }
+    ensures done { result ≡ SimEnd.Done → refused_line (length devices.old) first script.now ≡ None }
+    ensures script { IsAtRefused result (refused_line (length devices.old) first script.now) }
+    ensures fault { result ≡ SimEnd.WriteFault → WriteFailed (O.tells to.old) (O.tells to.new) }
+    ensures spared { result ≢ SimEnd.WriteFault → NoWriteFailed (O.tells to.old) (O.tells to.new) }
+{
+    let (end, pass) = at_desk(
+        rt,
+        alloc,
+        Desk::new(&hall, opening),
+        script,
+        first,
+        devices,
+        to,
+    );
+    close_hall(hall, pass);
+    end
+}
+
+// Runs the lines of a script at a desk whose machine is ahead of its first entry. Its pass comes back.
+fn at_desk<'h, R: Wait, D: Device, O: Sink>(
+    rt: &R,
+    alloc: Global,
+    desk: Desk<'h>,
+    script: &[u8],
+    first: u32,
+    devices: &mut [D],
+    to: &mut O,
+) -> (SimEnd, Pass<Core>)
+    requires start { IsAtStart desk }
+    requires begins { desk.footing.start ≡ desk.now }
+    requires idle { AllIdle (map D.meaning devices.old) }
+    requires numbers { first + length script.now < 2 ^ 32 }
+    ensures hall { (place_of result.1 ≡ desk.entry.footing.place) × (parts result.1 ≡ desk.entry.footing.parts) }
+    ensures ends { EndsByPass result.0 (given_at desk.entry (map D.meaning devices.old) script.now first) desk.entry.footing.start
+        (map D.meaning devices.new) (known result.1) (O.tells to.old) (O.tells to.new) }
+    ensures done { result.0 ≡ SimEnd.Done → refused_line (length devices.old) first script.now ≡ None }
+    ensures script { IsAtRefused result.0 (refused_line (length devices.old) first script.now) }
+    ensures fault { result.0 ≡ SimEnd.WriteFault → WriteFailed (O.tells to.old) (O.tells to.new) }
+    ensures spared { result.0 ≢ SimEnd.WriteFault → NoWriteFailed (O.tells to.old) (O.tells to.new) }
+{
+    agreeing_laws();
+    world_law();
+    past_law();
+    match Driver::new(alloc, desk, devices) {
+        Ok(mut driver) => {
+            let end = run_lines(rt, alloc, &mut driver, script, first, devices, to);
+            let Driver { desk, .. } = driver;
+            (end, desk.end())
+        }
+        Err(desk) => (SimEnd::NoMemory, desk.end()),
+    }
 }
 
 // Runs the lines of a script over a machine ahead of its first entry, and devices.
-fn run_lines<D: Device, O: Sink>(
+fn run_lines<R: Wait, D: Device, O: Sink>(
+    rt: &R,
     alloc: Global,
-    driver: &mut Driver,
+    driver: &mut Driver<'_>,
     script: &[u8],
     first: u32,
     devices: &mut [D],
@@ -92,7 +173,9 @@ fn run_lines<D: Device, O: Sink>(
 ) -> SimEnd
     requires opened { IsOpened driver.old (map D.meaning devices.old) }
     requires numbers { first + length script.now < 2 ^ 32 }
-    ensures ends { Ends result (given_to driver.old (map D.meaning devices.old) script.now first) (map D.meaning devices.new) (O.tells to.old) (O.tells to.new) }
+    ensures same { SameHall driver.old.desk.footing driver.new.desk.footing }
+    ensures ends { EndsAt result (given_at driver.old.desk (map D.meaning devices.old) script.now first) driver.new.desk
+        (map D.meaning devices.new) (O.tells to.old) (O.tells to.new) }
     ensures done { result ≡ SimEnd.Done → refused_line (length devices.old) first script.now ≡ None }
     ensures script { IsAtRefused result (refused_line (length devices.old) first script.now) }
     ensures fault { result ≡ SimEnd.WriteFault → WriteFailed (O.tells to.old) (O.tells to.new) }
@@ -100,6 +183,7 @@ fn run_lines<D: Device, O: Sink>(
 {
     agreeing_laws();
     world_law();
+    past_law();
     let places = devices.len() as u32;
     let mut rest = script;
     let mut line = first;
@@ -110,13 +194,26 @@ fn run_lines<D: Device, O: Sink>(
             Err(StepStop::Refused(kind)) => return SimEnd::Script { line, kind },
             Err(StepStop::NoMemory) => return SimEnd::NoMemory,
         };
-        match follow(driver, devices, next.step, next.text, to) {
+        match follow(rt, driver, devices, next.step, next.text, to) {
             Ok(()) => {}
-            Err(PutStop::Failed) => return SimEnd::WriteFault,
-            Err(PutStop::NoMemory) => return SimEnd::NoMemory,
+            Err(stop) => {
+                driver.desk.law();
+                return end_of(stop);
+            }
         }
         rest = next.rest;
         line += next.passed as u32;
     }
     SimEnd::Done
+}
+
+// How a run ends where a step wasn't followed to its end.
+fn end_of(stop: ReportStop) -> SimEnd
+    ensures { result ≡ end_of stop }
+{
+    match stop {
+        ReportStop::Failed => SimEnd::WriteFault,
+        ReportStop::NoMemory => SimEnd::NoMemory,
+        ReportStop::Worn => SimEnd::Worn,
+    }
 }

@@ -1,50 +1,52 @@
 // An order of a script is followed, and what the report gains by it is written.
-ghost use Rattle.std.specs.Prelude.{◌≡◌, ◌≢◌, ℕ, List, map, length, OnOk, OnErr};
-ghost use Rattle.maple_io.specs.Views.{NoWriteFailed, WriteFailed, Wrote};
+ghost use Rattle.std.specs.Prelude.{◌≡◌, ◌≢◌, map, length, true, Err, OnOk};
+ghost use Rattle.maple_io.specs.Views.{NoWriteFailed, WriteFailed};
 ghost use Rattle.script_text.specs.Steps.{IsKept as IsKeptStep};
+ghost use Rattle.machine_desk.specs.declared.report.ReportStop.TheVariants as stops;
 ghost use Rattle.sim_channels.specs.Channels.{bench};
-ghost use Rattle.sim_driver.specs.Passes.{IsReady, Passed, taken, waiting};
-ghost use Rattle.maple_io.specs.Fronts.{IsFront};
+ghost use Rattle.sim_driver.specs.Passes.{IsMarked, IsReady, Passed};
 
-use core_machine::{Entry, Reply};
 use device_port::Device;
-use maple_io::{PutStop, Sink, put_all};
+use machine_desk::ReportStop;
+use maple_io::Sink;
 use script_text::Step;
 use sim_channels::Driver;
 use sim_commands::obey;
+use std::sync::Wait;
 
-// Does what a step of a script asks for, over all devices, and writes the lines that the report gains.
-pub(crate) fn follow<D: Device, O: Sink>(
-    driver: &mut Driver,
+// Does what a step of a script asks for, over all devices, and writes the lines that the report gains. The turns so far are
+// marked ahead of it.
+pub(crate) fn follow<R: Wait, D: Device, O: Sink>(
+    rt: &R,
+    driver: &mut Driver<'_>,
     all: &mut [D],
     step: Step,
     text: &[u8],
     to: &mut O,
-) -> Result<(), PutStop>
+) -> Result<(), ReportStop>
     requires ready { IsReady driver.old (map D.meaning all.old) }
     requires step { IsKeptStep (length all.old) step }
     ensures ready { OnOk result (IsReady driver.new (map D.meaning all.new)) }
     ensures follows { Passed result step text.now (bench driver.old (map D.meaning all.old)) driver.new (map D.meaning all.new) (O.tells to.old) (O.tells to.new) }
-    ensures cause { result ≡ Err PutStop.Failed → WriteFailed (O.tells to.old) (O.tells to.new) }
-    ensures spared { result ≢ Err PutStop.Failed → NoWriteFailed (O.tells to.old) (O.tells to.new) }
+    ensures marked { IsMarked driver.old.desk driver.new.desk }
+    ensures cause { result ≡ Err stops.Failed → WriteFailed (O.tells to.old) (O.tells to.new) }
+    ensures spared { result ≢ Err stops.Failed → NoWriteFailed (O.tells to.old) (O.tells to.new) }
 {
-    let Ok(()) = obey(driver, all, step, text) else {
-        return Err(PutStop::NoMemory);
+    driver.desk.mark();
+    let Ok(()) = obey(rt, driver, all, step, text) else {
+        return Err(stopped(driver));
     };
-    write_report(driver, to)
+    driver.desk.write_report(rt, to)
 }
 
-// What waits of the report is taken and written.
-fn write_report<O: Sink>(driver: &mut Driver, out: &mut O) -> Result<(), PutStop>
-    ensures taken { OnOk result (driver.new ≡ taken driver.old) }
-    ensures wrote { OnOk result (Wrote (O.tells out.old) (O.tells out.new) (waiting driver.old)) }
-    ensures front { OnErr result ((front : List ℕ) × IsFront front (waiting driver.old) × Wrote (O.tells out.old) (O.tells out.new) front) }
-    ensures cause { result ≡ Err PutStop.Failed → WriteFailed (O.tells out.old) (O.tells out.new) }
-    ensures spared { result ≢ Err PutStop.Failed → NoWriteFailed (O.tells out.old) (O.tells out.new) }
+// Why it was that the driver stopped.
+fn stopped(driver: &Driver<'_>) -> ReportStop
+    ensures failed { result ≢ ReportStop.Failed }
+    ensures worn { result ≡ ReportStop.Worn → driver.now.desk.worn ≡ true }
 {
-    match driver.enter(Entry::TakeReport) {
-        Reply::Lines(text) => put_all(out, text.items()),
-        Reply::NoMemory => Err(PutStop::NoMemory),
-        _ => unreachable!(),
+    if driver.desk.is_worn() {
+        ReportStop::Worn
+    } else {
+        ReportStop::NoMemory
     }
 }

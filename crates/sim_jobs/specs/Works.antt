@@ -1,6 +1,7 @@
 -- The packet that waits is answered: which turns of the machine that takes.
-use Rattle.std.specs.Prelude.{◌≡◌, false, List, [], ◌∷◌}
+use Rattle.std.specs.Prelude.{◌≡◌, false, List, [], ◌∷◌, ◌++◌}
 use Rattle.std.specs.List.{AllByRecursion}
+use Rattle.machine_desk.specs.Desks.{DeskView}
 use Rattle.machine_steps.specs.declared.entry.Entry.{Entry}
 use Rattle.machine_steps.specs.declared.entry.Entry.TheVariants as entries
 use Rattle.machine_steps.specs.declared.job.Job.{Job}
@@ -32,15 +33,20 @@ pub record AnswersWhole (t : Turn) : Type 0 where
   pub answers : AnswersIn t
   pub memory : lacks_memory t.reply ≡ false
 
--- such turns answer the packet that waits, and none waits any more
-pub record Works (old new : State) : Type 0 where
-  pub turns : List Turn
-  pub leads : Leads old turns new
-  pub whole : AllByRecursion AnswersWhole turns
-  pub none : new.jobs ≡ []
+-- these turns were made at the desk, one behind the other
+pub record Makes (turns : List Turn) (a b : DeskView) : Type 0 where
+  pub leads : Leads a.now turns b.now
+  pub past : b.past ≡ a.past ++ turns
 
--- memory runs out at last
-pub record Fails (old new : State) : Type 0 where
+-- such turns answer the packet that waits, and none waits any more
+pub record Works (a b : DeskView) : Type 0 where
   pub turns : List Turn
-  pub leads : Leads old turns new
+  pub makes : Makes turns a b
+  pub whole : AllByRecursion AnswersWhole turns
+  pub none : b.now.jobs ≡ []
+
+-- memory runs out at last, or the hall is worn
+pub record Fails (a b : DeskView) : Type 0 where
+  pub turns : List Turn
+  pub makes : Makes turns a b
   pub all : AllByRecursion AnswersIn turns

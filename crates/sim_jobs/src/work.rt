@@ -8,21 +8,23 @@ ghost use Rattle.trace_record.specs.Runs.{IsOfCall, IsRun};
 ghost use Rattle.tree_prune.specs.Current.{are_current};
 ghost use Rattle.tree_prune.specs.Stale.{stale_in};
 ghost use Rattle.topo_paths.specs.Scenes.{cell_in};
-ghost use Rattle.machine_steps.specs.Admitting.{IsOfHistory};
+ghost use Rattle.machine_steps.specs.Admitting.{Admits, IsOfHistory};
 ghost use Rattle.machine_steps.specs.Machine.{policy_number};
 ghost use Rattle.machine_moves.specs.Told.{IsFresh};
 ghost use Rattle.sim_jobs.specs.Knowing.{IsAsked, asked_of, first_unknown, value_in};
 ghost use Rattle.sim_jobs.specs.declared.work.Unrecorded.TheVariants.{Unknown};
-ghost use Rattle.sim_jobs.specs.Works.{Fails, WaitsAlone, Works};
+ghost use Rattle.sim_jobs.specs.Reading.{Made, Reads};
+ghost use Rattle.sim_jobs.specs.Works.{Fails, IsOfAnswer, WaitsAlone, Works};
 
 use crate::known::KnownCells;
-use core_machine::{Core, Entry, JobItem, Reply};
+use core_machine::{Entry, JobItem, Reply};
+use machine_desk::{Desk, DeskStop};
 use machine_moves::reply_laws;
 use machine_steps::{machine_laws, running_laws};
 use maple_base::{Cell, NoMemory, Value};
 use policy_lang::Policy;
 use std::alloc::Global;
-use std::sync::Arc;
+use std::sync::{Arc, Wait};
 use trace_record::{NowView, RecordError, Run, record};
 
 /// Answers the packet that waits: a run of the policy in force is recorded over the machine's cells,
@@ -31,82 +33,120 @@ use trace_record::{NowView, RecordError, Run, record};
 ///
 /// # Errors
 ///
-/// `NoMemory`.
-pub fn work(core: &mut Core, budget: u32, item: &JobItem) -> Result<(), NoMemory>
-    requires alone { WaitsAlone item.now core.old }
-    requires budget { core.old.settings.budget ≡ budget }
-    ensures works { OnOk result (Works core.old core.new) }
-    ensures fails { OnErr result (Fails core.old core.new) }
+/// `NoMemory`; `Worn`, where the hall is worn.
+#[tactic(auto, using(crate::proofs::Turns::works_then, crate::proofs::Turns::fails_then))]
+pub fn work<'h, R: Wait>(
+    rt: &R,
+    alloc: Global,
+    desk: &mut Desk<'h>,
+    item: &JobItem,
+) -> Result<(), DeskStop>
+    requires waits { WaitsAlone item.now desk.old.now }
+    requires alone { desk.old.footing.parts ≡ 1024 }
+    ensures works { OnOk result (Works desk.old desk.new) }
+    ensures fails { OnErr result (Fails desk.old desk.new) }
+    ensures footing { desk.new.footing ≡ desk.old.footing }
 {
-    let run = recorded(core, budget, item)?;
-    commit(core, item.job(), run)
+    let run = recorded(rt, alloc, desk, item)?;
+    commit(rt, desk, item.job(), run)
 }
 
 // A run of the policy in force for the packet that waits. Where it asks for a cell that isn't known
 // yet, the cell is read, and the policy is run again: each time one cell more is known.
-#[tactic(auto, using(crate::proofs::Told::fresh_run))]
-fn recorded(core: &mut Core, budget: u32, item: &JobItem) -> Result<Run, NoMemory>
-    requires alone { WaitsAlone item.now core.old }
-    requires budget { core.old.settings.budget ≡ budget }
-    ensures kept { core.new ≡ core.old }
-    ensures fresh { IfOk result (λ run. IsFresh item.now.job run core.new) }
-    ensures history { IfOk result (λ run. IsOfHistory run core.new) }
+#[tactic(auto, using(crate::proofs::Told::fresh_run, crate::proofs::Turns::fails_now))]
+fn recorded<'h, R: Wait>(
+    rt: &R,
+    alloc: Global,
+    desk: &mut Desk<'h>,
+    item: &JobItem,
+) -> Result<Run, DeskStop>
+    requires waits { WaitsAlone item.now desk.old.now }
+    requires alone { desk.old.footing.parts ≡ 1024 }
+    ensures reads { OnOk result (Reads desk.old desk.new) }
+    ensures fails { OnErr result (Fails desk.old desk.new) }
+    ensures footing { desk.new.footing ≡ desk.old.footing }
+    ensures fresh { IfOk result (λ run. IsFresh item.now.job run desk.new.now) }
+    ensures history { IfOk result (λ run. IsOfHistory run desk.new.now) }
 {
-    core.law();
+    desk.law();
     machine_laws();
-    let (number, policy) = lent(core)?;
-    let mut known = KnownCells::new(core.alloc());
+    let budget = desk.budget();
+    let (number, policy) = lent(rt, desk)?;
+    let mut known = KnownCells::new(alloc);
     loop {
-        match run_over(core, &policy, number, budget, item, &known) {
+        match run_over(alloc, desk, &policy, number, budget, item, &known) {
             Ok(run) => return Ok(run),
             Err(Unrecorded::Unknown(cell)) => {
-                let value = read(core, &cell);
-                known.push(&cell, value)?;
+                let value = read(rt, desk, &cell)?;
+                let Ok(()) = known.push(&cell, value) else {
+                    return Err(DeskStop::NoMemory);
+                };
             }
-            Err(Unrecorded::NoMemory) => return Err(NoMemory),
+            Err(Unrecorded::NoMemory) => return Err(DeskStop::NoMemory),
         }
     }
 }
 
 // A run that was recorded just now for the packet that waits is told.
-fn commit(core: &mut Core, job: u64, run: Run) -> Result<(), NoMemory>
-    requires fresh { IsFresh job run core.old }
-    requires history { IsOfHistory run core.old }
-    ensures works { OnOk result (Works core.old core.new) }
-    ensures fails { OnErr result (Fails core.old core.new) }
+#[tactic(auto, using(crate::proofs::Told::works_by))]
+fn commit<'h, R: Wait>(rt: &R, desk: &mut Desk<'h>, job: u64, run: Run) -> Result<(), DeskStop>
+    requires alone { desk.old.footing.parts ≡ 1024 }
+    requires fresh { IsFresh job run desk.old.now }
+    requires history { IsOfHistory run desk.old.now }
+    ensures works { OnOk result (Works desk.old desk.new) }
+    ensures fails { OnErr result (Fails desk.old desk.new) }
+    ensures footing { desk.new.footing ≡ desk.old.footing }
 {
     reply_laws();
-    match core.step(Entry::Commit { job, run }) {
-        Reply::NoMemory => Err(NoMemory),
-        _ => Ok(()),
-    }
+    enter(rt, desk, Entry::Commit { job, run })?;
+    Ok(())
 }
 
 // The policy in force, with its number.
-fn lent(core: &mut Core) -> Result<(u64, Arc<Policy>), NoMemory>
-    ensures kept { core.new ≡ core.old }
-    ensures number { IfOk result (λ lent. lent.0 ≡ policy_number core.new) }
-    ensures policy { IfOk result (λ lent. lent.1.value ≡ core.new.policy) }
+#[tactic(auto, using(crate::proofs::Turns::policy_read))]
+fn lent<'h, R: Wait>(rt: &R, desk: &mut Desk<'h>) -> Result<(u64, Arc<Policy>), DeskStop>
+    requires alone { desk.old.footing.parts ≡ 1024 }
+    ensures reads { OnOk result (Reads desk.old desk.new) }
+    ensures fails { OnErr result (Fails desk.old desk.new) }
+    ensures footing { desk.new.footing ≡ desk.old.footing }
+    ensures number { IfOk result (λ lent. lent.0 ≡ policy_number desk.new.now) }
+    ensures policy { IfOk result (λ lent. lent.1.value ≡ desk.new.now.policy) }
 {
-    match core.step(Entry::ReadPolicy) {
+    match enter(rt, desk, Entry::ReadPolicy)? {
         Reply::Policy(number, policy) => Ok((number, policy)),
-        Reply::NoMemory => Err(NoMemory),
         _ => unreachable!(),
     }
 }
 
 // What a cell has.
-fn read(core: &mut Core, cell: &Cell) -> Value
-    ensures kept { core.new ≡ core.old }
-    ensures value { result ≡ cell_in core.old.scene cell.now }
-    ensures kind { IsTrue (of_kind cell.now result) }
+#[tactic(auto, using(crate::proofs::Turns::cell_read))]
+fn read<'h, R: Wait>(rt: &R, desk: &mut Desk<'h>, cell: &Cell) -> Result<Value, DeskStop>
+    requires alone { desk.old.footing.parts ≡ 1024 }
+    ensures reads { OnOk result (Reads desk.old desk.new) }
+    ensures fails { OnErr result (Fails desk.old desk.new) }
+    ensures footing { desk.new.footing ≡ desk.old.footing }
+    ensures value { IfOk result (λ value. value ≡ cell_in desk.old.now.scene cell.now) }
+    ensures kind { IfOk result (λ value. IsTrue (of_kind cell.now value)) }
 {
-    core.law();
+    desk.law();
     running_laws();
-    match core.step(Entry::ReadCell(*cell)) {
-        Reply::Value(value) => value,
+    match enter(rt, desk, Entry::ReadCell(*cell))? {
+        Reply::Value(value) => Ok(value),
         _ => unreachable!(),
     }
+}
+
+// The machine does what an entry asks, where memory suffices.
+#[tactic(auto, using(crate::proofs::Turns::made, crate::proofs::Turns::stops))]
+fn enter<'h, R: Wait>(rt: &R, desk: &mut Desk<'h>, entry: Entry) -> Result<Reply, DeskStop>
+    requires alone { desk.old.footing.parts ≡ 1024 }
+    requires admits { Admits desk.old.now entry }
+    requires answer { IsOfAnswer entry }
+    ensures made { IfOk result (λ reply. Made entry reply desk.old desk.new) }
+    ensures fails { OnErr result (Fails desk.old desk.new) }
+    ensures footing { desk.new.footing ≡ desk.old.footing }
+{
+    desk.ask(rt, entry)
 }
 
 // Why a run wasn't recorded.
@@ -118,8 +158,9 @@ enum Unrecorded {
 
 // A run of the policy for a packet, where it asks for no cell but those that are known. A run over these alone, with
 // blanks in all others, asks first for the same cells as one that is told all: so the first that isn't known is read next.
-fn run_over(
-    core: &Core,
+fn run_over<'h>(
+    alloc: Global,
+    desk: &Desk<'h>,
     policy: &Policy,
     number: u64,
     budget: u32,
@@ -127,14 +168,14 @@ fn run_over(
     known: &KnownCells,
 ) -> Result<Run, Unrecorded>
     requires budget { IsBudget budget }
-    requires current { are_current (cell_in core.now.scene) known.now ≡ true }
+    requires current { are_current (cell_in desk.now.now.scene) known.now ≡ true }
     ensures law { IfOk result IsRun }
     ensures call { IfOk result (IsOfCall policy.now number budget item.now.switch item.now.key) }
-    ensures cells { IfOk result (λ run. stale_in (cell_in core.now.scene) run.cells ≡ None) }
+    ensures cells { IfOk result (λ run. stale_in (cell_in desk.now.now.scene) run.cells ≡ None) }
     ensures unknown { (cell : CellData) → result ≡ Err (Unknown cell) → given cell known.now ≡ None }
-    ensures asked { (cell : CellData) → result ≡ Err (Unknown cell) → IsAsked cell policy.now budget item.now (cell_in core.now.scene) }
+    ensures asked { (cell : CellData) → result ≡ Err (Unknown cell) → IsAsked cell policy.now budget item.now (cell_in desk.now.now.scene) }
 {
-    let Ok(run) = run_with(core.alloc(), policy, number, budget, item, known) else {
+    let Ok(run) = run_with(alloc, policy, number, budget, item, known) else {
         return Err(Unrecorded::NoMemory);
     };
     match first_unknown(known, run.cells().items()) {

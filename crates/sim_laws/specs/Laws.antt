@@ -22,6 +22,10 @@ HistoryLaw =
     (policy : Policy) (settings : Settings) (devices : List Meaning) (es : List Event) (b : Bench) → Runs (opening_bench policy settings devices) es b
     → Leads (opening policy settings) (turns_of es) b.machine
 
+-- a bench has the machine's turns behind those that it had
+abbrev pub PastLaw : Type 0
+PastLaw = (a : Bench) (es : List Event) (b : Bench) → Runs a es b → b.past ≡ a.past ++ turns_of es
+
 -- its report is what was taken, and the lines that weren't taken yet
 abbrev pub ReportLaw : Type 0
 ReportLaw =

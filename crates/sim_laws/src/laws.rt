@@ -1,5 +1,5 @@
 // What holds of all deeds.
-ghost use Rattle.sim_laws.specs.Laws.{AgreeLaw, HistoryLaw, ReportLaw, WorldLaw};
+ghost use Rattle.sim_laws.specs.Laws.{AgreeLaw, HistoryLaw, PastLaw, ReportLaw, WorldLaw};
 
 use machine_moves::{growth_laws, sends_law, session_laws};
 use machine_steps::machine_laws;
@@ -18,6 +18,11 @@ pub fn agreeing_laws()
     machine_laws();
     session_laws();
 }
+
+/// A bench has the machine's turns of the deeds behind those that it had.
+pub fn past_law()
+    ensures { PastLaw }
+{}
 
 /// Where each device keeps the specification of a switch, the deeds are a run of the world, which is
 /// right.

@@ -3,4 +3,4 @@
 
 pub mod laws;
 
-pub use laws::{agreeing_laws, world_law};
+pub use laws::{agreeing_laws, past_law, world_law};

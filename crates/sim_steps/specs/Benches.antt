@@ -6,6 +6,7 @@ use Rattle.policy_lang.specs.declared.Policy.{Policy}
 use Rattle.of10_codec.specs.declared.message.Message.{Message}
 use Rattle.of10_stream.specs.Steps.{Stream, beginning}
 use Rattle.device_port.specs.Devices.{Meaning}
+use Rattle.machine_steps.specs.Histories.{Turn}
 use Rattle.machine_steps.specs.Machine.{State, opening, session_at}
 
 pub record Slot : Type 0 where
@@ -17,6 +18,8 @@ pub record Slot : Type 0 where
   pub from : Stream
 
 pub record Bench : Type 0 where
+  -- the machine's turns so far, and the machine behind them
+  pub past : List Turn
   pub machine : State
   -- of each place, in their order from place 1 on
   pub slots : List Slot
@@ -27,7 +30,7 @@ slot_of d = record { device = d; to = []; from = beginning }
 
 -- the machine ahead of its first entry, and these devices
 abbrev pub opening_bench : Policy → Settings → List Meaning → Bench
-opening_bench policy settings devices = record { machine = opening policy settings; slots = map slot_of devices }
+opening_bench policy settings devices = record { past = []; machine = opening policy settings; slots = map slot_of devices }
 
 -- ---- places
 

@@ -28,6 +28,10 @@ use Rattle.machine_steps.specs.Steps.{Steps}
 use Rattle.world_steps.specs.Worlds.{lacks_memory, messages_for}
 use Rattle.sim_steps.specs.Benches.{Slot, Bench, MovesAt, is_place, is_plugged, slot_at}
 
+-- an entry with the reply to it, and the machine ahead of it and behind it
+abbrev pub turn_by : State → Entry → Reply → State → Turn
+turn_by before entry reply behind = record { before = before; entry = entry; reply = reply; behind = behind }
+
 pub data Deed : Type 0 where
   -- the machine is given an entry, and replies so
   Enters : Entry → Reply → Deed
@@ -86,6 +90,7 @@ pub record CallsAt (c : ℕ) (call : Call) (reply : Reply) (a b : Bench) : Type 
   pub plugged : is_plugged c a.machine ≡ true
   pub slots : MovesAt c (CallsSlot call) a.slots b.slots
   pub noted : Steps a.machine (entries.Note (note_of c call)) reply b.machine
+  pub past : b.past ≡ a.past ++ turn_by a.machine (entries.Note (note_of c call)) reply b.machine ∷ []
 
 -- ---- the entries
 
@@ -146,6 +151,7 @@ pub record EntersAt (entry : Entry) (reply : Reply) (a b : Bench) : Type 0 where
   pub steps : Steps a.machine entry reply b.machine
   pub smooth : IsSmooth reply
   pub slots : SlotsBehind a.machine entry reply a.slots b.slots
+  pub past : b.past ≡ a.past ++ turn_by a.machine entry reply b.machine ∷ []
 
 -- ---- deeds one after the other
 
@@ -177,7 +183,7 @@ reply_in (Enters entry reply) = reply
 reply_in (Calls c call reply) = reply
 
 abbrev pub turn_of : Event → Turn
-turn_of e = record { before = e.before.machine; entry = entry_in e.deed; reply = reply_in e.deed; behind = e.behind.machine }
+turn_of e = turn_by e.before.machine (entry_in e.deed) (reply_in e.deed) e.behind.machine
 
 abbrev pub turns_of : List Event → List Turn
 turns_of es = flat_map (λ (e : Event). turn_of e ∷ []) es

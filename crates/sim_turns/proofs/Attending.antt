@@ -30,7 +30,7 @@ module _ (here : ℕ) (old mid : Driver) (ds : List Meaning) (fits : Fits old ds
   everywhere : (P : Channel → Type 0) → ((n : ℕ) → (n ≡ here → ⊥) → WhilePlugged P n old) → WhilePlugged P here mid → (n : ℕ) → WhilePlugged P n mid
   everywhere P was now n = ⊎_elim (λ e. subst (λ m. WhilePlugged P m mid) (sym e) now) (λ o. λ k there plugged. was n o k (sym (keeps.others n o) ∙ there) plugged) (cases_eq n here)
 
-  module _ (rest : IsAtRestBut here old) (jobs : mid.core.jobs ≡ []) (heard : IsHeard here mid) (offered : IsOffered here mid) where
+  module _ (rest : IsAtRestBut here old) (jobs : mid.desk.now.jobs ≡ []) (heard : IsHeard here mid) (offered : IsOffered here mid) where
     pub heard_through : IsHeardThrough mid
     heard_through = record {
       jobs = jobs;
@@ -40,7 +40,7 @@ module _ (here : ℕ) (old mid : Driver) (ds : List Meaning) (fits : Fits old ds
 
     -- where all other places stay as they are, what was taken out at one is enough
     module _ (laws : DrivingLaws) (stays : StaysBut here old mid) (new : Driver) (es : List Meaning) (fits_now : Fits new es) (taken : IsTaken here new) (offered_now : IsOffered here new)
-        (heard_now : IsHeard here mid → IsHeard here new) (others : StaysBut here mid new) (jobs_now : mid.core.jobs ≡ [] → new.core.jobs ≡ []) where
+        (heard_now : IsHeard here mid → IsHeard here new) (others : StaysBut here mid new) (jobs_now : mid.desk.now.jobs ≡ [] → new.desk.now.jobs ≡ []) where
       both : StaysBut here old new
       both = record { sessions = λ c o. others.sessions c o ∙ stays.sessions c o; channels = λ n o. others.channels n o ∙ stays.channels n o }
 

@@ -7,15 +7,14 @@ use Rattle.of10_codec.specs.declared.fault.Bad.{Bad}
 use Rattle.of10_stream.specs.Steps.{Stream, appended, fed}
 use Rattle.device_port.specs.Devices.{Meaning, Turns}
 use Rattle.device_port.specs.Devices.Call.{Turning}
+use Rattle.machine_desk.specs.Desks.{DeskView}
 use Rattle.machine_steps.specs.declared.entry.Entry.TheVariants as entries
 use Rattle.machine_steps.specs.declared.note.Note.TheVariants as notes
 use Rattle.machine_steps.specs.declared.reply.Reply.{Reply}
-use Rattle.machine_steps.specs.Machine.{State}
-use Rattle.machine_steps.specs.Steps.{Steps}
 use Rattle.sim_steps.specs.Benches.{Bench, Slot}
 use Rattle.sim_steps.specs.Deeds.{CallsAt, CallsSlot, TakesTurn, appends, has_failed}
 use Rattle.sim_steps.specs.Parts.{has_dealt}
-use Rattle.sim_channels.specs.Channels.{Fits, bench, is_plugged_in, slot_by, slots_of}
+use Rattle.sim_channels.specs.Channels.{EntersAlone, Fits, bench, is_plugged_in, slot_by, slots_of}
 use Rattle.sim_channels.specs.declared.channel.Channel.{Channel}
 use Rattle.sim_channels.specs.declared.driver.Driver.{Driver}
 use Rattle.sim_channels.proofs.Slots.{slots_move}
@@ -80,16 +79,17 @@ fed_nothing s = go s.broken
 
 module _ (at : ℕ) (turned : Turned) (bytes : List ℕ) (old : Driver) (before behind : List Meaning) (fits : Fits old before) (turns : TurnsAt at turned bytes before behind)
     (waits : Waits at old) (taken : IsTaken turned) where
-  -- the bench behind the call, with this machine and this channel
-  abbrev pub turned_bench : State → Channel → Bench
-  turned_bench m l = record { machine = m; slots = slots_of (set old.channels.items at l) (set before at turns.behind) }
+  -- the bench behind the call, with this desk and this channel
+  abbrev pub turned_bench : DeskView → Channel → Bench
+  turned_bench desk l = record { past = desk.past; machine = desk.now; slots = slots_of (set old.channels.items at l) (set before at turns.behind) }
 
-  pub calls_at : (m : State) (l : Channel) (reply : Reply) → l.to ≡ waits.channel.to → l.from.stream ≡ fed bytes waits.channel.from.stream
-      → Steps old.core (entries.Note (notes.Turned (at + 1) turned)) reply m → CallsAt (at + 1) (Turning turned bytes) reply (bench old before) (turned_bench m l)
-  calls_at m l reply to from steps = record {
+  pub calls_at : (desk : DeskView) (l : Channel) (reply : Reply) → l.to ≡ waits.channel.to → l.from.stream ≡ fed bytes waits.channel.from.stream
+      → EntersAlone (entries.Note (notes.Turned (at + 1) turned)) reply old.desk desk → CallsAt (at + 1) (Turning turned bytes) reply (bench old before) (turned_bench desk l)
+  calls_at desk l reply to from enters = record {
     plugged = (fits.kept.stages at waits.channel waits.there).plugged ∙ ap is_plugged_in waits.plugged;
     slots = slots_move old.channels.items before at waits.channel l turns.before turns.behind (CallsSlot (Turning turned bytes)) waits.there turns.there
         (takes_turn turned bytes (slot_by waits.channel turns.before) (slot_by l turns.behind) turns.behind taken turns.turns
         (λ i. record { device = turns.behind; to = to i; from = from i }));
-    noted = steps;
+    noted = enters.steps;
+    past = enters.past;
   }

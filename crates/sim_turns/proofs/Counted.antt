@@ -113,5 +113,5 @@ carried_count laws old new before behind h k long carried =
     count_le old.channels.items new.channels.items (k.places ∙ sym long ∙ sym h.places)
     (λ n x y e f open_now.
     sym (h.kept.stages n x e).plugged
-    ∙ plugged_along laws (n + 1) (bench old before) carried.events (bench new behind) (reached_sound laws old.core h.kept.reached) carried.runs carried.asked_is
+    ∙ plugged_along laws (n + 1) (bench old before) carried.events (bench new behind) (reached_sound laws old.desk.now h.kept.reached) carried.runs carried.asked_is
     ((k.kept.stages n y f).plugged ∙ open_now))

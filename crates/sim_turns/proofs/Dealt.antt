@@ -9,14 +9,14 @@ use Rattle.maple_base.specs.declared.device.Turned.{Turned}
 use Rattle.maple_base.specs.declared.device.Turned.TheVariants.{Failed as FailedTurn}
 use Rattle.device_port.specs.Devices.{Meaning}
 use Rattle.device_port.specs.Devices.Call.{Turning}
+use Rattle.machine_desk.specs.Desks.{DeskView}
 use Rattle.machine_steps.specs.declared.entry.Entry.{Entry}
 use Rattle.machine_steps.specs.declared.entry.Entry.TheVariants as entries
 use Rattle.machine_steps.specs.declared.note.Note.TheVariants as notes
-use Rattle.machine_steps.specs.Steps.{Steps}
 use Rattle.sim_steps.specs.Benches.{Bench}
 use Rattle.sim_steps.specs.Stretches.{Stretch}
 use Rattle.sim_steps.proofs.Moments.{called, stretch_call}
-use Rattle.sim_channels.specs.Channels.{Fits, IsKept, bench, is_plugged_in, slots_of}
+use Rattle.sim_channels.specs.Channels.{EntersAlone, Fits, IsKept, bench, is_plugged_in, slots_of}
 use Rattle.sim_channels.specs.Driving.{DrivingLaws}
 use Rattle.sim_channels.specs.Waiting.{IsAtRest, IsAtRestBut, IsOffered, StaysBut}
 use Rattle.sim_channels.specs.declared.channel.Channel.{Channel}
@@ -46,7 +46,7 @@ module _ (at : ℕ) (turned : Turned) (bytes : List ℕ) (before behind : List M
 -- ---- the turn
 
 module _ (laws : DrivingLaws) (at : ℕ) (turned : Turned) (bytes : List ℕ) (old mid new : Driver) (kept : IsKept old) (rest : IsAtRest old) (waits : Waits at old)
-    (taken : IsTaken turned) (other : turned ≡ FailedTurn → ⊥) (note : NotesTurn at turned old mid) (core : new.core ≡ mid.core) (moves : ChannelMoves at (Appends bytes) mid new) where
+    (taken : IsTaken turned) (other : turned ≡ FailedTurn → ⊥) (note : NotesTurn at turned old mid) (footing : mid.desk.footing ≡ old.desk.footing) (desk : new.desk ≡ mid.desk) (moves : ChannelMoves at (Appends bytes) mid new) where
   abbrev Telling : Entry
   Telling = entries.Note (notes.Turned (at + 1) turned)
 
@@ -63,18 +63,18 @@ module _ (laws : DrivingLaws) (at : ℕ) (turned : Turned) (bytes : List ℕ) (o
   changes = subst (λ x. Appends bytes x L) was moves.moves
 
   at_channel : ChannelAt at K L old new
-  at_channel = channel_at at old mid K waits.there note.same L new moves.set_is moves.learning moves.budget
+  at_channel = channel_at at old mid K waits.there note.same L new moves.set_is (ap (λ (d : DeskView). d.footing) desk ∙ footing)
 
-  noted : Steps old.core (entries.Note (notes.Turned (at + 1) turned)) note.reply new.core
-  noted = subst (λ m. Steps old.core (entries.Note (notes.Turned (at + 1) turned)) note.reply m) (sym core) note.steps
+  noted : EntersAlone (entries.Note (notes.Turned (at + 1) turned)) note.reply old.desk new.desk
+  noted = subst (EntersAlone (entries.Note (notes.Turned (at + 1) turned)) note.reply old.desk) (sym desk) note.enters
 
   kept_behind : IsKept new
-  kept_behind = kept_channel laws old new (entries.Note (notes.Turned (at + 1) turned)) note.reply kept tt noted refl refl (λ c. refl) at K L at_channel changes.stage
+  kept_behind = kept_channel laws old new (entries.Note (notes.Turned (at + 1) turned)) note.reply kept tt noted.steps refl refl (λ c. refl) at K L at_channel changes.stage
       (not_fresh L (changes.stage ∙ waits.plugged))
 
   others_stay : StaysBut at old new
   others_stay = record {
-    sessions = λ c o. session_same laws old.core (entries.Note (notes.Turned (at + 1) turned)) note.reply new.core kept.reached noted refl c refl;
+    sessions = λ c o. session_same laws old.desk.now (entries.Note (notes.Turned (at + 1) turned)) note.reply new.desk.now kept.reached noted.steps refl c refl;
     channels = λ n o. is_beside at K L old new at_channel n o;
   }
 
@@ -85,7 +85,7 @@ module _ (laws : DrivingLaws) (at : ℕ) (turned : Turned) (bytes : List ℕ) (o
 
   pub dealt_rest : IsAtRestBut at new
   dealt_rest =
-      rests_but laws at old new kept kept_behind rest others_stay (laws.none old.core (entries.Note (notes.Turned (at + 1) turned)) note.reply new.core rest.jobs refl noted) offered
+      rests_but laws at old new kept kept_behind rest others_stay (laws.none old.desk.now (entries.Note (notes.Turned (at + 1) turned)) note.reply new.desk.now rest.jobs refl noted.steps) offered
 
   none_opens : NoneOpens old.channels.items new.channels.items
   none_opens n x y e f open_now =
@@ -119,14 +119,14 @@ module _ (laws : DrivingLaws) (at : ℕ) (turned : Turned) (bytes : List ℕ) (o
       waiting = waiting_but old new before behind at fits (is_beside at K L old new at_channel) (devices_beside at turned bytes before behind turns) here;
     }
 
-    bench_is : turned_bench at turned bytes old before behind fits turns waits taken new.core L ≡ bench new behind
-    bench_is = λ i. record { machine = new.core; slots = slots_of (sym at_channel.channels i) (sym turns.set_is i) }
+    bench_is : turned_bench at turned bytes old before behind fits turns waits taken new.desk L ≡ bench new behind
+    bench_is = λ i. record { past = new.desk.past; machine = new.desk.now; slots = slots_of (sym at_channel.channels i) (sym turns.set_is i) }
 
     one : TakesOne (at + 1) turned (bench old before) (bench new behind)
     one =
-        let b = turned_bench at turned bytes old before behind fits turns waits taken new.core L in
+        let b = turned_bench at turned bytes old before behind fits turns waits taken new.desk L in
         let event = called (at + 1) (Turning turned bytes) note.reply (bench old before) b in
-        let calls = calls_at at turned bytes old before behind fits turns waits taken new.core L note.reply changes.to changes.from noted in
+        let calls = calls_at at turned bytes old before behind fits turns waits taken new.desk L note.reply changes.to changes.from noted in
         let whole = (is_dealt turned bytes turns.before turns.behind taken other turns.turns).whole in
         record {
           event = event;

@@ -15,7 +15,7 @@ use Rattle.sim_steps.specs.Benches.{Slot}
 use Rattle.sim_steps.specs.Deeds.{EntersAt, IsSmooth, MayEnter, SlotsBehind}
 use Rattle.sim_steps.specs.Parts.{asks}
 use Rattle.sim_steps.proofs.Moments.{entered, stretch_entry}
-use Rattle.sim_channels.specs.Channels.{bench, slots_of}
+use Rattle.sim_channels.specs.Channels.{EntersAlone, bench, slots_of}
 use Rattle.sim_channels.specs.Waiting.{IsAtRest}
 use Rattle.sim_channels.specs.declared.driver.Driver.{Driver}
 use Rattle.sim_turns.specs.Turning.{AskedOver}
@@ -65,15 +65,16 @@ asked_slots m (entries.Heard c input) reply old new asked e = absurd (cc)
 asked_slots m (entries.TakeOut c) reply old new asked e = absurd (cc)
 asked_slots m entry reply old new asked e = e
 
-module _ (entry : Entry) (reply : Reply) (old new : Driver) (rest : IsAtRest old) (asked : asks entry ≡ true) (admitted : Admits old.core entry)
-    (steps : Steps old.core entry reply new.core) (same : new ≡ record old { core = new.core }) where
+module _ (entry : Entry) (reply : Reply) (old new : Driver) (rest : IsAtRest old) (asked : asks entry ≡ true) (admitted : Admits old.desk.now entry)
+    (enters : EntersAlone entry reply old.desk new.desk) (same : new ≡ record old { desk = new.desk }) where
   enters_at : (devices : List Meaning) → MayEnter entry (bench old devices) → EntersAt entry reply (bench old devices) (bench new devices)
   enters_at devices may = record {
     may = may;
     admitted = admitted;
-    steps = steps;
-    smooth = asked_smooth old.core reply new.core entry asked steps;
-    slots = asked_slots old.core entry reply _ _ asked (ap (λ (x : Driver). slots_of x.channels.items devices) same);
+    steps = enters.steps;
+    smooth = asked_smooth old.desk.now reply new.desk.now entry asked enters.steps;
+    slots = asked_slots old.desk.now entry reply _ _ asked (ap (λ (x : Driver). slots_of x.channels.items devices) same);
+    past = enters.past;
   }
 
   pub asked_over : lacks_memory reply ≡ false → AskedOver entry reply old new

@@ -33,7 +33,7 @@ use Rattle.sim_turns.proofs.Pending.{there_is}
 use Rattle.sim_turns.proofs.Rested.{rests_but}
 
 module _ (laws : DrivingLaws) (at : ℕ) (turned : Turned) (bytes : List ℕ) (old mid new : Driver) (kept : IsKept old) (rest : IsAtRest old) (waits : Waits at old)
-    (taken : IsTaken turned) (failed : turned ≡ FailedTurn) (note : NotesTurn at turned old mid) (leaves : Leaves at mid new) where
+    (taken : IsTaken turned) (failed : turned ≡ FailedTurn) (note : NotesTurn at turned old mid) (footing : mid.desk.footing ≡ old.desk.footing) (leaves : Leaves at mid new) where
   abbrev K : Channel
   K = waits.channel
 
@@ -43,10 +43,10 @@ module _ (laws : DrivingLaws) (at : ℕ) (turned : Turned) (bytes : List ℕ) (o
   -- ---- behind the note
 
   pub kept_told : IsKept mid
-  kept_told = noted_kept (notes.Turned (at + 1) turned) note.reply old mid note.same note.memory note.steps kept
+  kept_told = noted_kept (notes.Turned (at + 1) turned) note.reply old mid note.same note.memory footing note.enters.steps kept
 
   rest_told : IsAtRest mid
-  rest_told = noted_rest (notes.Turned (at + 1) turned) note.reply old mid note.same note.memory note.steps rest
+  rest_told = noted_rest (notes.Turned (at + 1) turned) note.reply old mid note.same note.memory footing note.enters.steps rest
 
   there_told : slice_get mid.channels.items at ≡ Some K
   there_told = ap (λ ks. slice_get ks at) channels_same ∙ waits.there
@@ -77,7 +77,7 @@ module _ (laws : DrivingLaws) (at : ℕ) (turned : Turned) (bytes : List ℕ) (o
     fails = subst (λ t. Turns t bytes turns.before turns.behind) failed turns.turns
 
     fits_told : Fits mid before
-    fits_told = noted_fits (notes.Turned (at + 1) turned) note.reply old mid note.same note.memory note.steps before fits
+    fits_told = noted_fits (notes.Turned (at + 1) turned) note.reply old mid note.same note.memory footing note.enters.steps before fits
 
     here : (x : Channel) (d : Meaning) → slice_get new.channels.items at ≡ Some x → slice_get behind at ≡ Some d → x.waiting ≡ length d.pending
     here x d e f =
@@ -97,13 +97,13 @@ module _ (laws : DrivingLaws) (at : ℕ) (turned : Turned) (bytes : List ℕ) (o
     nothing_fed : K.from.stream ≡ fed bytes K.from.stream
     nothing_fed = sym (ap (λ bs. fed bs K.from.stream) fails.1 ∙ fed_nothing K.from.stream)
 
-    bench_is : turned_bench at turned bytes old before behind fits turns waits taken mid.core K ≡ bench mid behind
-    bench_is = λ i. record { machine = mid.core; slots = slots_of ((set_same old.channels.items at K waits.there ∙ sym channels_same) i) (sym turns.set_is i) }
+    bench_is : turned_bench at turned bytes old before behind fits turns waits taken mid.desk K ≡ bench mid behind
+    bench_is = λ i. record { past = mid.desk.past; machine = mid.desk.now; slots = slots_of ((set_same old.channels.items at K waits.there ∙ sym channels_same) i) (sym turns.set_is i) }
 
     calls : CallsAt (at + 1) (Turning turned bytes) note.reply (bench old before) (bench mid behind)
     calls =
         subst (λ (x : Bench). CallsAt (at + 1) (Turning turned bytes) note.reply (bench old before) x) bench_is
-        (calls_at at turned bytes old before behind fits turns waits taken mid.core K note.reply refl nothing_fed note.steps)
+        (calls_at at turned bytes old before behind fits turns waits taken mid.desk K note.reply refl nothing_fed note.enters)
 
     one : TakesOne (at + 1) turned (bench old before) (bench new behind)
     one = record {

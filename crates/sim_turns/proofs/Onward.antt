@@ -3,9 +3,9 @@ use Rattle.std.proofs.Common.{◌≡◌, ℕ, Bool, false, [], get_or, refl, sym
 use Rattle.std.specs.Prelude.{Some, Result, Ok}
 use Rattle.std.specs.List.{slice_get}
 use Rattle.std.proofs.lemmas.Option.{same_Some, slice_get_within, slice_get-get_or}
-use Rattle.maple_base.specs.declared.no_memory.NoMemory.{NoMemory as OutOfMemory}
 use Rattle.sim_channels.specs.declared.channel.Channel.{Channel}
 use Rattle.sim_channels.specs.declared.driver.Driver.{Driver}
+use Rattle.sim_channels.specs.declared.stopped.Stopped.{Stopped}
 use Rattle.sim_channels.specs.Channels.{IsKept}
 use Rattle.sim_channels.specs.Waiting.{IsOffered, StaysBut}
 use Rattle.sim_turns.specs.Hearing.{KeepsChannels}
@@ -13,7 +13,7 @@ use Rattle.sim_turns.specs.Passes.{HasHeard, Passed, is_state}
 use Rattle.sim_turns.specs.declared.hear.Came.{Came}
 use Rattle.sim_turns.proofs.Passing.{over_none, over_then}
 
-heard_none : (here : ℕ) (made : Bool) (driver : Driver) → IsKept driver → driver.core.jobs ≡ [] → IsOffered here driver → HasHeard here made driver driver
+heard_none : (here : ℕ) (made : Bool) (driver : Driver) → IsKept driver → driver.desk.now.jobs ≡ [] → IsOffered here driver → HasHeard here made driver driver
 heard_none here made driver kept none offered = record {
   kept = kept;
   carried = over_none driver driver (λ ds. refl);
@@ -56,16 +56,17 @@ heard_then here first second made a b d by h k = record {
 -- what the loop over them knows
 pub record HearsOn (here : ℕ) (reaches : Bool) (old now : Driver) : Type 0 where
   pub heard : HasHeard here reaches old now
-  pub learns : reaches ≡ false → old.learning ≡ false
+  pub footing : now.desk.footing ≡ old.desk.footing
+  pub learns : reaches ≡ false → old.desk.now.policy.learning ≡ false
 
 -- it tells where other places may have messages
-pub others_stay : (here : ℕ) (reaches : Bool) (old now : Driver) → HearsOn here reaches old now → ◌≡◌ {A = Result Bool OutOfMemory} (Ok reaches) (Ok false) → StaysBut here old now
+pub others_stay : (here : ℕ) (reaches : Bool) (old now : Driver) → HearsOn here reaches old now → ◌≡◌ {A = Result Bool Stopped} (Ok reaches) (Ok false) → StaysBut here old now
 others_stay here reaches old now h e = (let untold : reaches ≡ false = cc in h.heard.others untold (h.learns untold))
 
 pub hears_on : (here : ℕ) (reaches now : Bool) (old mid new : Driver) (came : Came) → (now ≡ false → (reaches ≡ false) × (is_state came ≡ false)) → HearsOn here reaches old mid
-    → Passed here mid new came → HearsOn here now old new
-hears_on here reaches now old mid new came by h p =
-    record { heard = heard_then here reaches (is_state came) now old mid new by h.heard p.0; learns = λ untold. h.learns (by untold).0 }
+    → Passed here mid new came → new.desk.footing ≡ mid.desk.footing → HearsOn here now old new
+hears_on here reaches now old mid new came by h p footing =
+    record { heard = heard_then here reaches (is_state came) now old mid new by h.heard p.0; footing = footing ∙ h.footing; learns = λ untold. h.learns (by untold).0 }
 
-pub hears_none : (here : ℕ) (driver : Driver) → IsKept driver → driver.core.jobs ≡ [] → IsOffered here driver → HearsOn here driver.learning driver driver
-hears_none here driver kept none offered = record { heard = heard_none here driver.learning driver kept none offered; learns = λ untold. untold }
+pub hears_none : (here : ℕ) (driver : Driver) → IsKept driver → driver.desk.now.jobs ≡ [] → IsOffered here driver → HearsOn here driver.desk.now.policy.learning driver driver
+hears_none here driver kept none offered = record { heard = heard_none here driver.desk.now.policy.learning driver kept none offered; footing = refl; learns = λ untold. untold }

@@ -1,14 +1,14 @@
 -- What is known behind one message.
-use Rattle.std.proofs.Common.{◌≡◌, ℕ, ◌+◌, ◌<◌, Bool, true, false, List, [], length, get_or, set, refl, sym, ap, ◌∙◌, subst, inl, inr, arith}
+use Rattle.std.proofs.Common.{◌≡◌, ℕ, ◌+◌, ◌<◌, Bool, true, false, List, [], ◌++◌, length, get_or, set, refl, sym, ap, ◌∙◌, subst, inl, inr, arith}
 use Rattle.std.specs.Prelude.{Option, Some, Result, Ok, Err, OnOk, IfOk, is_some}
 use Rattle.std.specs.List.{AllByRecursion, slice_get}
 use Rattle.std.proofs.lemmas.Bool.{and_right, eq-eqb, ne_eqb}
 use Rattle.std.proofs.lemmas.List.{set-set}
 use Rattle.std.proofs.lemmas.Option.{same_Some, slice_get_read}
-use Rattle.maple_base.specs.declared.decision.Settings.{Settings}
-use Rattle.maple_base.specs.declared.no_memory.NoMemory.{NoMemory as OutOfMemory}
+use Rattle.policy_lang.specs.declared.Policy.{Policy}
 use Rattle.of10_stream.specs.Steps.{Stream}
 use Rattle.device_port.specs.Devices.{Meaning}
+use Rattle.machine_desk.specs.Desks.{DeskView}
 use Rattle.machine_moves.specs.Told.{WaitsAs, is_end, is_new_state, may_end}
 use Rattle.machine_steps.specs.declared.entry.Entry.{Entry}
 use Rattle.machine_steps.specs.declared.entry.Entry.TheVariants as entries
@@ -32,17 +32,18 @@ use Rattle.sim_jobs.specs.Works.{AnswersWhole, IsOfAnswer, Works}
 use Rattle.sim_channels.specs.declared.channel.Channel.{Channel}
 use Rattle.sim_channels.specs.declared.channel.Plugging.TheVariants.{Left}
 use Rattle.sim_channels.specs.declared.driver.Driver.{Driver}
-use Rattle.sim_channels.specs.Channels.{CarriedOver, IsKept, bench, slot_by, slots_of}
+use Rattle.sim_channels.specs.declared.stopped.Stopped.{Stopped}
+use Rattle.sim_channels.specs.Channels.{CarriedOver, EntersAlone, IsKept, bench, slot_by, slots_of}
 use Rattle.sim_channels.specs.Driving.{DrivingLaws}
 use Rattle.sim_channels.specs.Waiting.{IsHeard, IsOffered}
 use Rattle.sim_channels.proofs.Emptied.{device_at}
-use Rattle.sim_channels.proofs.Keeping.{reached_sound, settings_same}
+use Rattle.sim_channels.proofs.Keeping.{policy_same, reached_sound}
 use Rattle.sim_channels.proofs.Kept.{ChannelAt, all_left, is_as_long, is_beside, is_there, kept_channel, kept_left, not_fresh, plugged_at, plugged_has}
 use Rattle.sim_channels.proofs.Resting.{hears_in_order}
 use Rattle.sim_channels.proofs.Slots.{slot_next, slots_alike, slots_channel, slots_get}
 use Rattle.sim_turns.specs.Passes.{ComesNext, Follows, GoesOn, HasHeard, IsDone, IsLeft, Passed, Takes, came_of, rest_at, rest_in}
 use Rattle.sim_turns.specs.declared.hear.Came.{Came}
-use Rattle.sim_turns.proofs.Answering.{AllBy, behind_along}
+use Rattle.sim_turns.proofs.Answering.{AllBy, behind_along, kept_at_desk}
 use Rattle.sim_turns.proofs.Bytes.{gets_shorter}
 use Rattle.sim_turns.proofs.Replies.{heard_smooth}
 
@@ -64,22 +65,28 @@ silent_whole : (t : Turn) → AnswersWhole t → IsSilentWhole t
 silent_whole t h = record { silent = record { entry = silent t.entry h.answers.kind; smooth = h.answers.smooth }; memory = h.memory }
 
 -- a packet is answered
-over_works : (old new : Driver) → Works old.core new.core → new ≡ record old { core = new.core } → CarriedOver old new
+over_works : (old new : Driver) → Works old.desk new.desk → new ≡ record old { desk = new.desk } → CarriedOver old new
 over_works old new works e = λ ds long.
-    subst (Carried (bench old ds)) (sym (ap (λ (x : Driver). bench x ds) e)) (carried_along AnswersWhole silent_whole (bench old ds) works.turns new.core works.leads works.whole)
+    subst (Carried (bench old ds)) (bench_is ds) (carried_along AnswersWhole silent_whole (bench old ds) works.turns new.desk.now works.makes.leads works.whole)
+  where
+    channels_same : new.channels.items ≡ old.channels.items
+    channels_same = ap (λ (x : Driver). x.channels.items) e
+
+    bench_is : (ds : List Meaning) → record (bench old ds) { past = old.desk.past ++ works.turns; machine = new.desk.now } ≡ bench new ds
+    bench_is ds = λ i. record { past = sym works.makes.past i; machine = new.desk.now; slots = slots_of (sym channels_same i) ds }
 
 -- ---- what is known of one channel
 
 pub written : (here : ℕ) (k l : Channel) (old new : Driver) → here < length old.channels.items → k ≡ get_or old.channels.items here k → new.channels.items ≡ set old.channels.items here l
-    → new.learning ≡ old.learning → new.budget ≡ old.budget → ChannelAt here k l old new
-written here k l old new within is channels learning budget =
-    record { there = slice_get_read old.channels.items (length old.channels.items) here k refl within is; channels = channels; learning = learning; budget = budget }
+    → new.desk.footing ≡ old.desk.footing → ChannelAt here k l old new
+written here k l old new within is channels footing = record { there = slice_get_read old.channels.items (length old.channels.items) here k refl within is; channels = channels; footing = footing }
 
 module _ (here : ℕ) (k l : Channel) (old new : Driver) (at : ChannelAt here k l old new) where
   -- the driver behind some messages, by what is known of it
-  passed : (made : Bool) → l.waiting ≡ k.waiting → IsKept new → CarriedOver old new → new.core.jobs ≡ [] → IsOffered here new
-      → (made ≡ false → old.learning ≡ false → (c : ℕ) → (c ≡ here + 1 → ⊥) → session_at c new.core ≡ session_at c old.core) → HasHeard here made old new
-  passed made waiting kept carried jobs offered sessions = record {
+  passed : (made : Bool) → l.waiting ≡ k.waiting → IsKept new → CarriedOver old new → new.desk.now.jobs ≡ [] → IsOffered here new
+      → (made ≡ false → old.desk.now.policy.learning ≡ false → (c : ℕ) → (c ≡ here + 1 → ⊥) → session_at c new.desk.now ≡ session_at c old.desk.now)
+      → new.desk.now.policy.learning ≡ old.desk.now.policy.learning → HasHeard here made old new
+  passed made waiting kept carried jobs offered sessions learning = record {
     kept = kept;
     carried = carried;
     jobs = jobs;
@@ -91,7 +98,7 @@ module _ (here : ℕ) (k l : Channel) (old new : Driver) (at : ChannelAt here k 
           ap (λ (z : Channel). z.waiting) (same_Some y l (sym there ∙ is_there here k l old new at)) ∙ waiting ∙ ap (λ (z : Channel). z.waiting) (same_Some k x (sym at.there ∙ was));
     };
     others = λ untold no_hosts. record { sessions = sessions untold no_hosts; channels = is_beside here k l old new at };
-    learning = at.learning;
+    learning = learning;
   }
 
   offers : GoesOn k l → k.to ≡ [] → IsOffered here new
@@ -105,23 +112,26 @@ module _ (here : ℕ) (k l : Channel) (old new : Driver) (at : ChannelAt here k 
 
 -- ---- nothing came
 
-module _ (laws : DrivingLaws) (here : ℕ) (k l : Channel) (old new : Driver) (at : ChannelAt here k l old new) (done : IsDone k l) (core : new.core ≡ old.core) where
+module _ (laws : DrivingLaws) (here : ℕ) (k l : Channel) (old new : Driver) (at : ChannelAt here k l old new) (done : IsDone k l) (desk : new.desk ≡ old.desk) where
+  core : new.desk.now ≡ old.desk.now
+  core = ap (λ (d : DeskView). d.now) desk
+
   bench_same : (ds : List Meaning) → bench new ds ≡ bench old ds
   bench_same ds =
       let slots = ap (λ ks. slots_of ks ds) at.channels ∙ slots_alike old.channels.items ds here k l at.there done.goes.to done.same in
-      λ i. record { machine = core i; slots = slots i }
+      λ i. record { past = (desk i).past; machine = (desk i).now; slots = slots i }
 
   -- as behind a question that changes nothing
   kept_same : IsKept old → IsKept new
-  kept_same kept = kept_channel laws old new entries.OpenJobs (Count (length old.core.jobs)) kept tt (refl, core) refl refl (λ c. refl) here k l at done.goes.stage
+  kept_same kept = kept_channel laws old new entries.OpenJobs (Count (length old.desk.now.jobs)) kept tt (refl, core) refl refl (λ c. refl) here k l at done.goes.stage
       (λ unplugged. (let f = kept.fresh here k at.there (sym done.goes.stage ∙ unplugged) in record { to = done.goes.to ∙ f.to; from = done.same ∙ f.from }))
 
-  pub heard_nothing : IsKept old → old.core.jobs ≡ [] → IsOffered here old → HasHeard here false old new
+  pub heard_nothing : IsKept old → old.desk.now.jobs ≡ [] → IsOffered here old → HasHeard here false old new
   heard_nothing kept none offered =
       passed here k l old new at false done.goes.waiting (kept_same kept) (over_none old new bench_same) (ap (λ (m : State). m.jobs) core ∙ none)
       (λ x there plugged. (let is = same_Some l x (sym (is_there here k l old new at) ∙ there) in
       sym (ap (λ (y : Channel). y.to) is) ∙ done.goes.to ∙ offered k at.there (sym done.goes.stage ∙ ap (λ (y : Channel). y.stage) is ∙ plugged)))
-      (λ untold no_hosts c other. ap (session_at c) core)
+      (λ untold no_hosts c other. ap (session_at c) core) (ap (λ (m : State). m.policy.learning) core)
 
   pub all_heard : IsHeard here new
   all_heard = λ x there plugged.
@@ -137,34 +147,32 @@ shorter c (Whole x) s t m reply n next h plugged goes_on = gets_shorter x s t ne
 shorter c (Bad place bad) s t m reply n next (inl (none, passes)) plugged goes_on = (let f : true ≡ false = sym plugged ∙ ap is_some none in absurd (cc))
 shorter c (Bad place bad) s t m reply n next (inr (session, found, r, e)) plugged goes_on = (let f : false ≡ true = sym goes_on ∙ ap is_end r in absurd (cc))
 
-pub budget_kept : DrivingLaws → (c : ℕ) (input : Input) (old mid : Driver) (reply : Reply) → IsKept old → Steps old.core (entries.Heard c input) reply mid.core → mid.budget ≡ old.budget
-    → mid.core.settings.budget ≡ mid.budget
-budget_kept laws c input old mid reply kept steps budget =
-    ap (λ (s : Settings). s.budget) (settings_same laws old.core (entries.Heard c input) reply mid.core kept.reached steps) ∙ sym kept.budget ∙ sym budget
-
 -- what is known behind its reply
 pub record Hears (here : ℕ) (old mid : Driver) (reply : Reply) : Type 0 where
   pub laws : DrivingLaws
   pub kept : IsKept old
-  pub none : old.core.jobs ≡ []
+  pub none : old.desk.now.jobs ≡ []
   pub offered : IsOffered here old
   pub input : Input
   pub k : Channel
   pub l : Channel
   pub next : ComesNext input k l
   pub at : ChannelAt here k l old mid
-  pub steps : Steps old.core (entries.Heard (here + 1) input) reply mid.core
+  pub entered : EntersAlone (entries.Heard (here + 1) input) reply old.desk mid.desk
 
 module _ (here : ℕ) (old mid : Driver) (reply : Reply) (h : Hears here old mid reply) where
-  open h use {laws, kept, none, offered, input, k, l, next, at, steps}
+  open h use {laws, kept, none, offered, input, k, l, next, at, entered}
 
   abbrev Hearing : Entry
   Hearing = entries.Heard (here + 1) input
 
-  waits : WaitsAs (here + 1) reply mid.core.jobs
-  waits = laws.jobs old.core (here + 1) input reply mid.core none steps
+  steps : Steps old.desk.now Hearing reply mid.desk.now
+  steps = entered.steps
 
-  is_open : is_plugged (here + 1) old.core ≡ true
+  waits : WaitsAs (here + 1) reply mid.desk.now.jobs
+  waits = laws.jobs old.desk.now (here + 1) input reply mid.desk.now none steps
+
+  is_open : is_plugged (here + 1) old.desk.now ≡ true
   is_open = plugged_at old here k kept at.there next.plugged
 
   empty : k.to ≡ []
@@ -187,10 +195,11 @@ module _ (here : ℕ) (old mid : Driver) (reply : Reply) (h : Hears here old mid
       may = (is_open, (slot_by k d, l.from.stream, found, next.next));
       admitted = next.can;
       steps = steps;
-      smooth = heard_smooth (here + 1) input old.core reply mid.core steps waits;
+      smooth = heard_smooth (here + 1) input old.desk.now reply mid.desk.now steps waits;
       slots =
           subst (λ b. UnlessLacking b (slots_of old.channels.items ds) (slots_of mid.channels.items ds) (MovesAt (here + 1) (HearsNext input) (slots_of old.channels.items ds) (slots_of mid.channels.items ds)))
           (sym memory) moves;
+      past = entered.past;
     }
 
   over : lacks_memory reply ≡ false → CarriedOver old mid
@@ -200,10 +209,13 @@ module _ (here : ℕ) (old mid : Driver) (reply : Reply) (h : Hears here old mid
   beside : (c : ℕ) → (c ≡ here + 1 → ⊥) → may_end c Hearing ≡ false
   beside c other = ne_eqb (here + 1) c (λ e. other (sym e))
 
-  sessions : is_new_state reply ≡ false → old.learning ≡ false → (c : ℕ) → (c ≡ here + 1 → ⊥) → session_at c mid.core ≡ session_at c old.core
+  sessions : is_new_state reply ≡ false → old.desk.now.policy.learning ≡ false → (c : ℕ) → (c ≡ here + 1 → ⊥) → session_at c mid.desk.now ≡ session_at c old.desk.now
   sessions untold no_hosts c other =
-      laws.others old.core Hearing reply mid.core (reached_sound laws old.core kept.reached) steps
-      (laws.states old.core Hearing reply mid.core steps (sym kept.learning ∙ no_hosts) untold) c (beside c other)
+      laws.others old.desk.now Hearing reply mid.desk.now (reached_sound laws old.desk.now kept.reached) steps
+      (laws.states old.desk.now Hearing reply mid.desk.now steps no_hosts untold) c (beside c other)
+
+  learning : mid.desk.now.policy.learning ≡ old.desk.now.policy.learning
+  learning = ap (λ (p : Policy). p.learning) (policy_same laws old.desk.now Hearing reply mid.desk.now kept.reached steps refl)
 
   -- ---- what the reply brings about
 
@@ -211,37 +223,35 @@ module _ (here : ℕ) (old mid : Driver) (reply : Reply) (h : Hears here old mid
   kept_open goes_on = kept_channel laws old mid Hearing reply kept next.can steps refl refl (λ c. and_right (may_end c Hearing) (is_end reply) goes_on) here k l at next.goes.stage (not_fresh l (next.goes.stage ∙ next.plugged))
 
   shorter_now : is_end reply ≡ false → length l.from.stream.rest < length k.from.stream.rest
-  shorter_now goes_on = shorter (here + 1) input k.from.stream l.from.stream old.core reply mid.core next.next steps is_open goes_on
+  shorter_now goes_on = shorter (here + 1) input k.from.stream l.from.stream old.desk.now reply mid.desk.now next.next steps is_open goes_on
 
   fewer_now : is_end reply ≡ false → rest_at here mid < rest_at here old
   fewer_now goes_on = fewer here k l old mid at (shorter_now goes_on)
 
   -- nothing
-  plain : lacks_memory reply ≡ false → is_end reply ≡ false → mid.core.jobs ≡ [] → HasHeard here (is_new_state reply) old mid
-  plain memory goes_on jobs = passed here k l old mid at (is_new_state reply) next.goes.waiting (kept_open goes_on) (over memory) jobs (offers here k l old mid at next.goes empty) sessions
+  plain : lacks_memory reply ≡ false → is_end reply ≡ false → mid.desk.now.jobs ≡ [] → HasHeard here (is_new_state reply) old mid
+  plain memory goes_on jobs = passed here k l old mid at (is_new_state reply) next.goes.waiting (kept_open goes_on) (over memory) jobs (offers here k l old mid at next.goes empty) sessions learning
 
   -- the packet is answered
-  module _ (new : Driver) (works : Works mid.core new.core) (e : new ≡ record mid { core = new.core }) where
+  module _ (new : Driver) (footing : new.desk.footing ≡ mid.desk.footing) (works : Works mid.desk new.desk) (e : new ≡ record mid { desk = new.desk }) where
     at_new : ChannelAt here k l old new
-    at_new = record {
-      there = at.there;
-      channels = ap (λ (x : Driver). x.channels.items) e ∙ at.channels;
-      learning = ap (λ (x : Driver). x.learning) e ∙ at.learning;
-      budget = ap (λ (x : Driver). x.budget) e ∙ at.budget;
-    }
+    at_new = record { there = at.there; channels = ap (λ (x : Driver). x.channels.items) e ∙ at.channels; footing = footing ∙ at.footing }
 
     fewer_answered : is_end reply ≡ false → rest_at here new < rest_at here old
     fewer_answered goes_on = fewer here k l old new at_new (shorter_now goes_on)
 
-    answered : lacks_memory reply ≡ false → is_end reply ≡ false → is_new_state reply ≡ false → AllBy (here + 1) mid.core → HasHeard here false old new
+    answered : lacks_memory reply ≡ false → is_end reply ≡ false → is_new_state reply ≡ false → AllBy (here + 1) mid.desk.now → HasHeard here false old new
     answered memory goes_on untold by =
-        let b = behind_along laws (here + 1) mid works.turns new.core (kept_open goes_on) by works.leads works.whole in
-        passed here k l old new at_new false next.goes.waiting (subst IsKept (sym e) b.kept)
+        let b = behind_along laws (here + 1) mid works.turns new.desk.now (kept_open goes_on) by works.makes.leads works.whole in
+        passed here k l old new at_new false next.goes.waiting (subst IsKept (sym e) (kept_at_desk mid new.desk footing b.kept))
         (over_then old mid new (is_as_long here k l old mid at) (over memory) (over_works mid new works e)) works.none (offers here k l old new at_new next.goes empty)
-        (λ none_made no_hosts c other. b.others c other ∙ sessions untold no_hosts c other)
+        (λ none_made no_hosts c other. b.others c other ∙ sessions untold no_hosts c other) (ap (λ (p : Policy). p.learning) b.policy ∙ learning)
 
   -- the channel is left
   module _ (new : Driver) (left : IsLeft here mid new) where
+    machine_same : new.desk.now ≡ mid.desk.now
+    machine_same = ap (λ (d : DeskView). d.now) left.desk
+
     abbrev Gone : Channel
     Gone = record l { stage = Left }
 
@@ -254,8 +264,7 @@ module _ (here : ℕ) (old mid : Driver) (reply : Reply) (h : Hears here old mid
       channels =
           left.channels ∙ ap (λ (x : Channel). set mid.channels.items here (record x { stage = Left })) its_channel ∙ ap (λ ks. set ks here Gone) at.channels
           ∙ set-set old.channels.items here l Gone;
-      learning = left.learning ∙ at.learning;
-      budget = left.budget ∙ at.budget;
+      footing = ap (λ (d : DeskView). d.footing) left.desk ∙ at.footing;
     }
 
     is_left : (x : Channel) → slice_get new.channels.items here ≡ Some x → x.stage ≡ Left
@@ -264,39 +273,40 @@ module _ (here : ℕ) (old mid : Driver) (reply : Reply) (h : Hears here old mid
     over_left : CarriedOver mid new
     over_left = over_none mid new (λ ds. (let slots =
         ap (λ ks. slots_of ks ds) left.channels ∙ slots_alike mid.channels.items ds here left.channel (record left.channel { stage = Left }) left.there refl refl in
-        λ i. record { machine = left.core i; slots = slots i }))
+        λ i. record { past = (left.desk i).past; machine = (left.desk i).now; slots = slots i }))
 
     kept_gone : is_end reply ≡ true → IsKept new
     kept_gone end =
-        kept_left laws old new Hearing reply kept next.can (subst (λ (m : State). Steps old.core Hearing reply m) (sym left.core) steps) refl refl here k Gone at_left next.plugged refl
+        kept_left laws old new Hearing reply kept next.can (subst (λ (m : State). Steps old.desk.now Hearing reply m) (sym machine_same) steps) refl refl here k Gone at_left next.plugged refl
         (eq-eqb (here + 1) (here + 1) refl) end beside
 
-    closed : lacks_memory reply ≡ false → is_end reply ≡ true → is_new_state reply ≡ false → mid.core.jobs ≡ [] → HasHeard here false old new
+    closed : lacks_memory reply ≡ false → is_end reply ≡ true → is_new_state reply ≡ false → mid.desk.now.jobs ≡ [] → HasHeard here false old new
     closed memory end untold jobs =
         passed here k Gone old new at_left false next.goes.waiting (kept_gone end) (over_then old mid new (is_as_long here k l old mid at) (over memory) over_left)
-        (ap (λ (m : State). m.jobs) left.core ∙ jobs) (all_left (λ (x : Channel). x.to ≡ []) here new is_left)
-        (λ none_made no_hosts c other. ap (session_at c) left.core ∙ sessions untold no_hosts c other)
+        (ap (λ (m : State). m.jobs) machine_same ∙ jobs) (all_left (λ (x : Channel). x.to ≡ []) here new is_left)
+        (λ none_made no_hosts c other. ap (session_at c) machine_same ∙ sessions untold no_hosts c other)
+        (ap (λ (m : State). m.policy.learning) machine_same ∙ learning)
 
-pub follows : (here : ℕ) (old mid : Driver) (reply : Reply) → Hears here old mid reply → (new : Driver) → Follows here reply mid new → Passed here old new (came_of reply)
-follows here old mid NoMemory h new f = absurd f
-follows here old mid (JobOpened item) h new (works, e) =
+pub follows : (here : ℕ) (old mid : Driver) (reply : Reply) → Hears here old mid reply → (new : Driver) → new.desk.footing ≡ mid.desk.footing → Follows here reply mid new → Passed here old new (came_of reply)
+follows here old mid NoMemory h new footing f = absurd f
+follows here old mid (JobOpened item) h new footing (works, e) =
     let (one, alone, is, its) = waits here old mid (JobOpened item) h in
-    let by : AllBy (here + 1) mid.core = subst (AllByRecursion (λ (j : Job). j.connection ≡ here + 1)) (sym alone) (its, tt) in
-    (answered here old mid (JobOpened item) h new works e refl refl refl by, fewer_answered here old mid (JobOpened item) h new works e refl)
-follows here old mid (Ended end) h new left = (
+    let by : AllBy (here + 1) mid.desk.now = subst (AllByRecursion (λ (j : Job). j.connection ≡ here + 1)) (sym alone) (its, tt) in
+    (answered here old mid (JobOpened item) h new footing works e refl refl refl by, fewer_answered here old mid (JobOpened item) h new footing works e refl)
+follows here old mid (Ended end) h new footing left = (
   closed here old mid (Ended end) h new left refl refl refl (waits here old mid (Ended end) h),
   all_left (λ (x : Channel). IsHeardOut x.from.stream) here new (is_left here old mid (Ended end) h new left),
 )
-follows here old mid (NewState state pruned) h new e =
+follows here old mid (NewState state pruned) h new footing e =
     let reply = NewState state pruned in
     subst (λ x. Passed here old x (came_of reply)) (sym e) (plain here old mid reply h refl refl (waits here old mid reply h), fewer_now here old mid reply h refl)
-follows here old mid Overload h new e = absurd (waits here old mid Overload h)
-follows here old mid other h new e =
+follows here old mid Overload h new footing e = absurd (waits here old mid Overload h)
+follows here old mid other h new footing e =
     subst (λ x. Passed here old x (came_of other)) (sym e) (plain here old mid other h refl refl (waits here old mid other h), fewer_now here old mid other h refl)
 
-pub hears_so : (here : ℕ) (old mid : Driver) (reply : Reply) → DrivingLaws → IsKept old → old.core.jobs ≡ [] → IsOffered here old → (k l : Channel) → ChannelAt here k l old mid → (taken : Option Input)
-    → Takes taken k l → (input : Input) → taken ≡ Some input → (c : ℕ) → c ≡ here + 1 → Steps old.core (entries.Heard c input) reply mid.core → Hears here old mid reply
-hears_so here old mid reply laws kept none offered k l at taken takes input is c place steps = record {
+pub hears_so : (here : ℕ) (old mid : Driver) (reply : Reply) → DrivingLaws → IsKept old → old.desk.now.jobs ≡ [] → IsOffered here old → (k l : Channel) → ChannelAt here k l old mid → (taken : Option Input)
+    → Takes taken k l → (input : Input) → taken ≡ Some input → (c : ℕ) → c ≡ here + 1 → EntersAlone (entries.Heard c input) reply old.desk mid.desk → Hears here old mid reply
+hears_so here old mid reply laws kept none offered k l at taken takes input is c place entered = record {
   laws = laws;
   kept = kept;
   none = none;
@@ -306,11 +316,11 @@ hears_so here old mid reply laws kept none offered k l at taken takes input is c
   l = l;
   next = subst (λ o. Takes o k l) is takes;
   at = at;
-  steps = subst (λ n. Steps old.core (entries.Heard n input) reply mid.core) place steps;
+  entered = subst (λ n. EntersAlone (entries.Heard n input) reply old.desk mid.desk) place entered;
 }
 
 -- by what the call that does so tells
-pub told : (here : ℕ) (old mid new : Driver) (reply : Reply) (result : Result Came OutOfMemory) → Hears here old mid reply → IfOk result (λ came. came ≡ came_of reply)
+pub told : (here : ℕ) (old mid new : Driver) (reply : Reply) (result : Result Came Stopped) → Hears here old mid reply → new.desk.footing ≡ mid.desk.footing → IfOk result (λ came. came ≡ came_of reply)
     → OnOk result (Follows here reply mid new) → IfOk result (Passed here old new)
-told here old mid new reply (Err lacks) h is f = tt
-told here old mid new reply (Ok came) h is f = subst (Passed here old new) (sym is) (follows here old mid reply h new f)
+told here old mid new reply (Err stopped) h footing is f = tt
+told here old mid new reply (Ok came) h footing is f = subst (Passed here old new) (sym is) (follows here old mid reply h new footing f)

@@ -11,7 +11,7 @@ use Rattle.sim_channels.specs.declared.driver.Driver.{Driver}
 use Rattle.sim_channels.proofs.Keeping.{messages_same}
 use Rattle.sim_channels.proofs.Kept.{plugged_at}
 
-module _ (laws : DrivingLaws) (at : ℕ) (old new : Driver) (kept : IsKept old) (later : IsKept new) (rest : IsAtRest old) (others : StaysBut at old new) (jobs : new.core.jobs ≡ []) where
+module _ (laws : DrivingLaws) (at : ℕ) (old new : Driver) (kept : IsKept old) (later : IsKept new) (rest : IsAtRest old) (others : StaysBut at old new) (jobs : new.desk.now.jobs ≡ []) where
   -- a channel at another place is as it was
   was : (n : ℕ) (k : Channel) → (n ≡ at → ⊥) → slice_get new.channels.items n ≡ Some k → slice_get old.channels.items n ≡ Some k
   was n k other there = sym (others.channels n other) ∙ there
@@ -21,7 +21,7 @@ module _ (laws : DrivingLaws) (at : ℕ) (old new : Driver) (kept : IsKept old) 
     jobs = jobs;
     taken = λ n other k there plugged.
         (let before = was n k other there in
-        messages_same laws (n + 1) old.core new.core kept.reached later.reached (plugged_at old n k kept before plugged)
+        messages_same laws (n + 1) old.desk.now new.desk.now kept.reached later.reached (plugged_at old n k kept before plugged)
         (others.sessions (n + 1) (λ e. other (omega (arith, e))))
         ∙ rest.taken n k before plugged);
     offered = λ n. ⊎_elim (λ same k there. offered k (ap (slice_get new.channels.items) (sym same) ∙ there)) (λ other k there. rest.offered n k (was n k other there)) (cases_eq n at);

@@ -49,14 +49,12 @@ pub record IsLeft (here : ℕ) (old new : Driver) : Type 0 where
   pub channel : Channel
   pub there : slice_get old.channels.items here ≡ Some channel
   pub channels : new.channels.items ≡ slice_set old.channels.items here (record channel { stage = Left })
-  pub core : new.core ≡ old.core
-  pub learning : new.learning ≡ old.learning
-  pub budget : new.budget ≡ old.budget
+  pub desk : new.desk ≡ old.desk
 
 -- what a reply brings about: the packet that it tells of is answered, and a channel whose session ended is left
 abbrev pub Follows : ℕ → Reply → Driver → Driver → Type 0
 Follows here NoMemory old new = ⊥
-Follows here (JobOpened item) old new = Works old.core new.core × (new ≡ record old { core = new.core })
+Follows here (JobOpened item) old new = Works old.desk new.desk × (new ≡ record old { desk = new.desk })
 Follows here (Ended end) old new = IsLeft here old new
 Follows here reply old new = new ≡ old
 
@@ -76,11 +74,11 @@ is_state came = false
 pub record HasHeard (here : ℕ) (made : Bool) (old new : Driver) : Type 0 where
   pub kept : IsKept new
   pub carried : CarriedOver old new
-  pub jobs : new.core.jobs ≡ []
+  pub jobs : new.desk.now.jobs ≡ []
   pub offered : IsOffered here new
   pub channels : KeepsChannels here old new
-  pub others : made ≡ false → old.learning ≡ false → StaysBut here old new
-  pub learning : new.learning ≡ old.learning
+  pub others : made ≡ false → old.desk.now.policy.learning ≡ false → StaysBut here old new
+  pub learning : new.desk.now.policy.learning ≡ old.desk.now.policy.learning
 
 -- how many bytes are to be heard from a place yet
 abbrev pub rest_in : Option Channel → ℕ

@@ -8,13 +8,12 @@ use Rattle.device_port.specs.Devices.{Meaning, Turns}
 use Rattle.machine_steps.specs.declared.entry.Entry.TheVariants as entries
 use Rattle.machine_steps.specs.declared.note.Note.TheVariants as notes
 use Rattle.machine_steps.specs.declared.reply.Reply.{Reply}
-use Rattle.machine_steps.specs.Steps.{Steps}
 use Rattle.world_steps.specs.Worlds.{lacks_memory}
 use Rattle.sim_steps.specs.Benches.{Bench}
 use Rattle.sim_steps.specs.Deeds.{Event}
 use Rattle.sim_steps.specs.Parts.{IsTurnAt, has_dealt, turns_taken}
 use Rattle.sim_steps.specs.Stretches.{Stretch}
-use Rattle.sim_channels.specs.Channels.{Fits, bench, is_plugged_in}
+use Rattle.sim_channels.specs.Channels.{EntersAlone, Fits, bench, is_plugged_in}
 use Rattle.sim_channels.specs.declared.channel.Channel.{Channel}
 use Rattle.sim_channels.specs.declared.driver.Driver.{Driver}
 use Rattle.sim_turns.specs.Turning.{TakesOne, Waits}
@@ -70,8 +69,8 @@ IsTaken turned = ⊥
 pub record NotesTurn (at : ℕ) (turned : Turned) (old new : Driver) : Type 0 where
   pub reply : Reply
   pub memory : lacks_memory reply ≡ false
-  pub same : new ≡ record old { core = new.core }
-  pub steps : Steps old.core (entries.Note (notes.Turned (at + 1) turned)) reply new.core
+  pub same : new ≡ record old { desk = new.desk }
+  pub enters : EntersAlone (entries.Note (notes.Turned (at + 1) turned)) reply old.desk new.desk
 
 -- the channel with this index changes so, and the others stay
 pub record ChannelMoves (at : ℕ) (Moves : Channel → Channel → Type 0) (old new : Driver) : Type 0 where
@@ -80,8 +79,6 @@ pub record ChannelMoves (at : ℕ) (Moves : Channel → Channel → Type 0) (old
   pub there : slice_get old.channels.items at ≡ Some before
   pub set_is : new.channels.items ≡ set old.channels.items at behind
   pub moves : Moves before behind
-  pub learning : new.learning ≡ old.learning
-  pub budget : new.budget ≡ old.budget
 
 -- these bytes came from the device, and one message less waits in it
 pub record Appends (bytes : List ℕ) (k l : Channel) : Type 0 where

@@ -1,7 +1,7 @@
 // What a device appended is heard.
 ghost use Rattle.std.specs.Prelude.{◌≡◌, ◌<◌, ◌+◌, [], false, length, Ok, OnOk, IfOk};
 ghost use Rattle.machine_moves.specs.Told.{WaitsAs};
-ghost use Rattle.sim_channels.specs.Channels.{CarriedOver, IsKept};
+ghost use Rattle.sim_channels.specs.Channels.{CarriedOver, IsAlone, IsKept};
 ghost use Rattle.sim_channels.specs.Waiting.{IsHeard, IsOffered, StaysBut};
 ghost use Rattle.sim_turns.specs.Hearing.{KeepsChannels};
 ghost use Rattle.sim_turns.specs.Passes.{Follows, Passed, Takes, came_of};
@@ -9,8 +9,9 @@ ghost use Rattle.sim_turns.specs.Passes.{Follows, Passed, Takes, came_of};
 use core_machine::{Entry, Input, Reply};
 use maple_base::NoMemory;
 use of10_stream::Next;
-use sim_channels::{Channel, Driver, Plugging, connection_of, driving_laws};
+use sim_channels::{Channel, Driver, Plugging, Stopped, connection_of, driving_laws};
 use sim_jobs::work::work;
+use std::sync::Wait;
 
 /// What came from a device.
 enum Came {
@@ -27,24 +28,25 @@ enum Came {
 ///
 /// # Errors
 ///
-/// `NoMemory`.
-pub fn hear_all(driver: &mut Driver, at: usize) -> Result<bool, NoMemory>
+/// `Stopped`.
+pub fn hear_all<R: Wait>(rt: &R, driver: &mut Driver<'_>, at: usize) -> Result<bool, Stopped>
     requires kept { IsKept driver.old }
     requires within { at < length driver.old.channels.items }
-    requires jobs { driver.old.core.jobs ≡ [] }
+    requires jobs { driver.old.desk.now.jobs ≡ [] }
     requires offered { IsOffered at driver.old }
     ensures kept { OnOk result (IsKept driver.new) }
     ensures carried { OnOk result (CarriedOver driver.old driver.new) }
-    ensures jobs { OnOk result (driver.new.core.jobs ≡ []) }
+    ensures jobs { OnOk result (driver.new.desk.now.jobs ≡ []) }
     ensures heard { OnOk result (IsHeard at driver.new) }
     ensures offered { OnOk result (IsOffered at driver.new) }
     ensures channels { OnOk result (KeepsChannels at driver.old driver.new) }
     ensures others { result ≡ Ok false → StaysBut at driver.old driver.new }
+    ensures footing { driver.new.desk.footing ≡ driver.old.desk.footing }
 {
     // A packet teaches where a host is without its reply telling that this made a state.
-    let mut reaches_others = driver.learning;
+    let mut reaches_others = driver.desk.learning();
     loop {
-        match hear_next(driver, at)? {
+        match hear_next(rt, driver, at)? {
             Came::NoMore => return Ok(reaches_others),
             Came::Message => {}
             Came::State => reaches_others = true,
@@ -53,19 +55,20 @@ pub fn hear_all(driver: &mut Driver, at: usize) -> Result<bool, NoMemory>
 }
 
 // What came next from the device is heard, and the packet in it answered.
-fn hear_next(driver: &mut Driver, at: usize) -> Result<Came, NoMemory>
+fn hear_next<R: Wait>(rt: &R, driver: &mut Driver<'_>, at: usize) -> Result<Came, Stopped>
     requires kept { IsKept driver.old }
     requires within { at < length driver.old.channels.items }
-    requires jobs { driver.old.core.jobs ≡ [] }
+    requires jobs { driver.old.desk.now.jobs ≡ [] }
     requires offered { IsOffered at driver.old }
-    ensures { IfOk result (λ came. Passed at driver.old driver.new came) }
+    ensures passed { IfOk result (λ came. Passed at driver.old driver.new came) }
+    ensures footing { driver.new.desk.footing ≡ driver.old.desk.footing }
 {
     driving_laws();
     let Some(input) = next_input(&mut driver.channels[at])? else {
         return Ok(Came::NoMore);
     };
-    let reply = driver.enter(Entry::Heard(connection_of(at), input));
-    follow(driver, at, reply)
+    let reply = driver.enter(rt, Entry::Heard(connection_of(at), input))?;
+    follow(rt, driver, at, reply)
 }
 
 // What comes next on a channel whose session is open, if anything does.
@@ -84,17 +87,23 @@ fn next_input(channel: &mut Channel) -> Result<Option<Input>, NoMemory>
 }
 
 // What the reply to a message brings about is done.
-fn follow(driver: &mut Driver, at: usize, reply: Reply) -> Result<Came, NoMemory>
+fn follow<R: Wait>(
+    rt: &R,
+    driver: &mut Driver<'_>,
+    at: usize,
+    reply: Reply,
+) -> Result<Came, Stopped>
     requires within { at < length driver.old.channels.items }
-    requires waits { WaitsAs (at + 1) reply driver.old.core.jobs }
-    requires budget { driver.old.core.settings.budget ≡ driver.old.budget }
+    requires waits { WaitsAs (at + 1) reply driver.old.desk.now.jobs }
+    requires alone { IsAlone driver.old }
     ensures came { IfOk result (λ came. came ≡ came_of reply) }
     ensures follows { OnOk result (Follows at reply driver.old driver.new) }
+    ensures footing { driver.new.desk.footing ≡ driver.old.desk.footing }
 {
     match reply {
-        Reply::NoMemory => Err(NoMemory),
+        Reply::NoMemory => Err(Stopped),
         Reply::Job(item) => {
-            work(&mut driver.core, driver.budget, &item)?;
+            work(rt, driver.alloc, &mut driver.desk, &item)?;
             Ok(Came::Message)
         }
         Reply::Ended(_) => {

@@ -10,8 +10,8 @@ use crate::turning::{dealt, take_turn};
 use crate::waiting::lowest_waiting;
 use core_machine::Note;
 use device_port::Device;
-use maple_base::NoMemory;
-use sim_channels::Driver;
+use sim_channels::{Driver, Stopped};
+use std::sync::Wait;
 
 /// The most turns of one call.
 const MOST_TURNS: u32 = 100_000;
@@ -21,20 +21,25 @@ const MOST_TURNS: u32 = 100_000;
 ///
 /// # Errors
 ///
-/// `NoMemory`.
-pub fn settle<D: Device>(driver: &mut Driver, devices: &mut [D]) -> Result<(), NoMemory>
+/// `Stopped`.
+pub fn settle<R: Wait, D: Device>(
+    rt: &R,
+    driver: &mut Driver<'_>,
+    devices: &mut [D],
+) -> Result<(), Stopped>
     requires fits { Fits driver.old (map D.meaning devices.old) }
     requires rest { IsAtRest driver.old }
     ensures fits { OnOk result (Fits driver.new (map D.meaning devices.new)) }
     ensures rest { OnOk result (IsAtRest driver.new) }
     ensures obeyed { OnOk result (Obeyed Settle (bench driver.old (map D.meaning devices.old)) (bench driver.new (map D.meaning devices.new))) }
+    ensures footing { driver.new.desk.footing ≡ driver.old.desk.footing }
 {
     let mut taken = 0;
     while let Some(at) = lowest_waiting(driver) {
         if taken == MOST_TURNS {
-            return note(driver, Note::Unsettled(taken));
+            return note(rt, driver, Note::Unsettled(taken));
         }
-        taken += dealt(take_turn(driver, devices, at)?);
+        taken += dealt(take_turn(rt, driver, devices, at)?);
     }
-    note(driver, Note::Settled(taken))
+    note(rt, driver, Note::Settled(taken))
 }

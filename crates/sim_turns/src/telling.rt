@@ -1,6 +1,6 @@
 // What a turn of a device did is told.
 ghost use Rattle.std.specs.Prelude.{◌≡◌, ◌+◌, ◌^◌, ◌<◌, OnOk};
-ghost use Rattle.sim_channels.specs.Channels.{IsKept};
+ghost use Rattle.sim_channels.specs.Channels.{IsAlone, IsKept};
 ghost use Rattle.sim_channels.specs.Waiting.{IsAtRest, IsAtRestBut};
 ghost use Rattle.sim_turns.specs.Taking.{Appends, ChannelMoves, IsTaken, NotesTurn, Tires, ToldOver};
 ghost use Rattle.sim_turns.specs.Turning.{Waits};
@@ -8,20 +8,22 @@ ghost use Rattle.sim_turns.specs.Turning.{Waits};
 use crate::asking::ask;
 use core_machine::{Entry, Note};
 use maple_base::{NoMemory, Turned};
-use sim_channels::{Driver, connection_of, driving_laws};
+use sim_channels::{Driver, Stopped, connection_of, driving_laws};
+use std::sync::Wait;
 
 /// The machine is told what a turn of the device with this index did, and what it appended comes
 /// behind what it appended before. Where it failed it is left.
 ///
 /// # Errors
 ///
-/// `NoMemory`.
-pub(crate) fn tell_turn(
-    driver: &mut Driver,
+/// `Stopped`.
+pub(crate) fn tell_turn<R: Wait>(
+    rt: &R,
+    driver: &mut Driver<'_>,
     at: usize,
     turned: Turned,
     bytes: &[u8],
-) -> Result<(), NoMemory>
+) -> Result<(), Stopped>
     requires kept { IsKept driver.old }
     requires rest { IsAtRest driver.old }
     requires waits { Waits at driver.old }
@@ -29,15 +31,16 @@ pub(crate) fn tell_turn(
     ensures rest { OnOk result (IsAtRestBut at driver.new) }
     ensures told { OnOk result (ToldOver at turned bytes.now driver.old driver.new) }
     ensures tires { OnOk result (Tires turned driver.old driver.new) }
+    ensures footing { driver.new.desk.footing ≡ driver.old.desk.footing }
 {
     driving_laws();
-    tell(driver, at, turned)?;
+    tell(rt, driver, at, turned)?;
     match turned {
         Turned::Failed => {
-            driver.leave(at);
+            driver.leave(rt, at)?;
             Ok(())
         }
-        _ => append(driver, at, bytes),
+        _ => Ok(append(driver, at, bytes)?),
     }
 }
 
@@ -45,14 +48,16 @@ pub(crate) fn tell_turn(
 ///
 /// # Errors
 ///
-/// `NoMemory`.
-fn tell(driver: &mut Driver, at: usize, turned: Turned) -> Result<(), NoMemory>
+/// `Stopped`.
+fn tell<R: Wait>(rt: &R, driver: &mut Driver<'_>, at: usize, turned: Turned) -> Result<(), Stopped>
+    requires alone { IsAlone driver.old }
     requires rest { IsAtRest driver.old }
     requires number { at + 1 < 2 ^ 32 }
-    ensures { OnOk result (NotesTurn at turned driver.old driver.new) }
+    ensures notes { OnOk result (NotesTurn at turned driver.old driver.new) }
+    ensures footing { driver.new.desk.footing ≡ driver.old.desk.footing }
 {
     let device = connection_of(at);
-    ask(driver, Entry::Note(Note::Turned { device, turned }))?;
+    ask(rt, driver, Entry::Note(Note::Turned { device, turned }))?;
     Ok(())
 }
 
@@ -61,9 +66,9 @@ fn tell(driver: &mut Driver, at: usize, turned: Turned) -> Result<(), NoMemory>
 /// # Errors
 ///
 /// `NoMemory`.
-fn append(driver: &mut Driver, at: usize, bytes: &[u8]) -> Result<(), NoMemory>
+fn append(driver: &mut Driver<'_>, at: usize, bytes: &[u8]) -> Result<(), NoMemory>
     requires { Waits at driver.old }
-    ensures core { driver.new.core ≡ driver.old.core }
+    ensures desk { driver.new.desk ≡ driver.old.desk }
     ensures moves { OnOk result (ChannelMoves at (Appends bytes.now) driver.old driver.new) }
 {
     let channel = &mut driver.channels[at];

@@ -16,19 +16,21 @@ use crate::waiting::{is_plugged_at, is_waiting_at};
 use core_machine::Note;
 use device_port::Device;
 use maple_base::{NoMemory, Turned};
-use sim_channels::{Driver, driving_laws};
+use sim_channels::{Driver, Stopped, driving_laws};
+use std::sync::Wait;
 
 /// The device with this index, in which a message waits, takes a turn, and what that brings about is
 /// done. Where it fails it is left.
 ///
 /// # Errors
 ///
-/// `NoMemory`.
-pub(crate) fn take_turn<D: Device>(
-    driver: &mut Driver,
+/// `Stopped`.
+pub(crate) fn take_turn<R: Wait, D: Device>(
+    rt: &R,
+    driver: &mut Driver<'_>,
     devices: &mut [D],
     at: usize,
-) -> Result<Turned, NoMemory>
+) -> Result<Turned, Stopped>
     requires fits { Fits driver.old (map D.meaning devices.old) }
     requires rest { IsAtRest driver.old }
     requires waits { Waits at driver.old }
@@ -36,10 +38,11 @@ pub(crate) fn take_turn<D: Device>(
     ensures rest { OnOk result (IsAtRest driver.new) }
     ensures taken { IfOk result (λ turned. TakesOneBy at turned driver.old (map D.meaning devices.old) driver.new (map D.meaning devices.new)) }
     ensures tires { IfOk result (λ turned. Tires turned driver.old driver.new) }
+    ensures footing { driver.new.desk.footing ≡ driver.old.desk.footing }
 {
     driving_laws();
-    let turned = turn_told(driver, devices, at)?;
-    attend(driver, devices, at)?;
+    let turned = turn_told(rt, driver, devices, at)?;
+    attend(rt, driver, devices, at)?;
     Ok(turned)
 }
 
@@ -48,22 +51,24 @@ pub(crate) fn take_turn<D: Device>(
 ///
 /// # Errors
 ///
-/// `NoMemory`.
-fn turn_told<D: Device>(
-    driver: &mut Driver,
+/// `Stopped`.
+fn turn_told<R: Wait, D: Device>(
+    rt: &R,
+    driver: &mut Driver<'_>,
     devices: &mut [D],
     at: usize,
-) -> Result<Turned, NoMemory>
+) -> Result<Turned, Stopped>
     requires fits { Fits driver.old (map D.meaning devices.old) }
     requires rest { IsAtRest driver.old }
     requires waits { Waits at driver.old }
     ensures told { IfOk result (λ turned. IsTold at turned driver.old driver.new (map D.meaning devices.old) (map D.meaning devices.new)) }
     ensures rest { OnOk result (IsAtRestBut at driver.new) }
     ensures tires { IfOk result (λ turned. Tires turned driver.old driver.new) }
+    ensures footing { driver.new.desk.footing ≡ driver.old.desk.footing }
 {
     let mut bytes = Vec::new(driver.alloc);
     let turned = turn_at(devices, at, &mut bytes)?;
-    tell_turn(driver, at, turned, &bytes)?;
+    tell_turn(rt, driver, at, turned, &bytes)?;
     Ok(turned)
 }
 
@@ -71,7 +76,7 @@ fn turn_told<D: Device>(
 ///
 /// # Errors
 ///
-/// `NoMemory`, as the device answers.
+/// `NoMemory`, as memory runs out.
 fn turn_at<D: Device>(devices: &mut [D], at: usize, out: &mut Vec<u8>) -> Result<Turned, NoMemory>
     requires { at < length devices.old }
     ensures { IfOk result (λ turned. TakesTurnAt at turned (map D.meaning devices.old) out.old.items (map D.meaning devices.new) out.new.items) }
@@ -98,26 +103,29 @@ pub(crate) fn dealt(turned: Turned) -> u32
 ///
 /// # Errors
 ///
-/// `NoMemory`.
-pub fn turn<D: Device>(
-    driver: &mut Driver,
+/// `Stopped`.
+pub fn turn<R: Wait, D: Device>(
+    rt: &R,
+    driver: &mut Driver<'_>,
     devices: &mut [D],
     place: u32,
     count: u32,
-) -> Result<(), NoMemory>
+) -> Result<(), Stopped>
     requires fits { Fits driver.old (map D.meaning devices.old) }
     requires rest { IsAtRest driver.old }
     requires among { IsAmong (length devices.old) place }
     ensures fits { OnOk result (Fits driver.new (map D.meaning devices.new)) }
     ensures rest { OnOk result (IsAtRest driver.new) }
     ensures obeyed { OnOk result (Obeyed (Turn place count) (bench driver.old (map D.meaning devices.old)) (bench driver.new (map D.meaning devices.new))) }
+    ensures footing { driver.new.desk.footing ≡ driver.old.desk.footing }
 {
     let at = place as usize - 1;
     if !is_plugged_at(driver, at) {
-        return note(driver, Note::Absent(place));
+        return note(rt, driver, Note::Absent(place));
     }
-    let turns = take_turns(driver, devices, at, count)?;
+    let turns = take_turns(rt, driver, devices, at, count)?;
     note(
+        rt,
         driver,
         Note::TurnedAll {
             device: place,
@@ -131,13 +139,14 @@ pub fn turn<D: Device>(
 ///
 /// # Errors
 ///
-/// `NoMemory`.
-fn take_turns<D: Device>(
-    driver: &mut Driver,
+/// `Stopped`.
+fn take_turns<R: Wait, D: Device>(
+    rt: &R,
+    driver: &mut Driver<'_>,
     devices: &mut [D],
     at: usize,
     most: u32,
-) -> Result<u32, NoMemory>
+) -> Result<u32, Stopped>
     requires fits { Fits driver.old (map D.meaning devices.old) }
     requires rest { IsAtRest driver.old }
     requires within { at < length devices.old }
@@ -146,10 +155,11 @@ fn take_turns<D: Device>(
     ensures taken { IfOk result (λ taken. TakesTurnsBy at taken driver.old (map D.meaning devices.old) driver.new (map D.meaning devices.new)) }
     ensures most { IfOk result (λ taken. taken ≤ most) }
     ensures fewer { IfOk result (λ taken. taken < most → Waits at driver.new → ⊥) }
+    ensures footing { driver.new.desk.footing ≡ driver.old.desk.footing }
 {
     let mut taken = 0;
     while taken < most && is_waiting_at(driver, at) {
-        taken += dealt(take_turn(driver, devices, at)?);
+        taken += dealt(take_turn(rt, driver, devices, at)?);
     }
     Ok(taken)
 }

@@ -8,10 +8,10 @@ ghost use Rattle.sim_turns.specs.Turning.{Waits};
 use sim_channels::{Channel, Driver, Plugging};
 
 /// Whether the session of the device with this index is open.
-pub(crate) fn is_plugged_at(driver: &Driver, at: usize) -> bool
+pub(crate) fn is_plugged_at(driver: &Driver<'_>, at: usize) -> bool
     requires kept { IsKept driver.now }
     requires within { at < length driver.now.channels.items }
-    ensures { result ≡ is_plugged_place (at + 1) driver.now.core }
+    ensures { result ≡ is_plugged_place (at + 1) driver.now.desk.now }
 {
     is_plugged(&driver.channels[at])
 }
@@ -30,7 +30,7 @@ fn is_waiting(channel: &Channel) -> bool
 }
 
 /// Whether a message waits in the device with this index, and its session is open.
-pub(crate) fn is_waiting_at(driver: &Driver, at: usize) -> bool
+pub(crate) fn is_waiting_at(driver: &Driver<'_>, at: usize) -> bool
     requires { at < length driver.now.channels.items }
     ensures waits { result ≡ true → Waits at driver.now }
     ensures rests { result ≡ false → Waits at driver.now → ⊥ }
@@ -39,7 +39,7 @@ pub(crate) fn is_waiting_at(driver: &Driver, at: usize) -> bool
 }
 
 /// The first device in which a message waits, of those whose session is open.
-pub(crate) fn lowest_waiting(driver: &Driver) -> Option<usize>
+pub(crate) fn lowest_waiting(driver: &Driver<'_>) -> Option<usize>
     ensures { MatchOption result ((at : ℕ) → Waits at driver.now → ⊥) (λ at. IsLowest at driver.now) }
 {
     for (at, channel) in driver.channels.iter().enumerate() {

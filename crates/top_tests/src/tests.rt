@@ -29,7 +29,7 @@ fn stops_at_an_endless_input(rt: HostRuntime) -> Result<(), Fail> {
     let mut bytes = Vec::new(alloc);
     let mut input = ReadSource::new(Endless);
     let mut output = WriteSink::new(&mut bytes);
-    let status = run_program(alloc, &words, &mut input, &mut output);
+    let status = run_program(&rt, alloc, &words, &mut input, &mut output);
     assert_eq!(&rt; status, Status::TooLong);
     assert_eq!(&rt; bytes.as_slice(), b"refused input\n".as_slice());
     Ok(())
@@ -60,7 +60,16 @@ fn refuses_the_second_line(rt: HostRuntime) -> Result<(), Fail> {
     let mut devices: Vec<Box<dyn Device + Send>> = Vec::new(alloc);
     push_idle(&mut devices, Box::new(alloc, program_device(alloc, 1))?)?;
     let mut sink = MemSink::new(Vec::new(alloc));
-    let end = run_sim(alloc, policy, script, 7, SETTINGS, &mut devices, &mut sink);
+    let end = run_sim(
+        &rt,
+        alloc,
+        policy,
+        script,
+        7,
+        SETTINGS,
+        &mut devices,
+        &mut sink,
+    );
     let refused = SimEnd::Script {
         line: 8,
         kind: ScriptRefusal::Switch,

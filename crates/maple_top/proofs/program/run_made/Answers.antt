@@ -4,8 +4,8 @@ use Rattle.sim_steps.specs.Showing.{AllIdle}
 use Rattle.maple_top.proofs.Programs.{devices_are, devices_idle, runs_over}
 use Rattle.maple_top.proofs.program.run_made.Goals as goal
 
-pub maple-requires : goal.maple-requires
-maple-requires g c = record { idle = subst AllIdle (sym (devices_are _ c.loop-place.place c.loop-place.invariant.made (omega arith))) devices_idle }
+pub maple-requires-clause-idle : goal.maple-requires-clause-idle
+maple-requires-clause-idle g c = λ κs lives. subst AllIdle (sym (devices_are _ c.loop-place.place c.loop-place.invariant.made (omega arith))) devices_idle
 
 pub returns-clause-ran : goal.returns-clause-ran
 returns-clause-ran g c =

@@ -3,7 +3,7 @@ use Rattle.std.specs.Prelude.{Some, None}
 use Rattle.std.proofs.lemmas.List.{length-map}
 use Rattle.script_text.specs.Lines.{ended_lines}
 use Rattle.script_text.specs.Orders.{refused_from}
-use Rattle.maple_top.proofs.Runs.{ended, failed, lacked}
+use Rattle.maple_top.proofs.Runs.{ended, failed, lacked, worn}
 use Rattle.maple_top.proofs.sim.run_script.Goals as goal
 
 pub returns-in-Done-clause-runs : goal.returns-in-Done-clause-runs
@@ -21,3 +21,7 @@ returns-in-WriteFault-clause-runs g c =
 
 pub returns-in-NoMemory-clause-runs : goal.returns-in-NoMemory-clause-runs
 returns-in-NoMemory-clause-runs g c = lacked _ _ (g.O.Sink.tells c.args.to.now) (g.O.Sink.tells c.drive.new.to) (rw c.in-NoMemory.is at c.drive.ensures.ends)
+
+pub returns-in-Worn-clause-runs : goal.returns-in-Worn-clause-runs
+returns-in-Worn-clause-runs g c =
+    worn _ _ (g.O.Sink.tells c.args.to.now) (g.O.Sink.tells c.drive.new.to) (g.O.Sink.tells c.finish-in-Worn.new.output) c.finish-in-Worn.result (rw c.in-Worn.is at c.drive.ensures.ends) (c.drive.ensures.spared (λ e. cc)) c.finish-in-Worn.ensures.ends

@@ -52,6 +52,12 @@ returns-clause-told g c =
     with_items_is c.args.devices.now c.run_words.new.all (c.run_words.auto.all ∙ ap length c.deref_mut.ensures.value ∙ sym c.args.devices.now.ok.0) in
     of_input _ (λ ended bytes run. tells ended _ bytes _ _ _ _ _ c.run_words.result (rw (← all) at (rw c.deref_mut.ensures.value at run))) c.run_words.ensures.run
 
+pub returns-clause-aside : goal.returns-clause-aside
+returns-clause-aside g c =
+    let all : (with_items c.args.devices.now c.run_words.new.all).items ≡ c.run_words.new.all =
+    with_items_is c.args.devices.now c.run_words.new.all (c.run_words.auto.all ∙ ap length c.deref_mut.ensures.value ∙ sym c.args.devices.now.ok.0) in
+    λ a. rw (← all) at (rw c.deref_mut.ensures.value at (c.run_words.ensures.aside a))
+
 pub returns-clause-uncalled : goal.returns-clause-uncalled
 returns-clause-uncalled g c =
     let all : (with_items c.args.devices.now c.run_words.new.all).items ≡ c.run_words.new.all =

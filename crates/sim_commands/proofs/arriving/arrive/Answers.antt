@@ -31,5 +31,5 @@ returns-in_default-clause-obeyed g c =
     let staged = staged_at g.D.Device.meaning d c.args.devices.now place c.index_of-at.result c.index.result.now h.fits h.among c.index_of-at.ensures c.index.ensures in
     on_ok r (λ u e.
     obeyed_noted (Arrival place port frame) (notes.Absent place) d c.note.new.driver _
-    (λ es just. if_absent place d.core (JustLooks place port frame es) (staged.plugged ∙ others_closed _ c.in_default.not-Plugged) es just) tt h.fits
+    (λ es just. if_absent place d.desk.now (JustLooks place port frame es) (staged.plugged ∙ others_closed _ c.in_default.not-Plugged) es just) tt h.fits
     (of_ok _ r u e c.note.ensures.asked) (of_ok _ r u e c.note.ensures.fits) (of_ok _ r u e c.note.ensures.rest))

@@ -5,7 +5,7 @@ use Rattle.sim_commands.proofs.Wide.{fits_asked, kept_renewed, through_asked}
 use Rattle.sim_commands.proofs.changing.put_in_force.Goals as goal
 
 pub returns-clause-fits : goal.returns-clause-fits
-returns-clause-fits c =
+returns-clause-fits g c =
     let laws = c.driving_laws.ensures in
     let d = c.args.driver.now in
     let m = c.ask.new.driver in
@@ -13,12 +13,11 @@ returns-clause-fits c =
     let p = c.args.policy in
     let asked = c.in_ok-ask.ensures in
     let reply = c.in_ok-ask.field-0 in
-    let learning = c.learning-learning.result in
-    fits_asked laws d (record m { learning = learning }) (entries.NewPolicy p) reply h.kept
-    (kept_renewed laws d m p reply learning h.kept asked.same asked.step asked.memory c.learning-learning.ensures) h.rest asked.step refl (ap (λ (x : Driver). x.channels.items) asked.same)
+    fits_asked laws d m (entries.NewPolicy p) reply h.kept (kept_renewed laws d m reply h.kept asked.same asked.footing p asked.enters.steps) h.rest asked.enters.steps refl
+    (ap (λ (x : Driver). x.channels.items) asked.same)
 
 pub returns-clause-through : goal.returns-clause-through
-returns-clause-through c =
+returns-clause-through g c =
     let laws = c.driving_laws.ensures in
     let d = c.args.driver.now in
     let m = c.ask.new.driver in
@@ -26,6 +25,5 @@ returns-clause-through c =
     let p = c.args.policy in
     let asked = c.in_ok-ask.ensures in
     let reply = c.in_ok-ask.field-0 in
-    let learning = c.learning-learning.result in
-    through_asked laws d (record m { learning = learning }) (entries.NewPolicy p) reply h.kept
-    (kept_renewed laws d m p reply learning h.kept asked.same asked.step asked.memory c.learning-learning.ensures) h.rest asked.step refl (ap (λ (x : Driver). x.channels.items) asked.same)
+    through_asked laws d m (entries.NewPolicy p) reply h.kept (kept_renewed laws d m reply h.kept asked.same asked.footing p asked.enters.steps) h.rest asked.enters.steps refl
+    (ap (λ (x : Driver). x.channels.items) asked.same)

@@ -19,7 +19,7 @@ returns-in-Plugged-clause-obeyed g c =
     let place = c.args.place in
     let staged = staged_at g.D.Device.meaning d c.args.devices.now place c.index_of-at.result c.index.result.now h.fits h.among c.index_of-at.ensures c.index.ensures in
     on_ok c.note.result (λ u e.
-    obeyed_noted (Plug place) (notes.Present place) d c.note.new.driver _ (plugs_present place d.core (staged.plugged ∙ ap is_plugged_in c.in-Plugged.is)) tt h.fits
+    obeyed_noted (Plug place) (notes.Present place) d c.note.new.driver _ (plugs_present place d.desk.now (staged.plugged ∙ ap is_plugged_in c.in-Plugged.is)) tt h.fits
     (of_ok _ c.note.result u e c.note.ensures.asked) (of_ok _ c.note.result u e c.note.ensures.fits) (of_ok _ c.note.result u e c.note.ensures.rest))
 
 pub returns-in-Left-clause-obeyed : goal.returns-in-Left-clause-obeyed
@@ -31,7 +31,7 @@ returns-in-Left-clause-obeyed g c =
     let r = c.note-in-Left.result in
     on_ok r (λ u e.
     obeyed_noted (Plug place) (notes.GoneAlready place) d c.note-in-Left.new.driver _
-    (plugs_gone place d.core (staged.plugged ∙ ap is_plugged_in c.in-Left.is) (staged.opened ∙ ap was_plugged_in c.in-Left.is)) tt h.fits
+    (plugs_gone place d.desk.now (staged.plugged ∙ ap is_plugged_in c.in-Left.is) (staged.opened ∙ ap was_plugged_in c.in-Left.is)) tt h.fits
     (of_ok _ r u e c.note-in-Left.ensures.asked) (of_ok _ r u e c.note-in-Left.ensures.fits) (of_ok _ r u e c.note-in-Left.ensures.rest))
 
 pub returns-in_ok-open-in-Unplugged-clause-rest : goal.returns-in_ok-open-in-Unplugged-clause-rest
@@ -55,5 +55,5 @@ returns-in_ok-open-in-Unplugged-clause-obeyed g c =
     let staged = staged_at g.D.Device.meaning d c.args.devices.now place c.index_of-at.result c.index.result.now h.fits h.among c.index_of-at.ensures c.index.ensures in
     on_ok r (λ u e.
     obeyed_done (Plug place) (entries.Open place) d c.open.new.driver _ c.deliver.new.self _
-    (plugs_now place d.core (staged.plugged ∙ ap is_plugged_in c.in-Unplugged.is) (staged.opened ∙ ap was_plugged_in c.in-Unplugged.is)) h.fits
+    (plugs_now place d.desk.now (staged.plugged ∙ ap is_plugged_in c.in-Unplugged.is) (staged.opened ∙ ap was_plugged_in c.in-Unplugged.is)) h.fits
     c.in_ok-open-in-Unplugged.ensures.asked (of_ok _ r u e done.carried) (of_ok _ r u e done.fits) (of_ok _ r u e (returns-in_ok-open-in-Unplugged-clause-rest g c)))

@@ -9,13 +9,13 @@ use Rattle.sim_commands.proofs.Places.{fits_but}
 use Rattle.sim_commands.proofs.plugging.unplug.Goals as goal
 
 pub returns-in-Plugged-clause-fits : goal.returns-in-Plugged-clause-fits
-returns-in-Plugged-clause-fits c =
+returns-in-Plugged-clause-fits g c =
     let r = c.close.result in
     on_ok r (λ u e devices fits.
     (let changes = of_ok _ r u e c.close.ensures.changes in fits_but c.args.driver.now c.close.new.driver c.index_of-at.result devices changes.kept changes.channels fits))
 
 pub returns-in-Plugged-clause-obeyed : goal.returns-in-Plugged-clause-obeyed
-returns-in-Plugged-clause-obeyed c =
+returns-in-Plugged-clause-obeyed g c =
     let r = c.close.result in
     let d = c.args.driver.now in
     let h = c.requires in
@@ -23,11 +23,11 @@ returns-in-Plugged-clause-obeyed c =
     let staged = staged_there d place c.index_of-at.result c.index.result.now h.kept h.among c.index_of-at.ensures c.index.ensures in
     on_ok r (λ u e devices fits.
     obeyed_asked (Unplug place) (entries.Gone place false) d c.close.new.driver devices
-    (λ es just. if_plugged place d.core es (JustEnters (entries.Gone place false) es) (staged.plugged ∙ ap is_plugged_in c.in-Plugged.is) just) fits
-    (of_ok _ r u e c.close.ensures.asked) (of_ok _ r u e (returns-in-Plugged-clause-fits c) devices fits) (of_ok _ r u e c.close.ensures.rest))
+    (λ es just. if_plugged place d.desk.now es (JustEnters (entries.Gone place false) es) (staged.plugged ∙ ap is_plugged_in c.in-Plugged.is) just) fits
+    (of_ok _ r u e c.close.ensures.asked) (of_ok _ r u e (returns-in-Plugged-clause-fits g c) devices fits) (of_ok _ r u e c.close.ensures.rest))
 
 pub returns-in_default-clause-obeyed : goal.returns-in_default-clause-obeyed
-returns-in_default-clause-obeyed c =
+returns-in_default-clause-obeyed g c =
     let r = c.note.result in
     let d = c.args.driver.now in
     let h = c.requires in
@@ -35,5 +35,5 @@ returns-in_default-clause-obeyed c =
     let staged = staged_there d place c.index_of-at.result c.index.result.now h.kept h.among c.index_of-at.ensures c.index.ensures in
     on_ok r (λ u e devices fits.
     obeyed_noted (Unplug place) (notes.Absent place) d c.note.new.driver devices
-    (λ es just. if_absent place d.core (JustEnters (entries.Gone place false) es) (staged.plugged ∙ others_closed _ c.in_default.not-Plugged) es just) tt fits
+    (λ es just. if_absent place d.desk.now (JustEnters (entries.Gone place false) es) (staged.plugged ∙ others_closed _ c.in_default.not-Plugged) es just) tt fits
     (of_ok _ r u e c.note.ensures.asked) (of_ok _ r u e c.note.ensures.fits) (of_ok _ r u e c.note.ensures.rest))

@@ -5,8 +5,10 @@ use Rattle.maple_base.specs.Counts.{HasRisen}
 use Rattle.script_text.specs.Lines.{ended_lines}
 use Rattle.script_text.specs.Orders.{orders_of, refused_from}
 use Rattle.script_text.specs.Steps.{order_with}
-use Rattle.sim_driver.specs.Passes.{given_to}
-use Rattle.sim_driver.proofs.Going.{Known, broken_off, cut_off, first_refused, followed, none_refused, unwritten, went_further, went_none}
+use Rattle.sim_steps.specs.Benches.{Bench}
+use Rattle.sim_driver.specs.declared.drive.SimEnd.{SimEnd}
+use Rattle.sim_driver.specs.Passes.{EndsAt, given_at}
+use Rattle.sim_driver.proofs.Going.{Known, broken_off, first_refused, followed, marked_hall, none_refused, stopped, went_further, went_none}
 use Rattle.sim_driver.proofs.drive.run_lines.Goals as goal
 
 pub overflow_cast-places : goal.overflow_cast-places
@@ -16,17 +18,19 @@ overflow_cast-places g c =
 pub loop-rest-init : goal.loop-rest-init
 loop-rest-init g c =
     let devices = map g.D.Device.meaning c.args.devices.now in
-    let given = given_to c.args.driver.now devices c.args.script.now c.args.first in
+    let given = given_at c.args.driver.now.desk devices c.args.script.now c.args.first in
     let known : Known given = record {
       history = c.agreeing_laws.ensures.history;
       told = c.agreeing_laws.ensures.report;
       agree = c.agreeing_laws.ensures.agree;
       world = c.world_law.ensures;
+      past = c.past_law.ensures;
       ranges = c.requires.opened.ranges;
       idle = c.requires.opened.idle;
     } in
     record {
       ready = c.requires.opened.ready;
+      same = record { place = refl; start = refl; parts = refl };
       went =
           went_none given (length c.args.devices.now) (g.O.Sink.tells c.args.to.now) c.args.driver.now devices known (length-map c.args.devices.now g.D.Device.meaning) c.requires.opened.opening;
       spared = refl;
@@ -48,6 +52,7 @@ loop-rest-preserved g c = record {
   went =
       went_further (g.O.Sink.tells c.follow.new.to) c.follow.new.driver (map g.D.Device.meaning c.follow.new.all) (order_with c.in-Ok.next.step c.in-Ok.next.text.now) c.in-Ok.next.passed
       (ended_lines c.in-Ok.next.rest.now) c.loop-rest.invariant.went c.in-Ok.ensures.order c.in-Ok-follow.ensures.follows c.in-Ok-follow.ensures.ready.none_waits;
+  same = marked_hall c.args.driver.now.desk.footing c.loop-rest.driver.desk c.follow.new.driver.desk c.loop-rest.invariant.same c.follow.ensures.marked;
   spared = c.in-Ok-follow.ensures.spared (λ e. cc) ∙ c.loop-rest.invariant.spared;
   numbers = omega (arith, c.loop-rest.invariant.numbers, c.in-Ok.ensures.within);
 }
@@ -82,23 +87,6 @@ returns-in-Err-NoMemory-clause-ends g c = broken_off c.loop-rest.invariant.went
 pub returns-in-Err-NoMemory-clause-spared : goal.returns-in-Err-NoMemory-clause-spared
 returns-in-Err-NoMemory-clause-spared g c = λ n. c.loop-rest.invariant.spared
 
-pub returns-in-Err-Failed-clause-ends : goal.returns-in-Err-Failed-clause-ends
-returns-in-Err-Failed-clause-ends g c =
-    unwritten c.loop-rest.invariant.went (rw c.in-Err-Failed.field-0-is at c.in-Err-Failed.ensures.follows) c.in-Ok.ensures.order
-
-pub returns-in-Err-Failed-clause-fault : goal.returns-in-Err-Failed-clause-fault
-returns-in-Err-Failed-clause-fault g c =
-    λ e. subst (λ n. HasRisen n (g.O.Sink.tells c.follow.new.to).failed) c.loop-rest.invariant.spared (c.follow.ensures.cause (c.in-Err-Failed.is ∙ ap Err c.in-Err-Failed.field-0-is))
-
-pub returns-in-Err-NoMemory-follow-clause-ends : goal.returns-in-Err-NoMemory-follow-clause-ends
-returns-in-Err-NoMemory-follow-clause-ends g c =
-    cut_off c.loop-rest.invariant.went (rw c.in-Err-NoMemory-follow.field-0-is at c.in-Err-NoMemory-follow.ensures.follows) c.in-Ok.ensures.order
-
-pub returns-in-Err-NoMemory-follow-clause-spared : goal.returns-in-Err-NoMemory-follow-clause-spared
-returns-in-Err-NoMemory-follow-clause-spared g c =
-    let stop = c.in-Err-NoMemory-follow.is ∙ ap Err c.in-Err-NoMemory-follow.field-0-is in
-    λ n. c.follow.ensures.spared (λ e. let other = sym stop ∙ e in cc) ∙ c.loop-rest.invariant.spared
-
 pub returns-clause-ends : goal.returns-clause-ends
 returns-clause-ends g c =
     let ended : c.loop-rest.rest.now ≡ [] = nil_from_length c.loop-rest.rest.now (search rules) in
@@ -111,3 +99,13 @@ returns-clause-done g c =
 
 pub returns-clause-spared : goal.returns-clause-spared
 returns-clause-spared g c = λ n. c.loop-rest.invariant.spared
+
+pub returns-in-Err-clause-ends : goal.returns-in-Err-clause-ends
+returns-in-Err-clause-ends g c =
+    let given = given_at c.args.driver.now.desk (map g.D.Device.meaning c.args.devices.now) c.args.script.now c.args.first in
+    let after = map g.D.Device.meaning c.follow.new.all in
+    let to = g.O.Sink.tells c.follow.new.to in
+    let start = c.loop-rest.invariant.same.start ∙ c.requires.opened.start ∙ ap (λ (b : Bench). b.machine) c.requires.opened.opening in
+    subst (λ (end : SimEnd). EndsAt end given c.follow.new.driver.desk after (g.O.Sink.tells c.args.to.now) to) (sym c.end_of.ensures) (
+    stopped c.loop-rest.invariant.went c.follow.new.driver c.law.ensures c.follow.ensures.marked start to after c.in-Ok.next.step c.in-Ok.next.text.now c.in-Ok.next.passed
+    (ended_lines c.in-Ok.next.rest.now) c.in-Err.stop (rw c.in-Err.is at c.follow.ensures.follows) c.in-Ok.ensures.order)

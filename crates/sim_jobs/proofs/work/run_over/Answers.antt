@@ -10,7 +10,7 @@ use Rattle.sim_jobs.proofs.work.run_over.Goals as goal
 
 pub returns-in-None-clause-cells : goal.returns-in-None-clause-cells
 returns-in-None-clause-cells c =
-    not_stale (cell_in c.args.core.now.scene) c.args.known.now c.in-Ok.run'.cells c.requires.current c.in-Ok.ensures.cells
+    not_stale (cell_in c.args.desk.now.now.scene) c.args.known.now c.in-Ok.run'.cells c.requires.current c.in-Ok.ensures.cells
     (ap (first_unknown c.args.known.now) (sym (c.items.ensures ∙ c.cells.ensures)) ∙ sym c.first_unknown.ensures ∙ c.in-None.is)
 
 pub returns-in-Some-clause-unknown : goal.returns-in-Some-clause-unknown
@@ -23,5 +23,5 @@ returns-in-Some-clause-asked c = λ cell e.
     let same : c.in-Some.cell ≡ cell = cc in
     let known = c.args.known.now in
     let item = c.args.item.now in
-    asked_too (through (meaning (tree_of c.args.policy.now.body) c.args.budget item.switch) nothing) item.key (cell_in c.args.core.now.scene) known cell c.requires.current
+    asked_too (through (meaning (tree_of c.args.policy.now.body) c.args.budget item.switch) nothing) item.key (cell_in c.args.desk.now.now.scene) known cell c.requires.current
     (ap (first_unknown known) (sym (c.items.ensures ∙ c.cells.ensures ∙ c.in-Ok.ensures.asked)) ∙ sym c.first_unknown.ensures ∙ c.in-Some.is ∙ ap Some same)

@@ -1,4 +1,4 @@
-use Rattle.std.proofs.Common.{◌≡◌, ◌+◌, ℕ, map, refl, sym, subst, inl, inr, arith}
+use Rattle.std.proofs.Common.{◌≡◌, ◌+◌, ℕ, map, refl, sym, ◌∙◌, subst, inl, inr, arith}
 use Rattle.machine_steps.specs.declared.note.Note.TheVariants as notes
 use Rattle.script_text.specs.Orders.Order.{Settle}
 use Rattle.sim_steps.specs.Parts.{EndsSettling, IsLowestTurn, most_turns}
@@ -27,6 +27,7 @@ loop-at-preserved g c =
     record {
       fits = h.fits;
       rest = h.rest;
+      footing = h.footing ∙ c.loop-at.invariant.footing;
       some = subst (λ (n : ℕ). TakesSome IsLowestTurn (c.loop-at.taken + n) a d) (sym c.dealt.ensures.dealt)
           (takes_more IsLowestTurn c.loop-at.taken a b d place turned c.loop-at.invariant.some h.taken is);
       most = omega arith;

@@ -1,4 +1,4 @@
-use Rattle.std.proofs.Common.{◌+◌, ◌-◌, ◌≤◌, map}
+use Rattle.std.proofs.Common.{◌≡◌, ◌+◌, ◌-◌, ◌≤◌, map}
 use Rattle.sim_steps.specs.Parts.{IsLowestTurn, most_turns}
 use Rattle.sim_channels.specs.Channels.{Fits, bench}
 use Rattle.sim_channels.specs.Waiting.{IsAtRest}
@@ -9,6 +9,7 @@ abbrev pub invariant-loop-at : goal.invariant-loop-at
 invariant-loop-at g l = record {
   fits : Fits l.driver (map g.D.Device.meaning l.devices);
   rest : IsAtRest l.driver;
+  footing : l.driver.desk.footing ≡ l.fn.driver.desk.footing;
   some : TakesSome IsLowestTurn l.taken (bench l.fn.driver (map g.D.Device.meaning l.fn.devices)) (bench l.driver (map g.D.Device.meaning l.devices));
   most : l.taken ≤ most_turns;
 }

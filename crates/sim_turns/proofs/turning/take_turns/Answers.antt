@@ -1,4 +1,4 @@
-use Rattle.std.proofs.Common.{◌+◌, ℕ, map, sym, subst, arith}
+use Rattle.std.proofs.Common.{◌+◌, ℕ, map, sym, ◌∙◌, subst, arith}
 use Rattle.sim_steps.specs.Parts.{IsTurnAt}
 use Rattle.sim_channels.specs.Channels.{bench}
 use Rattle.sim_turns.specs.Taking.{TakesSome}
@@ -17,6 +17,7 @@ loop-taken-preserved g c =
     record {
       fits = h.fits;
       rest = h.rest;
+      footing = h.footing ∙ c.loop-taken.invariant.footing;
       some = subst (λ (n : ℕ). TakesSome (IsTurnAt place) (c.loop-taken.taken + n) a d) (sym c.dealt.ensures.dealt)
           (takes_more (IsTurnAt place) c.loop-taken.taken a b d place turned c.loop-taken.invariant.some h.taken (turn_at_place place turned b d h.taken));
       most = omega arith;

@@ -3,7 +3,7 @@ use Rattle.history_lock.specs.Passes.{hall, known}
 use Rattle.machine_steps.specs.Admitting.{Admits}
 use Rattle.machine_desk.specs.Desks.{DeskView, Enters, view_by}
 use Rattle.machine_desk.proofs.Admitted.{admitted}
-use Rattle.machine_desk.proofs.Entering.{enters, is_desk, is_told}
+use Rattle.machine_desk.proofs.Entering.{enters, is_desk, is_marked, is_told}
 use Rattle.machine_desk.proofs.desk.Desk.enter.Goals as goal
 
 pub call-requires-clause-admitted : goal.call-requires-clause-admitted
@@ -29,6 +29,7 @@ invariant_of-self g c =
         is_desk laws old new start worn c.args.entry c.in-Ok.reply c.self.invariant.1.0 stays.1 made c.call.ensures.leads c.if-self.false,
         record { learning_is = cc; budget_is = told.budget_is },
       ),
+      is_marked laws old new start worn c.args.entry c.in-Ok.reply c.self.invariant.1.0 stays.1 made (known c.self.inside.mark.value) c.self.invariant.2,
     )
 
 pub returns-in-Ok-clause-ok : goal.returns-in-Ok-clause-ok
@@ -38,7 +39,7 @@ returns-in-Ok-clause-ok g c =
     let start = c.self.inside.start.value in
     let worn = c.self.inside.worn in
     let stays = c.call.ensures.stays in
-    let P : DeskView → Type 0 = λ a. Enters a c.args.entry c.in-Ok.reply (view_by (hall c.call.new.pass) new start worn) in
+    let P : DeskView → Type 0 = λ a. Enters a c.args.entry c.in-Ok.reply (view_by (hall c.call.new.pass) new (known c.self.inside.mark.value) start worn) in
     subst P c.self.view_is (
     enters c.desk_laws.ensures old new start worn c.args.entry c.in-Ok.reply c.self.invariant.1.0 stays.1 c.in-Ok.ensures.ok (hall c.self.inside.pass)
-    (hall c.call.new.pass) (stays.0 ∙ sym c.self.invariant.0) stays.2)
+    (hall c.call.new.pass) (known c.self.inside.mark.value) (stays.0 ∙ sym c.self.invariant.0) stays.2)

@@ -7,7 +7,7 @@ pub loop-at-preserved : goal.loop-at-preserved
 loop-at-preserved g c =
     let h = c.in_ok-deliver.ensures in
     delivers_next c.driving_laws.ensures c.loop-at.at c.args.self.now (map g.D.Device.meaning c.args.devices.now) c.loop-at.self (map g.D.Device.meaning c.loop-at.devices) c.deliver.new.self
-    (map g.D.Device.meaning c.deliver.new.devices) c.loop-at.invariant h.fits h.carried h.taken h.offered h.heard h.others h.jobs
+    (map g.D.Device.meaning c.deliver.new.devices) c.loop-at.invariant h.fits h.carried h.taken h.offered h.heard h.others h.jobs h.footing
 
 pub returns-clause-rest : goal.returns-clause-rest
 returns-clause-rest g c =

@@ -1,3 +1,4 @@
+use Rattle.std.proofs.Common.{◌∙◌}
 use Rattle.sim_channels.proofs.Offered.{reads, told}
 use Rattle.sim_channels.proofs.driver.Driver.offer_next.Goals as goal
 
@@ -8,9 +9,6 @@ offer_first-requires g c =
     c.requires.some c.requires.within c.index_mut.ensures.value in
     record { some = h.some; can = h.can; waiting = h.waiting }
 
-pub returns-in_default : goal.returns-in_default
-returns-in_default g c = record { done = tt; goes_on = tt }
-
 pub leave-requires : goal.leave-requires
 leave-requires g c =
     let h =
@@ -18,7 +16,8 @@ leave-requires g c =
     c.in_ok-failed.failed c.connection_of.result c.requires.fits
     (reads g.D.Device.meaning c.args.devices.now c.args.at c.index-devices-at.result c.args.self.now c.index_mut.result.now c.requires.fits c.requires.plugged c.requires.can
     c.requires.some c.requires.within c.index_mut.ensures.value)
-    c.requires.within c.in_ok-failed.ensures c.enter.ensures.rest c.connection_of.ensures c.in-Done.ensures.step in
+    c.requires.within c.in_ok-failed.ensures c.enter.ensures.rest c.enter.ensures.footing c.connection_of.ensures
+    c.in_ok-enter.field-0 c.in-Done.is c.in_ok-enter.ensures.enters in
     record { kept = h.kept; plugged = h.plugged }
 
 pub returns-then-failed : goal.returns-then-failed
@@ -28,8 +27,13 @@ returns-then-failed g c =
     c.in_ok-failed.failed c.connection_of.result c.requires.fits
     (reads g.D.Device.meaning c.args.devices.now c.args.at c.index-devices-at.result c.args.self.now c.index_mut.result.now c.requires.fits c.requires.plugged c.requires.can
     c.requires.some c.requires.within c.index_mut.ensures.value)
-    c.requires.within c.in_ok-failed.ensures c.enter.ensures.rest c.connection_of.ensures c.in-Done.ensures.step in
-    record { done = h.left c.if-failed.true c.leave.new.self c.leave.ensures; goes_on = c.leave.ensures.left }
+    c.requires.within c.in_ok-failed.ensures c.enter.ensures.rest c.enter.ensures.footing c.connection_of.ensures
+    c.in_ok-enter.field-0 c.in-Done.is c.in_ok-enter.ensures.enters in
+    record {
+      done = h.left c.if-failed.true c.leave.new.self c.in_ok-leave.ensures.leaves;
+      goes_on = c.in_ok-leave.ensures.leaves.left;
+      footing = c.leave.ensures.footing ∙ c.enter.ensures.footing;
+    }
 
 pub returns : goal.returns
 returns g c =
@@ -38,5 +42,6 @@ returns g c =
     c.in_ok-failed.failed c.connection_of.result c.requires.fits
     (reads g.D.Device.meaning c.args.devices.now c.args.at c.index-devices-at.result c.args.self.now c.index_mut.result.now c.requires.fits c.requires.plugged c.requires.can
     c.requires.some c.requires.within c.index_mut.ensures.value)
-    c.requires.within c.in_ok-failed.ensures c.enter.ensures.rest c.connection_of.ensures c.in-Done.ensures.step in
-    record { done = h.taken c.if-failed.false c.requires.taken; goes_on = h.goes_on c.if-failed.false }
+    c.requires.within c.in_ok-failed.ensures c.enter.ensures.rest c.enter.ensures.footing c.connection_of.ensures
+    c.in_ok-enter.field-0 c.in-Done.is c.in_ok-enter.ensures.enters in
+    record { done = h.taken c.if-failed.false c.requires.taken; goes_on = h.goes_on c.if-failed.false; footing = c.enter.ensures.footing }

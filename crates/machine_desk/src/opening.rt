@@ -1,0 +1,65 @@
+// A hall is opened, and the desk in it.
+ghost use Rattle.std.specs.Prelude.{◌≡◌, ◌≤◌, IfOk, length};
+ghost use Rattle.history_lock.specs.Passes.{IsPassOf, number, parts, seen};
+ghost use Rattle.machine_steps.specs.Sound.{AreInRange};
+ghost use Rattle.machine_desk.specs.Openings.{IsAhead, IsMachineOf};
+
+use core_machine::Core;
+use history_lock::{Hall, Pass};
+use machine_steps::machine_laws;
+use maple_base::{NoMemory, Settings};
+use policy_lang::Policy;
+use std::alloc::Global;
+use std::snapshot::Snapshot;
+
+/// What the desk of a hall is made of.
+#[derive(Drop)]
+pub struct Opening {
+    pub pass: Pass<Core>,
+    pub start: Snapshot<Core>,
+    pub learning: bool,
+    pub budget: u32,
+}
+
+/// A hall of the machine ahead of its first entry, with this policy and these settings, and what its desk is made of.
+///
+/// # Errors
+///
+/// `NoMemory`.
+pub fn open_hall(
+    alloc: Global,
+    policy: Policy,
+    settings: Settings,
+) -> Result<(Hall<Core>, Opening), NoMemory>
+    requires ranges { AreInRange settings }
+    ensures hall { IfOk result (λ r. IsPassOf r.0 r.1.pass) }
+    ensures ahead { IfOk result (λ r. IsAhead r.1) }
+    ensures machine { IfOk result (λ r. IsMachineOf policy settings r.1) }
+{
+    machine_laws();
+    let learning = policy.learning();
+    let budget = settings.budget;
+    let core = Core::new(alloc, policy, settings)?;
+    let start = Snapshot::of(&core);
+    match Hall::open(alloc, core) {
+        Ok((hall, pass)) => {
+            let opening = Opening {
+                pass,
+                start,
+                learning,
+                budget,
+            };
+            Ok((hall, opening))
+        }
+        Err(_) => Err(NoMemory),
+    }
+}
+
+/// Closes a hall, with the pass that its desk gave back. It has as many entries as a call read, or more.
+pub fn close_hall(hall: Hall<Core>, pass: Pass<Core>)
+    requires hall { IsPassOf hall pass }
+    requires all { parts pass ≡ 1024 }
+    ensures enough { number pass ≤ length (seen pass) }
+{
+    hall.close(pass);
+}
