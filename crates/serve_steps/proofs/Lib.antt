@@ -1,0 +1,7 @@
+mod Control
+mod Fronts
+mod Heard
+mod Others
+mod Reports
+mod Sends
+mod States

@@ -1,0 +1,68 @@
+-- Runs at other ends, and ends that are none.
+use Rattle.std.proofs.Common.{◌≡◌, ℕ, true, false, List, [], ◌∷◌, Some, None, refl, inl, inr}
+use Rattle.std.specs.Fmt.{digits}
+use Rattle.report_text.specs.declared.line.ScriptRefusal.{ScriptRefusal}
+use Rattle.report_text.specs.declared.line.ScriptRefusal.TheVariants.{Grammar}
+use Rattle.maple_io.specs.declared.act.Act.{Act}
+use Rattle.serve_steps.specs.Parts.{deeds_of}
+use Rattle.serve_steps.specs.Runs.{report}
+use Rattle.serve_tries.specs.Row.{first_row, part1, part2}
+use Rattle.serve_tries.specs.Ends.{DoneTooSoon, FirstFails, GoesOn, PassesOver, RefusesNone, StartFails, StartsBehindQuit, ThirdFails, Unwritten, WriteFails}
+use Rattle.serve_tries.proofs.Row.{first_is, part1_is, part2_is}
+
+pub start_fails : StartFails
+start_fails p s = record { ahead = tt; last = (record { asked = tt; memory = refl }, refl, tt, inl refl); not_ended = refl; text_is = refl }
+
+pub first_fails : FirstFails
+first_fails p s = record { ahead = tt; last = (record { asked = tt; memory = refl }, refl, (refl, tt), inr refl); not_ended = refl; text_is = refl }
+
+one_is : digits 10 false 1 ≡ 49 ∷ []
+unfolding digits
+one_is = refl
+
+pub third_fails : ThirdFails
+third_fails p s = record {
+  ahead = (part1_is p s, first_is p s);
+  last = ((part2_is p s).asked, (part2_is p s).free);
+  not_ended = refl;
+  text_is = rw one_is refl;
+}
+
+pub write_fails : WriteFails
+write_fails p s = record { ahead = (part1_is p s, first_is p s); front = (report (deeds_of first_row (part2 p s ∷ part1 p s ∷ [])), refl) }
+
+never : false ≡ true → ⊥
+never e = absurd (cc)
+
+ever : true ≡ false → ⊥
+ever e = absurd (cc)
+
+pub done_too_soon : DoneTooSoon
+done_too_soon p s text is = never is.ended
+
+pub goes_on : GoesOn
+goes_on p s text is = ever is.all.0.asked.goes_on
+
+begins : (x : ℕ) (xs : List ℕ) → [] ≡ x ∷ xs → ⊥
+begins x xs e = absurd (cc)
+
+pub unwritten : Unwritten
+unwritten p s is = begins 111 _ is.text_is
+
+some_is : (n : ℕ × ScriptRefusal) → Some n ≡ None → ⊥
+some_is n e = absurd (cc)
+
+none_is : (n : ℕ × ScriptRefusal) → None ≡ Some n → ⊥
+none_is n e = absurd (cc)
+
+pub passes_over : PassesOver
+passes_over p s text is = some_is (4, Grammar) is.all.none_refused
+
+pub refuses_none : RefusesNone
+refuses_none p s line text is = none_is (line, Grammar) is.refused
+
+starts : (a : Act) (rest : List Act) → a ∷ rest ≡ [] → ⊥
+starts a rest e = absurd (cc)
+
+pub starts_behind_quit : StartsBehindQuit
+starts_behind_quit p s text is = starts _ _ is.all.started

@@ -1,0 +1,6 @@
+mod Ends
+mod Lines
+mod More
+mod Row
+mod Whole
+mod Wrong
