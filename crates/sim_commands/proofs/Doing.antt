@@ -1,8 +1,6 @@
 -- What is done of an order, and what that brings about, is the order's part.
-use Rattle.std.proofs.Common.{◌≡◌, ℕ, ◌+◌, ◌<◌, true, false, List, length, map, get_or, refl, sym, ap, ◌∙◌, subst, arith}
-use Rattle.std.specs.Prelude.{Some, Result, Ok, Err, OnOk}
-use Rattle.std.proofs.lemmas.List.{length-map}
-use Rattle.std.proofs.lemmas.Option.{slice_get-get_or}
+use Rattle.std.proofs.Common.{◌≡◌, ℕ, ◌+◌, true, false, List, refl, sym, ◌∙◌, subst}
+use Rattle.std.specs.Prelude.{Result, Ok, Err, OnOk}
 use Rattle.device_port.specs.Devices.{Meaning}
 use Rattle.machine_steps.specs.declared.entry.Entry.{Entry}
 use Rattle.machine_steps.specs.declared.entry.Entry.TheVariants as entries
@@ -11,16 +9,15 @@ use Rattle.machine_steps.specs.declared.note.Note.TheVariants as notes
 use Rattle.machine_steps.specs.declared.reply.Reply.TheVariants.{Done}
 use Rattle.machine_steps.specs.Machine.{State, was_opened}
 use Rattle.script_text.specs.Orders.{Order}
-use Rattle.script_text.specs.Steps.{IsAmong}
 use Rattle.sim_steps.specs.Benches.{is_plugged}
 use Rattle.sim_steps.specs.Deeds.{Event, MayNote}
 use Rattle.sim_steps.specs.Parts.{IfPlugged, JustEnters, JustNotes, Obeys, PlugsBy}
 use Rattle.sim_steps.specs.Stretches.{Carried, Obeyed}
-use Rattle.sim_channels.specs.declared.channel.Channel.{Channel}
 use Rattle.sim_channels.specs.declared.channel.Plugging.{Plugging}
 use Rattle.sim_channels.specs.declared.channel.Plugging.TheVariants.{Plugged}
 use Rattle.sim_channels.specs.declared.driver.Driver.{Driver}
 use Rattle.sim_channels.specs.Channels.{Fits, IsKept, IsStaged, bench, is_plugged_in}
+use Rattle.sim_channels.specs.Staging.{HasStage}
 use Rattle.sim_channels.specs.Waiting.{IsAtRest, StaysBut}
 use Rattle.sim_turns.specs.Turning.{AskedOver, FitsStill}
 use Rattle.sim_commands.specs.Commands.{AsksFor}
@@ -38,14 +35,9 @@ of_ok P r x e h = subst (λ s. OnOk s P) e h
 
 -- ---- places
 
-pub staged_there : (d : Driver) (c at : ℕ) (k : Channel) → IsKept d → IsAmong (length d.channels.items) c → c ≡ at + 1 → k ≡ get_or d.channels.items at k → IsStaged c d.desk.now k.stage
-staged_there d c at k kept among place is =
-    let within : at < length d.channels.items = (let few = among.1 in omega arith) in
-    subst (λ n. IsStaged n d.desk.now k.stage) (sym place) (kept.stages at k (slice_get-get_or d.channels.items at k within ∙ ap Some (sym is)))
-
-pub staged_at : {B : Type 0} (f : B → Meaning) (d : Driver) (devices : List B) (c at : ℕ) (k : Channel) → Fits d (map f devices) → IsAmong (length devices) c → c ≡ at + 1
-    → k ≡ get_or d.channels.items at k → IsStaged c d.desk.now k.stage
-staged_at f d devices c at k fits among place is = staged_there d c at k fits.kept (among.0, (let few = among.1 in let same = fits.places ∙ length-map devices f in omega arith)) place is
+pub staged_there : (d : Driver) (c at : ℕ) (stage : Plugging) → IsKept d → c ≡ at + 1 → HasStage at stage d → IsStaged c d.desk.now stage
+staged_there d c at stage kept place h =
+    subst (λ n. IsStaged n d.desk.now stage) (sym place) (subst (λ s. IsStaged (at + 1) d.desk.now s) h.is (kept.stages at h.channel h.there))
 
 pub others_closed : (stage : Plugging) → (stage ≡ Plugged → ⊥) → is_plugged_in stage ≡ false
 others_closed Plugged other = absurd (other refl)

@@ -20,7 +20,7 @@ use Rattle.sim_channels.specs.Waiting.{IsAtRest, IsHeardThrough}
 use Rattle.sim_channels.proofs.Kept.{kept_entry}
 use Rattle.sim_channels.proofs.Plugged.{kept_policy}
 use Rattle.sim_turns.specs.Turning.{FitsStill}
-use Rattle.sim_commands.proofs.Places.{fits_same, taken_still, while_still}
+use Rattle.sim_channels.proofs.Places.{fits_same, taken_still, while_still}
 
 -- a script's update is one that an operator may make
 pub operators : (u : Update) → IsOfLine u → IsOperators u

@@ -85,7 +85,7 @@ pub(crate) fn renew<R: Wait, D: Device>(
     ensures obeyed { OnOk result (ObeyedBy (Order.NewPolicy text.now) driver.old (map D.meaning devices.old) driver.new (map D.meaning devices.new)) }
     ensures footing { driver.new.desk.footing ≡ driver.old.desk.footing }
 {
-    match read_policy(driver.alloc, text) {
+    match read_policy(driver.alloc(), text) {
         Ok(policy) => {
             put_in_force(rt, driver, policy)?;
             driver.deliver_all(rt, devices)

@@ -73,14 +73,12 @@ module _ (d next : Driver) (same : next ≡ record d { desk = next.desk }) (alon
   takes : (bytes : List ℕ) → Enters d.desk TakeReport (Lines bytes) next.desk → TakesReport d next × (bytes ≡ waiting d)
   takes bytes e =
       let entered = enters_alone d.desk next.desk TakeReport (Lines bytes) alone e in
-      let is = text_is bytes entered in (
-        record {
-          same = same;
-          enters = subst (λ (bs : List ℕ). EntersAlone TakeReport (Lines bs) d.desk next.desk) is entered;
-          footing = e.footing;
-        },
-        is,
-      )
+      let is = text_is bytes entered in
+      (record {
+        same = same;
+        enters = subst (λ (bs : List ℕ). EntersAlone TakeReport (Lines bs) d.desk next.desk) is entered;
+        footing = e.footing;
+      }, is)
 
   pub ready_by : (r : Result (Unit {0}) ReportStop) (ds : List Meaning) (old new : SinkView) → ReportsBy r d.desk next.desk old new → Fits d ds → IsAtRest d
       → OnOk r (IsReady next ds)
@@ -128,7 +126,3 @@ module _ (d : Driver) where
 
   pub marked_rests : IsAtRest d → IsAtRest marked
   marked_rests h = record { jobs = h.jobs; taken = h.taken; offered = h.offered; heard = h.heard }
-
--- so what was obeyed from there was obeyed from here
-pub as_before : (d : Driver) (m : DeskView) (ds : List Meaning) (o : Order) (b : Bench) → m ≡ (marked d).desk → Obeyed o (bench (record d { desk = m }) ds) b → Obeyed o (bench d ds) b
-as_before d m ds o b e h = subst (λ (x : DeskView). Obeyed o (bench (record d { desk = x }) ds) b) e h

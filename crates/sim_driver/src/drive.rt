@@ -9,7 +9,6 @@ ghost use Rattle.sim_driver.specs.Passes.{EndsAt, EndsByPass, IsOpened, IsOpenin
 ghost use Rattle.sim_driver.specs.Runs.{Ends, IsAtRefused, given, over, refused_line};
 
 use crate::following::follow;
-use core_machine::Core;
 use device_port::Device;
 use history_lock::{Hall, Pass};
 use machine_desk::{Desk, Opening, ReportStop, close_hall, open_hall};
@@ -20,6 +19,7 @@ use report_text::ScriptRefusal;
 use script_text::{StepStop, next_order};
 use sim_channels::Driver;
 use sim_laws::{agreeing_laws, past_law, world_law};
+use core_machine::Core;
 use std::alloc::Global;
 use std::sync::Wait;
 use std::thread::Threads;
@@ -113,15 +113,7 @@ fn in_hall<R: Wait, D: Device, O: Sink>(
     ensures fault { result ≡ SimEnd.WriteFault → WriteFailed (O.tells to.old) (O.tells to.new) }
     ensures spared { result ≢ SimEnd.WriteFault → NoWriteFailed (O.tells to.old) (O.tells to.new) }
 {
-    let (end, pass) = at_desk(
-        rt,
-        alloc,
-        Desk::new(&hall, opening),
-        script,
-        first,
-        devices,
-        to,
-    );
+    let (end, pass) = at_desk(rt, alloc, Desk::new(&hall, opening), script, first, devices, to);
     close_hall(hall, pass);
     end
 }
@@ -141,21 +133,16 @@ fn at_desk<'h, R: Wait, D: Device, O: Sink>(
     requires idle { AllIdle (map D.meaning devices.old) }
     requires numbers { first + length script.now < 2 ^ 32 }
     ensures hall { (place_of result.1 ≡ desk.entry.footing.place) × (parts result.1 ≡ desk.entry.footing.parts) }
-    ensures ends { EndsByPass result.0 (given_at desk.entry (map D.meaning devices.old) script.now first) desk.entry.footing.start
-        (map D.meaning devices.new) (known result.1) (O.tells to.old) (O.tells to.new) }
+    ensures ends { EndsByPass result.0 (given_at desk.entry (map D.meaning devices.old) script.now first) desk.entry.footing.start (map D.meaning devices.new) (known result.1) (O.tells to.old) (O.tells to.new) }
     ensures done { result.0 ≡ SimEnd.Done → refused_line (length devices.old) first script.now ≡ None }
     ensures script { IsAtRefused result.0 (refused_line (length devices.old) first script.now) }
     ensures fault { result.0 ≡ SimEnd.WriteFault → WriteFailed (O.tells to.old) (O.tells to.new) }
     ensures spared { result.0 ≢ SimEnd.WriteFault → NoWriteFailed (O.tells to.old) (O.tells to.new) }
 {
-    agreeing_laws();
-    world_law();
-    past_law();
     match Driver::new(alloc, desk, devices) {
         Ok(mut driver) => {
             let end = run_lines(rt, alloc, &mut driver, script, first, devices, to);
-            let Driver { desk, .. } = driver;
-            (end, desk.end())
+            (end, driver.into_desk().end())
         }
         Err(desk) => (SimEnd::NoMemory, desk.end()),
     }
@@ -174,8 +161,7 @@ fn run_lines<R: Wait, D: Device, O: Sink>(
     requires opened { IsOpened driver.old (map D.meaning devices.old) }
     requires numbers { first + length script.now < 2 ^ 32 }
     ensures same { SameHall driver.old.desk.footing driver.new.desk.footing }
-    ensures ends { EndsAt result (given_at driver.old.desk (map D.meaning devices.old) script.now first) driver.new.desk
-        (map D.meaning devices.new) (O.tells to.old) (O.tells to.new) }
+    ensures ends { EndsAt result (given_at driver.old.desk (map D.meaning devices.old) script.now first) driver.new.desk (map D.meaning devices.new) (O.tells to.old) (O.tells to.new) }
     ensures done { result ≡ SimEnd.Done → refused_line (length devices.old) first script.now ≡ None }
     ensures script { IsAtRefused result (refused_line (length devices.old) first script.now) }
     ensures fault { result ≡ SimEnd.WriteFault → WriteFailed (O.tells to.old) (O.tells to.new) }
@@ -197,7 +183,7 @@ fn run_lines<R: Wait, D: Device, O: Sink>(
         match follow(rt, driver, devices, next.step, next.text, to) {
             Ok(()) => {}
             Err(stop) => {
-                driver.desk.law();
+                driver.law();
                 return end_of(stop);
             }
         }

@@ -32,11 +32,11 @@ pub(crate) fn follow<R: Wait, D: Device, O: Sink>(
     ensures cause { result ≡ Err stops.Failed → WriteFailed (O.tells to.old) (O.tells to.new) }
     ensures spared { result ≢ Err stops.Failed → NoWriteFailed (O.tells to.old) (O.tells to.new) }
 {
-    driver.desk.mark();
+    driver.mark();
     let Ok(()) = obey(rt, driver, all, step, text) else {
         return Err(stopped(driver));
     };
-    driver.desk.write_report(rt, to)
+    driver.write_report(rt, to)
 }
 
 // Why it was that the driver stopped.
@@ -44,7 +44,7 @@ fn stopped(driver: &Driver<'_>) -> ReportStop
     ensures failed { result ≢ ReportStop.Failed }
     ensures worn { result ≡ ReportStop.Worn → driver.now.desk.worn ≡ true }
 {
-    if driver.desk.is_worn() {
+    if driver.is_worn() {
         ReportStop::Worn
     } else {
         ReportStop::NoMemory

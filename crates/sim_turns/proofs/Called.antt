@@ -19,7 +19,7 @@ use Rattle.sim_channels.specs.declared.channel.Channel.{Channel}
 use Rattle.sim_channels.specs.declared.driver.Driver.{Driver}
 use Rattle.sim_channels.proofs.Slots.{slots_move}
 use Rattle.sim_turns.specs.Taking.{IsTaken, TakesTurnAt, TurnsAt}
-use Rattle.sim_turns.specs.Turning.{Waits}
+use Rattle.sim_channels.specs.Turns.{Waits}
 
 -- ---- by its answer
 

@@ -24,8 +24,9 @@ use Rattle.sim_channels.specs.declared.driver.Driver.{Driver}
 use Rattle.sim_channels.proofs.Keeping.{session_same}
 use Rattle.sim_channels.proofs.Kept.{ChannelAt, channel_at, is_as_long, is_beside, is_there, kept_channel, not_fresh, waiting_but}
 use Rattle.sim_channels.proofs.Slots.{set_beside, set_there}
-use Rattle.sim_turns.specs.Taking.{Appends, ChannelMoves, IsTaken, IsTold, NotesTurn, Tires, ToldOver, TurnsAt}
-use Rattle.sim_turns.specs.Turning.{TakesOne, Waits}
+use Rattle.sim_channels.specs.Turns.{Appends, ChannelMoves, Waits}
+use Rattle.sim_turns.specs.Taking.{IsTaken, IsTold, NotesTurn, Tires, ToldOver, TurnsAt}
+use Rattle.sim_turns.specs.Turning.{TakesOne}
 use Rattle.sim_turns.proofs.Called.{turned_bench, calls_at, dealt_one, is_dealt}
 use Rattle.sim_turns.proofs.Counted.{NoneOpens, count_le}
 use Rattle.sim_channels.proofs.Resting.{rest_is_still}

@@ -8,10 +8,10 @@ use Rattle.sim_channels.specs.declared.driver.Driver.{Driver}
 use Rattle.sim_channels.specs.declared.stopped.Stopped.{Stopped}
 use Rattle.sim_channels.specs.Channels.{IsKept}
 use Rattle.sim_channels.specs.Waiting.{IsOffered, StaysBut}
-use Rattle.sim_turns.specs.Hearing.{KeepsChannels}
-use Rattle.sim_turns.specs.Passes.{HasHeard, Passed, is_state}
-use Rattle.sim_turns.specs.declared.hear.Came.{Came}
-use Rattle.sim_turns.proofs.Passing.{over_none, over_then}
+use Rattle.sim_channels.specs.Hearing.{KeepsChannels}
+use Rattle.sim_channels.specs.Passes.{HasHeard, Passed, is_state}
+use Rattle.sim_channels.specs.declared.hear.Came.{Came}
+use Rattle.sim_channels.proofs.Passing.{over_none, over_then}
 
 heard_none : (here : ℕ) (made : Bool) (driver : Driver) → IsKept driver → driver.desk.now.jobs ≡ [] → IsOffered here driver → HasHeard here made driver driver
 heard_none here made driver kept none offered = record {

@@ -6,8 +6,7 @@ use Rattle.script_text.specs.Lines.{ended_lines}
 use Rattle.script_text.specs.Orders.{orders_of, refused_from}
 use Rattle.script_text.specs.Steps.{order_with}
 use Rattle.sim_steps.specs.Benches.{Bench}
-use Rattle.sim_driver.specs.declared.drive.SimEnd.{SimEnd}
-use Rattle.sim_driver.specs.Passes.{EndsAt, given_at}
+use Rattle.sim_driver.specs.Passes.{given_at}
 use Rattle.sim_driver.proofs.Going.{Known, broken_off, first_refused, followed, marked_hall, none_refused, stopped, went_further, went_none}
 use Rattle.sim_driver.proofs.drive.run_lines.Goals as goal
 
@@ -100,12 +99,12 @@ returns-clause-done g c =
 pub returns-clause-spared : goal.returns-clause-spared
 returns-clause-spared g c = λ n. c.loop-rest.invariant.spared
 
-pub returns-in-Err-clause-ends : goal.returns-in-Err-clause-ends
-returns-in-Err-clause-ends g c =
-    let given = given_at c.args.driver.now.desk (map g.D.Device.meaning c.args.devices.now) c.args.script.now c.args.first in
-    let after = map g.D.Device.meaning c.follow.new.all in
-    let to = g.O.Sink.tells c.follow.new.to in
-    let start = c.loop-rest.invariant.same.start ∙ c.requires.opened.start ∙ ap (λ (b : Bench). b.machine) c.requires.opened.opening in
-    subst (λ (end : SimEnd). EndsAt end given c.follow.new.driver.desk after (g.O.Sink.tells c.args.to.now) to) (sym c.end_of.ensures) (
-    stopped c.loop-rest.invariant.went c.follow.new.driver c.law.ensures c.follow.ensures.marked start to after c.in-Ok.next.step c.in-Ok.next.text.now c.in-Ok.next.passed
-    (ended_lines c.in-Ok.next.rest.now) c.in-Err.stop (rw c.in-Err.is at c.follow.ensures.follows) c.in-Ok.ensures.order)
+pub returns-in-Err-follow-clause-ends : goal.returns-in-Err-follow-clause-ends
+returns-in-Err-follow-clause-ends g c =
+    let start =
+    c.loop-rest.invariant.same.start
+    ∙ c.requires.opened.start
+    ∙ ap (λ (b : Bench). b.machine) c.requires.opened.opening in
+    stopped c.loop-rest.invariant.went c.follow.new.driver c.law.ensures c.follow.ensures.marked start (g.O.Sink.tells c.follow.new.to) (map g.D.Device.meaning c.follow.new.all)
+    c.in-Ok.next.step c.in-Ok.next.text.now c.in-Ok.next.passed (ended_lines c.in-Ok.next.rest.now) c.in-Err-follow.stop
+    (rw c.in-Err-follow.is at c.follow.ensures.follows) c.in-Ok.ensures.order

@@ -1,12 +1,12 @@
 use Rattle.std.proofs.Common.{ap, refl, subst}
 use Rattle.sim_channels.specs.declared.driver.Driver.{Driver}
-use Rattle.sim_turns.specs.Passes.{Takes}
-use Rattle.sim_turns.proofs.Passing.{all_heard, heard_nothing, hears_so, told, written}
-use Rattle.sim_turns.proofs.hear.hear_next.Goals as goal
+use Rattle.sim_channels.specs.Passes.{Takes}
+use Rattle.sim_channels.proofs.Passing.{all_heard, heard_nothing, hears_so, told, written}
+use Rattle.sim_channels.proofs.driver.Driver.hear_next.Goals as goal
 
 pub returns-in_default-clause-passed : goal.returns-in_default-clause-passed
 returns-in_default-clause-passed g c =
-    let old = c.args.driver.now in
+    let old = c.args.self.now in
     let k = c.index_mut.result.now in
     let l = c.next_input.new.channel in
     let at = written c.args.at k l old _ c.requires.within c.index_mut.ensures.value refl refl in
@@ -17,7 +17,7 @@ returns-in_default-clause-passed g c =
 
 pub returns-clause-passed : goal.returns-clause-passed
 returns-clause-passed g c =
-    let old = c.args.driver.now in
+    let old = c.args.self.now in
     let mid = c.enter.new.self in
     let new = c.follow.new.driver in
     let entered = c.in_ok-reply.ensures in

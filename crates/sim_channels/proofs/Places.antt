@@ -15,8 +15,8 @@ use Rattle.sim_channels.specs.Waiting.{IsAtRest, IsHeard, IsOffered, IsTaken, St
 use Rattle.sim_channels.proofs.Keeping.{messages_same}
 use Rattle.sim_channels.proofs.Kept.{plugged_at}
 use Rattle.sim_channels.proofs.Slots.{slots_alike}
-use Rattle.sim_turns.specs.Hearing.{KeepsChannels}
-use Rattle.sim_commands.specs.Commands.{Restages}
+use Rattle.sim_channels.specs.Hearing.{KeepsChannels}
+use Rattle.sim_channels.specs.Staging.{Restages}
 
 -- an index is this one or another
 pub by_index : (at here : ℕ) {P : Type 0} → (at ≡ here → P) → ((at ≡ here → ⊥) → P) → P

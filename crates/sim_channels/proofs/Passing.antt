@@ -41,11 +41,11 @@ use Rattle.sim_channels.proofs.Keeping.{policy_same, reached_sound}
 use Rattle.sim_channels.proofs.Kept.{ChannelAt, all_left, is_as_long, is_beside, is_there, kept_channel, kept_left, not_fresh, plugged_at, plugged_has}
 use Rattle.sim_channels.proofs.Resting.{hears_in_order}
 use Rattle.sim_channels.proofs.Slots.{slot_next, slots_alike, slots_channel, slots_get}
-use Rattle.sim_turns.specs.Passes.{ComesNext, Follows, GoesOn, HasHeard, IsDone, IsLeft, Passed, Takes, came_of, rest_at, rest_in}
-use Rattle.sim_turns.specs.declared.hear.Came.{Came}
-use Rattle.sim_turns.proofs.Answering.{AllBy, behind_along, kept_at_desk}
-use Rattle.sim_turns.proofs.Bytes.{gets_shorter}
-use Rattle.sim_turns.proofs.Replies.{heard_smooth}
+use Rattle.sim_channels.specs.Passes.{ComesNext, Follows, GoesOn, HasHeard, IsDone, IsLeft, Passed, Takes, came_of, rest_at, rest_in}
+use Rattle.sim_channels.specs.declared.hear.Came.{Came}
+use Rattle.sim_channels.proofs.Answering.{AllBy, behind_along, kept_at_desk}
+use Rattle.sim_channels.proofs.Bytes.{gets_shorter}
+use Rattle.sim_channels.proofs.Replies.{heard_smooth}
 
 -- ---- what is carried
 

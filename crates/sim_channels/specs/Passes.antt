@@ -13,9 +13,9 @@ use Rattle.sim_channels.specs.Waiting.{IsHeard, IsOffered, StaysBut}
 use Rattle.sim_channels.specs.declared.channel.Channel.{Channel}
 use Rattle.sim_channels.specs.declared.channel.Plugging.TheVariants.{Plugged, Left}
 use Rattle.sim_channels.specs.declared.driver.Driver.{Driver}
-use Rattle.sim_turns.specs.Hearing.{KeepsChannels}
-use Rattle.sim_turns.specs.declared.hear.Came.{Came}
-use Rattle.sim_turns.specs.declared.hear.Came.TheVariants.{NoMore, Message, State}
+use Rattle.sim_channels.specs.Hearing.{KeepsChannels}
+use Rattle.sim_channels.specs.declared.hear.Came.{Came}
+use Rattle.sim_channels.specs.declared.hear.Came.TheVariants.{NoMore, Message, State}
 
 -- ---- a channel
 
