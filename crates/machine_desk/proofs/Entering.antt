@@ -3,7 +3,7 @@ use Rattle.std.proofs.Common.{◌≡◌, ℕ, Bool, false, List, [], ◌∷◌, 
 use Rattle.atomic_table.specs.Seated.{TableId}
 use Rattle.std.proofs.lemmas.List.{append_assoc}
 use Rattle.history_lock.specs.declared.view.Known.{Known}
-use Rattle.history_lock.specs.Histories.{AreAllowed, Calls, Replays, event, state_behind}
+use Rattle.history_lock.specs.Histories.{AreAllowed, Calls, Replays, StartsWith, event, state_behind}
 use Rattle.history_lock.proofs.States.{replays_end}
 use Rattle.maple_base.specs.declared.decision.Settings.{Settings}
 use Rattle.policy_lang.specs.declared.Policy.{Policy}
@@ -15,7 +15,7 @@ use Rattle.machine_steps.specs.Machine.{State}
 use Rattle.machine_sharing.specs.Between.{Stays}
 use Rattle.machine_sharing.specs.Legal.{turn_of, turns_of}
 use Rattle.machine_sharing.specs.Sharing.{Call, Allows, Turns}
-use Rattle.machine_desk.specs.Desks.{Enters, IsDesk, IsMarked, IsTold, calls_of, turn, view_by}
+use Rattle.machine_desk.specs.Desks.{Enters, IsDesk, IsTold, calls_of, turn, view_by}
 use Rattle.machine_desk.specs.Driving.{DeskLaws}
 use Rattle.machine_desk.proofs.Told.{learning_told, told_by}
 use Rattle.machine_desk.proofs.Turning.{calls_same, nothing_behind, turns_append, turns_length}
@@ -88,7 +88,7 @@ module _ (laws : DeskLaws) (old new : Seen) (start : State) (worn : Bool) (entry
   }
 
   -- what was seen at the mark was seen
-  pub is_marked : (mark : Seen) → IsMarked mark old → IsMarked mark new
+  pub is_marked : (mark : Seen) → StartsWith old.seen mark.seen → StartsWith new.seen mark.seen
   is_marked mark begun = (
     begun.0 ++ (rest ++ event entry reply c.behind ∷ []),
     (

@@ -1,4 +1,6 @@
 pub mod Admitted
+pub mod AtWork
 pub mod Entering
+pub mod Rounds
 pub mod Told
 pub mod Turning

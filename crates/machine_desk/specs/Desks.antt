@@ -55,13 +55,9 @@ pub record IsTold (learning : Bool) (budget : ℕ) (now : State) : Type 0 where
   pub learning_is : learning ≡ now.policy.learning
   pub budget_is : budget ≡ now.settings.budget
 
--- both, of what a pass knows
-abbrev pub IsDriven : Known State Entry Reply → State → Bool → Bool → ℕ → Type 0
-IsDriven k start worn learning budget = IsDesk k start worn × IsTold learning budget (state_behind start k.seen)
-
--- the pass has seen all that it had seen at the mark
-abbrev pub IsMarked : Known State Entry Reply → Known State Entry Reply → Type 0
-IsMarked mark k = StartsWith k.seen mark.seen
+-- both, of what a pass knows, which has seen all that it had seen at the mark
+abbrev pub IsDriven : Known State Entry Reply → Known State Entry Reply → State → Bool → Bool → ℕ → Type 0
+IsDriven mark k start worn learning budget = IsDesk k start worn × IsTold learning budget (state_behind start k.seen) × StartsWith k.seen mark.seen
 
 -- the desk's machine is sound, and its turns are a legal history of the one that it was at first, which begins with those ahead of the mark
 pub record DeskLaw (d : DeskView) : Type 0 where

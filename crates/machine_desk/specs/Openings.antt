@@ -1,16 +1,15 @@
 -- What the desk of a hall is made of.
 use Rattle.std.specs.Prelude.{◌≡◌, [], Some, IsTrue}
-use Rattle.history_lock.specs.Passes.{known, leads, number, opening as begun, own, parts, seen}
+use Rattle.history_lock.specs.Passes.{leads, opening as begun, seen}
 use Rattle.maple_base.specs.declared.decision.Settings.{Settings}
 use Rattle.policy_lang.specs.declared.Policy.{Policy}
 use Rattle.machine_steps.specs.Machine.{opening}
 use Rattle.machine_steps.specs.Sound.{IsSound}
 use Rattle.machine_desk.specs.declared.opening.Opening.{Opening}
 
--- the pass that leads, with all parts, of a hall whose machine was sound and has made no turn
+-- the pass that leads, of a hall whose machine was sound and has made no turn
 pub record IsAhead (o : Opening) : Type 0 where
   pub leads : IsTrue (leads o.pass)
-  pub parts : parts o.pass ≡ 1024
   pub opens : begun o.pass ≡ Some o.start.value
   pub nothing : seen o.pass ≡ []
   pub sound : IsSound o.start.value

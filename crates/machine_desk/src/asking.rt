@@ -1,5 +1,5 @@
 // What an operator orders.
-ghost use Rattle.std.specs.Prelude.{◌≡◌, IfErr, IfOk, OnErr, OnOk};
+ghost use Rattle.std.specs.Prelude.{◌≡◌, IfErr, IfOk, OnOk};
 ghost use Rattle.machine_moves.specs.Told.{is_new_state};
 ghost use Rattle.machine_steps.specs.Admitting.{Admits, IsOperators};
 ghost use Rattle.machine_steps.specs.declared.entry.Entry.TheVariants as entries;

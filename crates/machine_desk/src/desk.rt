@@ -1,22 +1,24 @@
 // Who drives the machine, by the pass that leads.
-ghost use Rattle.std.specs.Prelude.{◌≡◌, ◌^◌, ◌≤◌, [], false, if◌then◌else◌, IfOk, IsTrue, OnErr, OnOk, Some, length, true};
+ghost use Rattle.std.specs.Prelude.{◌≡◌, false, if◌then◌else◌, IfOk, IsTrue, OnErr, OnOk, Some};
 ghost use Rattle.history_lock.specs.Passes.{IsPassOf, hall as place_of, known, leads, number, opening, own, parts, seen};
 ghost use Rattle.machine_moves.specs.Told.{is_new_state};
 ghost use Rattle.machine_steps.specs.Admitting.{Admits};
-ghost use Rattle.machine_steps.specs.Sound.{IsSound};
 ghost use Rattle.machine_sharing.specs.Legal.{turns_of};
 ghost use Rattle.machine_desk.specs.Openings.{IsAhead};
 ghost use Rattle.machine_desk.specs.Desks.{DeskLaw, Enters, WearsOut, learning_behind, view_by};
+ghost use Rattle.machine_desk.specs.Working.{Works};
 
 use crate::laws::desk_laws;
 use crate::opening::Opening;
-use core_machine::{Core, Entry, Reply};
+use core_machine::{Core, Entry, JobItem, Reply};
 use history_lock::{Hall, Pass};
+use packet_workers::{Gate, Worked, work};
+use std::alloc::Global;
 use std::marker::Model;
 use std::snapshot::Snapshot;
 use std::sync::Wait;
 
-/// The hall has room for no further entry: its history has 2^62 of them.
+/// The hall has room for no further entry: its history has 2^62 of them or more.
 #[derive(Clone, Copy, Debug, PartialEq, Eq)]
 pub struct Worn;
 
@@ -39,7 +41,7 @@ impl<'h> Model for Desk<'h> {
     ghost use Rattle.machine_steps.specs.contracts.entry.Entry as entry;
     ghost use Rattle.machine_steps.specs.contracts.reply.Reply as reply;
     ghost use Rattle.history_lock.specs.Passes.{IsPassOf, hall as place_of, known};
-    ghost use Rattle.machine_desk.specs.Desks.{DeskView, IsDriven, IsMarked, view_by};
+    ghost use Rattle.machine_desk.specs.Desks.{DeskView, IsDriven, view_by};
 
     ghost Value = { DeskView };
 
@@ -47,7 +49,7 @@ impl<'h> Model for Desk<'h> {
 
     ghost view = { λ d. view_by (place_of d.pass) (known d.pass) (known d.mark.value) d.start.value d.worn };
 
-    ghost invariant = { λ d. IsPassOf d.hall.now d.pass × IsDriven (known d.pass) d.start.value d.worn d.learning d.budget × IsMarked (known d.mark.value) (known d.pass) };
+    ghost invariant = { λ d. IsPassOf d.hall.now d.pass × IsDriven (known d.mark.value) (known d.pass) d.start.value d.worn d.learning d.budget };
 }
 
 impl<'h> Desk<'h> {
@@ -102,6 +104,34 @@ impl<'h> Desk<'h> {
                 Err(Worn)
             }
         }
+    }
+
+    /// Works on a packet that waits, as `work` of `packet_workers` does. `Worn` from the first time on that the hall is found worn.
+    pub fn work<R: Wait, G: Gate>(
+        &mut self,
+        rt: &R,
+        alloc: Global,
+        item: JobItem,
+        gate: &G,
+    ) -> Worked
+        ensures works { Works item result self.old self.new }
+        ensures footing { self.new.footing ≡ self.old.footing }
+    {
+        desk_laws();
+        if self.worn {
+            return Worked::Worn;
+        }
+        let worked = work(
+            rt,
+            alloc,
+            self.hall,
+            &mut self.pass,
+            self.budget,
+            item,
+            gate,
+        );
+        self.worn = worked == Worked::Worn;
+        worked
     }
 
     /// Marks the turns so far: whatever is done next, the history goes on from here.

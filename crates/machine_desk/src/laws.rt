@@ -1,5 +1,6 @@
 // What holds of the machine and its histories, for the desk.
 ghost use Rattle.machine_desk.specs.Driving.{DeskLaws};
+ghost use Rattle.machine_desk.specs.Working.{RoundsArePlain, RoundsClose};
 
 use machine_moves::reply_laws;
 use machine_sharing::{between_laws, legal_laws, longer_laws};
@@ -13,3 +14,9 @@ pub fn desk_laws()
     longer_laws();
     reply_laws();
 }
+
+/// What the rounds of the work on a packet tell: where memory ran out, and that the packet waits no more.
+pub fn working_laws()
+    ensures plain { RoundsArePlain }
+    ensures close { RoundsClose }
+{}

@@ -3,12 +3,14 @@
 
 pub mod asking;
 pub mod desk;
+pub mod hearing;
 pub mod laws;
 pub mod opening;
 pub mod report;
 
 pub use asking::DeskStop;
 pub use desk::{Desk, Worn};
-pub use laws::desk_laws;
+pub use hearing::{Heard, next_input};
+pub use laws::{desk_laws, working_laws};
 pub use opening::{Opening, close_hall, open_hall};
 pub use report::ReportStop;

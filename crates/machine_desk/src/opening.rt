@@ -34,6 +34,7 @@ pub fn open_hall(
     requires ranges { AreInRange settings }
     ensures hall { IfOk result (λ r. IsPassOf r.0 r.1.pass) }
     ensures ahead { IfOk result (λ r. IsAhead r.1) }
+    ensures parts { IfOk result (λ r. parts r.1.pass ≡ 1024) }
     ensures machine { IfOk result (λ r. IsMachineOf policy settings r.1) }
 {
     machine_laws();

@@ -1,41 +1,23 @@
 -- A delivery at a place, put together, and one place after the other.
-use Rattle.std.proofs.Common.{◌≡◌, ℕ, ◌+◌, ◌<◌, ◌==◌, Bool, true, List, [], length, get_or, refl, sym, ap, ◌∙◌, subst, ⊎_elim, arith}
-use Rattle.std.specs.Prelude.{Some}
-use Rattle.std.specs.List.{slice_get}
+use Rattle.std.proofs.Common.{◌≡◌, ℕ, ◌+◌, ◌<◌, ◌==◌, Bool, true, List, [], length, get_or, sym, ap, ◌∙◌, subst, ⊎_elim, arith}
 use Rattle.std.proofs.lemmas.Bool.{cases_eq, eqb-true}
 use Rattle.std.proofs.lemmas.List.{nil_from_length}
 use Rattle.std.proofs.lemmas.Option.{get_or_from_slice_get, slice_get_within}
 use Rattle.of10_codec.specs.declared.message.Message.{Message}
 use Rattle.device_port.specs.Devices.{Meaning}
-use Rattle.world_steps.specs.Worlds.{messages_for}
 use Rattle.sim_steps.specs.Parts.{IsHeardOut}
 use Rattle.sim_steps.specs.Stretches.{Carried}
-use Rattle.sim_steps.proofs.Joining.{carried_none, carried_then}
+use Rattle.sim_steps.proofs.Joining.{carried_then}
 use Rattle.sim_channels.specs.declared.channel.Channel.{Channel}
-use Rattle.sim_channels.specs.declared.channel.Plugging.TheVariants.{Plugged}
 use Rattle.sim_channels.specs.declared.driver.Driver.{Driver}
-use Rattle.sim_channels.specs.Channels.{CarriedOver, Fits, bench}
-use Rattle.sim_channels.specs.Delivering.{Delivers, GoesOn, IsPluggedIn, MayGoOn, Spares, TakesOut}
+use Rattle.sim_channels.specs.Channels.{Fits, bench}
+use Rattle.sim_channels.specs.Delivering.{Delivers, GoesOn, IsPluggedIn, MayGoOn}
 use Rattle.sim_channels.specs.Driving.{DrivingLaws}
 use Rattle.sim_channels.specs.Waiting.{IsAtRest, IsHeard, IsHeardThrough, IsOffered, IsTaken, StaysBut, WhilePlugged}
 use Rattle.sim_channels.proofs.Keeping.{messages_same}
-use Rattle.sim_channels.proofs.Kept.{none_plugged, plugged_at, spares_none, spares_then, waiting_but}
+use Rattle.sim_channels.proofs.Kept.{plugged_at, spares_then}
 
 -- ---- one place
-
--- what was taken out is a delivery, of which nothing was offered yet
-pub delivers_out : (at : ℕ) (old new : Driver) (ds : List Meaning) → Fits old ds → IsPluggedIn at old → TakesOut at old new → Delivers at old ds new ds
-delivers_out at old new ds fits plugged h = record {
-  fits = record {
-    kept = h.kept;
-    places = h.places ∙ fits.places;
-    waiting = waiting_but old new ds ds at fits h.spares.others.channels (λ n o. refl)
-        (λ k d there is. h.waiting plugged.channel k plugged.there there ∙ fits.waiting at plugged.channel d plugged.there is);
-  };
-  carried = h.carried ds (sym fits.places);
-  spares = h.spares;
-  taken = h.taken;
-}
 
 pub delivers_then : (at : ℕ) (a : Driver) (xs : List Meaning) (b : Driver) (ys : List Meaning) (c : Driver) (zs : List Meaning) → Delivers at a xs b ys → Delivers at b ys c zs → Delivers at a xs c zs
 delivers_then at a xs b ys c zs h k = record {
@@ -80,9 +62,6 @@ pub record DeliversTo (at : ℕ) (old : Driver) (before : List Meaning) (new : D
   pub footing : new.desk.footing ≡ old.desk.footing
   pub taken : (n : ℕ) → n < at → IsTaken n new
 
-pub delivers_none : (old : Driver) (ds : List Meaning) → Fits old ds → IsHeardThrough old → DeliversTo 0 old ds old ds
-delivers_none old ds fits through = record { fits = fits; carried = carried_none (bench old ds); through = through; footing = refl; taken = λ n below. absurd (omega (arith, below)) }
-
 pub delivers_next : DrivingLaws → (at : ℕ) (old : Driver) (before : List Meaning) (mid : Driver) (ds : List Meaning) (new : Driver) (es : List Meaning) → DeliversTo at old before mid ds
     → Fits new es → Carried (bench mid ds) (bench new es) → IsTaken at new → IsOffered at new → (IsHeard at mid → IsHeard at new) → StaysBut at mid new → (mid.desk.now.jobs ≡ [] → new.desk.now.jobs ≡ [])
     → new.desk.footing ≡ mid.desk.footing → DeliversTo (at + 1) old before new es
@@ -105,25 +84,3 @@ delivers_last count old before new after h all = record {
   offered = h.through.offered;
   heard = h.through.heard;
 }
-
--- ---- where no session is open
-
-pub record DeliversNothing (at : ℕ) (driver : Driver) (ds : List Meaning) : Type 0 where
-  pub carried : Carried (bench driver ds) (bench driver ds)
-  pub taken : IsTaken at driver
-  pub offered : IsOffered at driver
-  pub spares : Spares at driver driver
-
-pub delivers_nothing : (at : ℕ) (driver : Driver) (ds : List Meaning) (k : Channel) → slice_get driver.channels.items at ≡ Some k → (k.stage ≡ Plugged → ⊥) → DeliversNothing at driver ds
-delivers_nothing at driver ds k there other = record {
-  carried = carried_none (bench driver ds);
-  taken = none_plugged (λ x. messages_for (at + 1) driver.desk.now ≡ []) at driver k there other;
-  offered = none_plugged (λ (x : Channel). x.to ≡ []) at driver k there other;
-  spares = spares_none at driver;
-}
-
--- ---- without a call of a device
-
-pub carried_over_then : (old mid new : Driver) → length mid.channels.items ≡ length old.channels.items → CarriedOver old mid → CarriedOver mid new → CarriedOver old new
-carried_over_then old mid new long h k devices same =
-    carried_then (bench old devices) (bench mid devices) (bench new devices) (h devices same) (k devices (same ∙ sym long))

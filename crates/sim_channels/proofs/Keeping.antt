@@ -122,9 +122,6 @@ module _ (laws : DrivingLaws) where
     pub policy_same : is_policy entry ≡ false → new.policy ≡ old.policy
     policy_same none = laws.policy old entry reply new steps ∙ same_policy entry reply old.policy none
 
-    pub settings_same : new.settings ≡ old.settings
-    settings_same = (laws.grow old entry reply new steps).settings
-
   -- what waited in the machine for an open session was taken out
   pub nothing_left : (c : ℕ) (old : State) (reply : Reply) (new : State) → IsReached old → Steps old (entries.TakeOut c) reply new → lacks_memory reply ≡ false → is_plugged c old ≡ true
       → messages_for c new ≡ []

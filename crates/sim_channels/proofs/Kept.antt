@@ -1,6 +1,6 @@
 -- What the driver keeps of the machine, behind an entry and where one channel became another.
 use Rattle.std.proofs.Common.{◌≡◌, ℕ, ◌+◌, ◌^◌, ◌<◌, ◌≤◌, true, false, List, length, get_or, set, refl, sym, ap, ◌∙◌, subst, ⊎_elim, arith}
-use Rattle.std.specs.Prelude.{◌&&◌, Some, Result, Ok, Err, OnErr}
+use Rattle.std.specs.Prelude.{◌&&◌, Some}
 use Rattle.std.specs.List.{slice_get}
 use Rattle.std.proofs.lemmas.Bool.{cases_eq}
 use Rattle.std.proofs.lemmas.List.{length-set}
@@ -27,10 +27,6 @@ use Rattle.sim_channels.specs.Waiting.{WhilePlugged}
 use Rattle.sim_channels.proofs.Keeping.{is_opening, is_policy, opened_same, plugged_ends, plugged_same, reached_on, session_same}
 use Rattle.sim_channels.proofs.Making.{may_make}
 use Rattle.sim_channels.proofs.Slots.{set_beside, set_there}
-
-pub on_err : {T E P : Type 0} (r : Result T E) → P → OnErr r P
-on_err (Ok x) p = tt
-on_err (Err e) p = p
 
 -- of the channels this one became another
 pub record ChannelAt (at : ℕ) (k l : Channel) (old new : Driver) : Type 0 where

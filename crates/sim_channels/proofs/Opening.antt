@@ -6,7 +6,6 @@ use Rattle.std.specs.List.{AllByRecursion, slice_get}
 use Rattle.std.specs.Ordering.{nat_cmp}
 use Rattle.std.proofs.lemmas.Option.{none-some, same_Some}
 use Rattle.device_port.specs.Devices.{Meaning}
-use Rattle.machine_desk.specs.Desks.{DeskView}
 use Rattle.machine_steps.specs.Machine.{State, was_opened}
 use Rattle.world_steps.specs.Worlds.{messages_for}
 use Rattle.sim_steps.specs.Benches.{is_plugged, slot_of}
@@ -38,9 +37,6 @@ slots_unused [] (d ∷ ds) e all = absurd (omega (arith, e))
 slots_unused (k ∷ ks) [] e all = absurd (omega (arith, e))
 slots_unused (k ∷ ks) (d ∷ ds) e all =
     ap (λ s. s ∷ slots_of ks ds) (slot_unused k d all.0) ∙ ap (λ ss. slot_of d ∷ ss) (slots_unused ks ds (omega (arith, e)) all.1)
-
-pub nothing_waits : (desk : DeskView) → IsAtStart desk → (c : ℕ) → messages_for c desk.now ≡ []
-nothing_waits desk start c = ap (messages_for c) start.opening
 
 -- a driver at a desk at its start
 pub record IsNewDriver (driver : Driver) (places : ℕ) : Type 0 where

@@ -1,6 +1,14 @@
--- Channels says which bench the driver is with its devices, and what it keeps of each channel; Waiting, what is left to do; Driving, which laws of the
--- machine who drives it rests on. Delivering serves private contracts, but for Leaves and IsPluggedIn, with which leaving a device is said.
+-- Channels says which bench the driver is with its devices, and what it keeps of each channel; Waiting, what is left to do; Hearing, what hearing leaves of
+-- the channels; Staging, the stage of a channel; Turns, in which devices a message waits; Driving, which laws of the machine who drives it rests on. Passes
+-- says what is known behind one message that was heard, Looking, behind a frame that came to a device. Delivering serves private contracts, but for Leaves
+-- and IsPluggedIn, with which leaving a device is said.
+pub mod Answering
 pub mod Channels
 pub mod Delivering
 pub mod Driving
+pub mod Hearing
+pub mod Looking
+pub mod Passes
+pub mod Staging
+pub mod Turns
 pub mod Waiting

@@ -16,11 +16,11 @@ pub enum Plugging {
 /// What lies between the machine and the device at a place (OpenFlow 1.0, 4.1, the channel).
 #[derive(Drop)]
 pub struct Channel {
-    pub stage: Plugging,
+    pub(crate) stage: Plugging,
     /// What was taken out for the device, and wasn't offered to it yet.
-    pub to: Block,
+    pub(crate) to: Block,
     /// What the device appended, behind the messages that were heard.
-    pub from: Reassembly,
+    pub(crate) from: Reassembly,
     /// How many messages wait in the device.
-    pub waiting: u64,
+    pub(crate) waiting: u64,
 }

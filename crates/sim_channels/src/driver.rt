@@ -19,10 +19,10 @@ use std::alloc::Global;
 /// Who drives the machine at its desk, and the devices, which stand at places from 1 on.
 #[derive(Drop)]
 pub struct Driver<'h> {
-    pub alloc: Global,
-    pub desk: Desk<'h>,
+    pub(crate) alloc: Global,
+    pub(crate) desk: Desk<'h>,
     /// Of each place.
-    pub channels: Vec<Channel>,
+    pub(crate) channels: Vec<Channel>,
 }
 
 impl<'h> Driver<'h> {

@@ -1,6 +1,7 @@
 // The machine is given an entry.
-ghost use Rattle.std.specs.Prelude.{◌≡◌, IfOk};
+ghost use Rattle.std.specs.Prelude.{◌≡◌, IfOk, OnErr};
 ghost use Rattle.machine_steps.specs.Admitting.{Admits};
+ghost use Rattle.machine_desk.specs.Desks.{WearsOut};
 ghost use Rattle.sim_channels.specs.Channels.{EntersAlone, IsAlone};
 
 use crate::{Driver, Stopped};
@@ -8,7 +9,7 @@ use core_machine::{Entry, Reply};
 use std::sync::Wait;
 
 impl<'h> Driver<'h> {
-    /// The machine does what an entry asks. All entries are made here.
+    /// The machine does what an entry asks.
     ///
     /// # Errors
     ///
@@ -17,6 +18,7 @@ impl<'h> Driver<'h> {
         requires admits { Admits self.old.desk.now entry }
         requires alone { IsAlone self.old }
         ensures enters { IfOk result (λ reply. EntersAlone entry reply self.old.desk self.new.desk) }
+        ensures worn { OnErr result (WearsOut self.old.desk self.new.desk) }
         ensures rest { self.new ≡ record self.old { desk = self.new.desk } }
         ensures footing { self.new.desk.footing ≡ self.old.desk.footing }
     {

@@ -1,5 +1,5 @@
 // A device that failed is left.
-ghost use Rattle.std.specs.Prelude.{◌≡◌, OnOk};
+ghost use Rattle.std.specs.Prelude.{◌≡◌, OnErr, OnOk, true};
 ghost use Rattle.sim_channels.specs.Channels.{IsKept};
 ghost use Rattle.sim_channels.specs.Delivering.{IsPluggedIn, Leaves};
 
@@ -19,6 +19,7 @@ impl<'h> Driver<'h> {
     pub fn leave<R: Wait>(&mut self, rt: &R, at: usize) -> Result<(), Stopped>
         requires kept { IsKept self.old }
         requires plugged { IsPluggedIn at self.old }
+        ensures worn { OnErr result (self.new.desk.worn ≡ true) }
         ensures leaves { OnOk result (Leaves at self.old self.new) }
         ensures footing { self.new.desk.footing ≡ self.old.desk.footing }
     {

@@ -1,19 +1,25 @@
 //! The driver of the controller's machine and devices, and the channels between the two.
 #![tactic(auto)]
 
+mod calling;
 pub mod channel;
 mod deliver;
+mod desk;
 pub mod driver;
 mod entering;
+pub mod hear;
 pub mod laws;
 mod leaving;
 mod offering;
 mod outbox;
+mod staging;
 mod stopped;
 mod taking;
+mod waiting;
 
 pub use channel::{Channel, Plugging};
 pub use driver::Driver;
+pub use hear::Came;
 pub use laws::driving_laws;
 pub use outbox::connection_of;
 pub use stopped::Stopped;

@@ -1,8 +1,6 @@
 -- What is done of an order, and what that brings about, is the order's part.
-use Rattle.std.proofs.Common.{◌≡◌, ℕ, ◌+◌, ◌<◌, true, false, List, length, map, get_or, refl, sym, ap, ◌∙◌, subst, arith}
-use Rattle.std.specs.Prelude.{Some, Result, Ok, Err, OnOk}
-use Rattle.std.proofs.lemmas.List.{length-map}
-use Rattle.std.proofs.lemmas.Option.{slice_get-get_or}
+use Rattle.std.proofs.Common.{◌≡◌, ℕ, ◌+◌, true, false, List, refl, sym, ◌∙◌, subst, inl, inr}
+use Rattle.std.specs.Prelude.{Result, Ok, Err, OnOk}
 use Rattle.device_port.specs.Devices.{Meaning}
 use Rattle.machine_steps.specs.declared.entry.Entry.{Entry}
 use Rattle.machine_steps.specs.declared.entry.Entry.TheVariants as entries
@@ -11,21 +9,20 @@ use Rattle.machine_steps.specs.declared.note.Note.TheVariants as notes
 use Rattle.machine_steps.specs.declared.reply.Reply.TheVariants.{Done}
 use Rattle.machine_steps.specs.Machine.{State, was_opened}
 use Rattle.script_text.specs.Orders.{Order}
-use Rattle.script_text.specs.Steps.{IsAmong}
 use Rattle.sim_steps.specs.Benches.{is_plugged}
 use Rattle.sim_steps.specs.Deeds.{Event, MayNote}
-use Rattle.sim_steps.specs.Parts.{IfPlugged, JustEnters, JustNotes, Obeys, PlugsBy}
+use Rattle.sim_steps.specs.Parts.{IfPlugged, JustEnters, JustNotes, Obeys, PlugsBy, Renews}
 use Rattle.sim_steps.specs.Stretches.{Carried, Obeyed}
-use Rattle.sim_channels.specs.declared.channel.Channel.{Channel}
 use Rattle.sim_channels.specs.declared.channel.Plugging.{Plugging}
 use Rattle.sim_channels.specs.declared.channel.Plugging.TheVariants.{Plugged}
 use Rattle.sim_channels.specs.declared.driver.Driver.{Driver}
 use Rattle.sim_channels.specs.Channels.{Fits, IsKept, IsStaged, bench, is_plugged_in}
+use Rattle.sim_channels.specs.Staging.{HasStage}
 use Rattle.sim_channels.specs.Waiting.{IsAtRest, StaysBut}
-use Rattle.sim_turns.specs.Turning.{AskedOver, FitsStill}
-use Rattle.sim_commands.specs.Commands.{AsksFor}
-use Rattle.sim_commands.proofs.Asking.{obeyed_alone, obeyed_then}
 use Rattle.sim_channels.proofs.Resting.{rest_is_still}
+use Rattle.sim_turns.specs.Turning.{AskedOver, FitsStill}
+use Rattle.sim_commands.specs.Commands.{AsksFor, AsksToRenew}
+use Rattle.sim_commands.proofs.Asking.{obeyed_alone, obeyed_then}
 
 -- ---- by a result
 
@@ -38,14 +35,9 @@ of_ok P r x e h = subst (λ s. OnOk s P) e h
 
 -- ---- places
 
-pub staged_there : (d : Driver) (c at : ℕ) (k : Channel) → IsKept d → IsAmong (length d.channels.items) c → c ≡ at + 1 → k ≡ get_or d.channels.items at k → IsStaged c d.desk.now k.stage
-staged_there d c at k kept among place is =
-    let within : at < length d.channels.items = (let few = among.1 in omega arith) in
-    subst (λ n. IsStaged n d.desk.now k.stage) (sym place) (kept.stages at k (slice_get-get_or d.channels.items at k within ∙ ap Some (sym is)))
-
-pub staged_at : {B : Type 0} (f : B → Meaning) (d : Driver) (devices : List B) (c at : ℕ) (k : Channel) → Fits d (map f devices) → IsAmong (length devices) c → c ≡ at + 1
-    → k ≡ get_or d.channels.items at k → IsStaged c d.desk.now k.stage
-staged_at f d devices c at k fits among place is = staged_there d c at k fits.kept (among.0, (let few = among.1 in let same = fits.places ∙ length-map devices f in omega arith)) place is
+pub staged_there : (d : Driver) (c at : ℕ) (stage : Plugging) → IsKept d → c ≡ at + 1 → HasStage at stage d → IsStaged c d.desk.now stage
+staged_there d c at stage kept place h =
+    subst (λ n. IsStaged n d.desk.now stage) (sym place) (subst (λ s. IsStaged (at + 1) d.desk.now s) h.is (kept.stages at h.channel h.there))
 
 pub others_closed : (stage : Plugging) → (stage ≡ Plugged → ⊥) → is_plugged_in stage ≡ false
 others_closed Plugged other = absurd (other refl)
@@ -96,3 +88,17 @@ pub obeyed_done : (o : Order) (entry : Entry) (d m : Driver) (before : List Mean
 obeyed_done o entry d m before e after obeys fits asked carried also rest =
     let is = asked before fits in
     obeyed_then o entry is.0 (bench d before) (bench m before) is.1 obeys (bench e after) carried (rest_is_still e after also rest)
+
+-- the entry by which an order of another policy is obeyed
+pub record AsksBy (text : List ℕ) (d m : Driver) : Type 0 where
+  pub entry : Entry
+  pub obeys : (es : List Event) → JustEnters entry es → Renews text es
+  pub asked : AsksFor entry d m
+
+pub asks_by : (text : List ℕ) (d m : Driver) → AsksToRenew text d m → AsksBy text d m
+asks_by text d m (inl (policy, is_text, asked)) = record { entry = entries.NewPolicy policy; obeys = λ es just. inl (policy, is_text, just); asked = asked }
+asks_by text d m (inr (line, column, kind, refused, asked)) = record {
+  entry = entries.Note (notes.PolicyRefused line column kind);
+  obeys = λ es just. inr (line, column, kind, refused, just);
+  asked = asked;
+}

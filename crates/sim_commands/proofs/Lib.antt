@@ -1,8 +1,7 @@
--- Doing, Asking: the deeds are an order's part. Places: what is kept and what is left to do where at most one place changed. Sessions: a session is opened or ends. Wide: an entry of no
--- place was asked for. Calling: a frame comes to a device.
+-- Doing, Asking: the deeds are an order's part. Sessions: a session is opened or ends. Wide: at the desk an entry was asked for that is of no place. Calling: a
+-- frame comes to a device.
 pub mod Asking
 pub mod Calling
 pub mod Doing
-pub mod Places
 pub mod Sessions
 pub mod Wide

@@ -27,8 +27,9 @@ use Rattle.sim_channels.proofs.Kept.{ChannelAt, all_left, channel_at, is_as_long
 use Rattle.sim_channels.proofs.Making.{may_make}
 use Rattle.sim_channels.proofs.Plugged.{kept_opened, stage_by}
 use Rattle.sim_channels.proofs.Slots.{slot_next, slots_get}
-use Rattle.sim_commands.specs.Commands.{IsChanged, IsUnplugged, Restages, stage_behind}
-use Rattle.sim_commands.proofs.Places.{rest_but, there_too}
+use Rattle.sim_channels.specs.Staging.{Restages}
+use Rattle.sim_channels.proofs.Places.{rest_but, there_too}
+use Rattle.sim_commands.specs.Commands.{IsChanged, IsUnplugged, stage_behind}
 
 same_stage : (ended : Bool) → stage_behind ended ≡ stage_by ended
 same_stage true = refl

@@ -1,26 +1,35 @@
--- An entry that is of no place was asked for.
-use Rattle.std.proofs.Common.{◌≡◌, ℕ, ◌+◌, true, false, List, refl, sym, ap, ◌∙◌, inl, inr}
+-- At the desk an entry was asked for that is of no place.
+use Rattle.std.proofs.Common.{◌≡◌, ℕ, ◌+◌, Bool, true, false, List, refl, sym, ap, ◌∙◌, inl, inr}
 use Rattle.std.specs.List.{slice_get}
+use Rattle.std.specs.Prelude.{Result, Ok, Err, IfOk, OnOk}
+use Rattle.std.proofs.lemmas.Result.{IfOk-weaker}
 use Rattle.env_cells.specs.declared.updates.Update.{Update}
 use Rattle.env_cells.specs.declared.updates.Update.TheVariants.{Host, NoHost, Link, NoLink, Set, Unset}
-use Rattle.policy_lang.specs.declared.Policy.{Policy}
+use Rattle.machine_desk.specs.Orders.{Asked, Asks, Changes, Renews, refusal}
 use Rattle.machine_steps.specs.declared.entry.Entry.{Entry}
 use Rattle.machine_steps.specs.declared.entry.Entry.TheVariants as entries
+use Rattle.machine_steps.specs.declared.note.Note.{Note}
+use Rattle.machine_steps.specs.declared.note.Note.TheVariants as notes
 use Rattle.machine_steps.specs.declared.reply.Reply.{Reply}
 use Rattle.machine_steps.specs.Admitting.{IsOperators}
 use Rattle.machine_steps.specs.Machine.{State, session_at}
 use Rattle.machine_steps.specs.Steps.{Steps}
 use Rattle.machine_moves.specs.Told.{is_heard, is_new_state}
 use Rattle.script_text.specs.Steps.{IsOfLine}
-use Rattle.sim_channels.specs.declared.channel.Channel.{Channel}
+use Rattle.sim_steps.specs.Benches.{Bench}
+use Rattle.sim_steps.specs.Deeds.{MayEnter}
+use Rattle.sim_steps.specs.Parts.{asks}
 use Rattle.sim_channels.specs.declared.driver.Driver.{Driver}
-use Rattle.sim_channels.specs.Channels.{IsKept}
+use Rattle.sim_channels.specs.Channels.{IsKept, bench}
 use Rattle.sim_channels.specs.Driving.{DrivingLaws}
 use Rattle.sim_channels.specs.Waiting.{IsAtRest, IsHeardThrough}
 use Rattle.sim_channels.proofs.Kept.{kept_entry}
+use Rattle.sim_channels.proofs.Places.{fits_same, taken_still, while_still}
 use Rattle.sim_channels.proofs.Plugged.{kept_policy}
+use Rattle.sim_turns.proofs.Entered.{alone_of_asks, asked_over_of_asks}
 use Rattle.sim_turns.specs.Turning.{FitsStill}
-use Rattle.sim_commands.proofs.Places.{fits_same, taken_still, while_still}
+use Rattle.sim_commands.specs.Commands.{AsksFor, AsksToRenew}
+use Rattle.sim_commands.proofs.Asking.{asks_for}
 
 -- a script's update is one that an operator may make
 pub operators : (u : Update) → IsOfLine u → IsOperators u
@@ -32,50 +41,110 @@ operators (Set table key value) line = tt
 operators (Unset table key) line = tt
 operators u line = absurd line
 
--- ---- where no state is made
+-- ---- where no session changes
+
+abbrev Stay : State → State → Type 0
+Stay old new = (c : ℕ) → session_at c new ≡ session_at c old
 
 -- an update that is refused
-pub refused : (old : State) (u : Update) (reply : Reply) (new : State) → Steps old (entries.Change u) reply new → is_new_state reply ≡ false → (c : ℕ) → session_at c new ≡ session_at c old
+refused : (old : State) (u : Update) (reply : Reply) (new : State) → Steps old (entries.Change u) reply new → is_new_state reply ≡ false → Stay old new
 refused old u reply new (inl (free, r, a)) none c = (let made : false ≡ true = sym none ∙ ap is_new_state r in absurd (cc))
 refused old u reply new (inr (inl (kind, is, r, e))) none c = ap (λ (m : State). session_at c m) e
 refused old u reply new (inr (inr (r, e))) none c = ap (λ (m : State). session_at c m) e
 
-pub listed : (old : State) (switch : ℕ) (reply : Reply) (new : State) → Steps old (entries.ReadRules switch) reply new → (c : ℕ) → session_at c new ≡ session_at c old
+listed : (old : State) (switch : ℕ) (reply : Reply) (new : State) → Steps old (entries.ReadRules switch) reply new → Stay old new
 listed old switch reply new (inl (rules, put, r, e)) c = ap (λ (m : State). session_at c m) e
 listed old switch reply new (inr (r, e)) c = ap (λ (m : State). session_at c m) e
 
--- ---- what is kept
+noted : (old : State) (note : Note) (reply : Reply) (new : State) → Steps old (entries.Note note) reply new → Stay old new
+noted old note reply new (inl (r, e)) c = ap (λ (m : State). session_at c m) e
+noted old note reply new (inr (r, e)) c = ap (λ (m : State). session_at c m) e
 
-module _ (laws : DrivingLaws) (d m : Driver) (reply : Reply) (kept : IsKept d) (same : m ≡ record d { desk = m.desk }) (footing : m.desk.footing ≡ d.desk.footing) where
-  pub kept_renewed : (p : Policy) → Steps d.desk.now (entries.NewPolicy p) reply m.desk.now → IsKept m
-  kept_renewed p steps = kept_policy laws d m reply kept p steps (ap (λ (x : Driver). x.channels.items) same) footing
+-- ---- what stands behind it
 
-  pub kept_changed : (u : Update) → IsOfLine u → Steps d.desk.now (entries.Change u) reply m.desk.now → IsKept m
-  kept_changed u line steps = kept_entry laws d m (entries.Change u) reply kept (operators u line) steps refl refl (λ c. refl) same footing
+-- this was asked for, and nothing else is left to do but to take out and offer; where it was in vain, not even that
+pub record Stands (went : Bool) (Said : Type 0) (d e : Driver) : Type 0 where
+  pub fits : FitsStill d e
+  pub through : IsHeardThrough e
+  pub rest : went ≡ false → IsAtRest e
+  pub asked : Said
 
-  pub kept_listed : (switch : ℕ) → Steps d.desk.now (entries.ReadRules switch) reply m.desk.now → IsKept m
-  kept_listed switch steps = kept_entry laws d m (entries.ReadRules switch) reply kept tt steps refl refl (λ c. refl) same footing
+stands_so : (went : Bool) (F G : Type 0) (d e : Driver) → (F → G) → Stands went F d e → Stands went G d e
+stands_so went F G d e so h = record { fits = h.fits; through = h.through; rest = h.rest; asked = so h.asked }
 
-module _ (laws : DrivingLaws) (d e : Driver) (entry : Entry) (reply : Reply) (kept : IsKept d) (also : IsKept e) (rest : IsAtRest d) (steps : Steps d.desk.now entry reply e.desk.now)
-    (other : is_heard entry ≡ false) (same : e.channels.items ≡ d.channels.items) where
+-- so it is behind a call, where that didn't stop
+pub record StandsBy {E : Type 0} (r : Result Bool E) (Said : Type 0) (d e : Driver) : Type 0 where
+  pub fits : OnOk r (FitsStill d e)
+  pub through : OnOk r (IsHeardThrough e)
+  pub rest : r ≡ Ok false → IsAtRest e
+  pub asked : OnOk r Said
+
+stands_by : {E : Type 0} (r : Result Bool E) (Said : Type 0) (d e : Driver) → IfOk r (λ went. Stands went Said d e) → StandsBy r Said d e
+stands_by (Ok went) Said d e h = record { fits = h.fits; through = h.through; rest = λ vain. h.rest (cc); asked = h.asked }
+stands_by (Err why) Said d e h = record { fits = tt; through = tt; rest = λ vain. absurd (cc); asked = tt }
+
+module _ (laws : DrivingLaws) (d e : Driver) (kept : IsKept d) (rest : IsAtRest d) (same : e ≡ record d { desk = e.desk }) (footing : e.desk.footing ≡ d.desk.footing) where
   at_index : (at : ℕ) → slice_get e.channels.items at ≡ slice_get d.channels.items at
-  at_index at = ap (λ (xs : List Channel). slice_get xs at) same
+  at_index at = ap (λ (x : Driver). slice_get x.channels.items at) same
 
-  pub fits_asked : FitsStill d e
-  fits_asked devices fits = fits_same d e devices also same fits
+  module _ (entry : Entry) (reply : Reply) (made : Asks entry reply d.desk e.desk) (asked : asks entry ≡ true) (other : is_heard entry ≡ false) where
+    steps : Steps d.desk.now entry reply e.desk.now
+    steps = (alone_of_asks entry reply d e kept.alone made).steps
 
-  pub through_asked : IsHeardThrough e
-  through_asked = record {
-    jobs = laws.none d.desk.now entry reply e.desk.now rest.jobs other steps;
-    offered = λ at. while_still _ at d e (at_index at) (rest.offered at);
-    heard = λ at. while_still _ at d e (at_index at) (rest.heard at);
-  }
+    heard_through : IsHeardThrough e
+    heard_through = record {
+      jobs = laws.none d.desk.now entry reply e.desk.now rest.jobs other steps;
+      offered = λ at. while_still _ at d e (at_index at) (rest.offered at);
+      heard = λ at. while_still _ at d e (at_index at) (rest.heard at);
+    }
 
-  -- where all sessions are as they were
-  pub rest_asked : ((c : ℕ) → session_at c e.desk.now ≡ session_at c d.desk.now) → IsAtRest e
-  rest_asked sessions = record {
-    jobs = through_asked.jobs;
-    taken = λ at. taken_still laws d e at kept also (sessions (at + 1)) (at_index at) (rest.taken at);
-    offered = through_asked.offered;
-    heard = through_asked.heard;
-  }
+    stands : (went : Bool) → IsKept e → ((b : Bench) → MayEnter entry b) → (went ≡ false → Stay d.desk.now e.desk.now) → Stands went (AsksFor entry d e) d e
+    stands went also may stay = record {
+      fits = λ devices fits. fits_same d e devices also (ap (λ (x : Driver). x.channels.items) same) fits;
+      through = heard_through;
+      rest = λ vain. record {
+        jobs = heard_through.jobs;
+        taken = λ at. taken_still laws d e at kept also (stay vain (at + 1)) (at_index at) (rest.taken at);
+        offered = heard_through.offered;
+        heard = heard_through.heard;
+      };
+      asked = asks_for entry reply d e e (asked_over_of_asks entry reply d e kept.alone made rest asked same) (λ devices. refl) (λ devices fits. may (bench d devices));
+    }
+
+  changed : (u : Update) → IsOfLine u → (made : Bool) → Changes u made d.desk e.desk → Stands made (AsksFor (entries.Change u) d e) d e
+  changed u line made h =
+      let entry = entries.Change u in
+      let done = steps entry h.reply h.asks refl refl in
+      stands entry h.reply h.asks refl refl made (kept_entry laws d e entry h.reply kept (operators u line) done refl refl (λ c. refl) same footing) (λ b. tt)
+      (λ vain. refused d.desk.now u h.reply e.desk.now done (sym h.made_is ∙ vain))
+
+  pub changes_stand : {E : Type 0} (r : Result Bool E) (u : Update) → IsOfLine u → IfOk r (λ made. Changes u made d.desk e.desk) → StandsBy r (AsksFor (entries.Change u) d e) d e
+  changes_stand r u line h =
+      let Said = AsksFor (entries.Change u) d e in
+      stands_by r Said d e (IfOk-weaker r (λ made. Changes u made d.desk e.desk) (λ made. Stands made Said d e) (changed u line) h)
+
+  renewed : (text : List ℕ) (accepted : Bool) → Renews accepted text d.desk e.desk → Stands accepted (AsksToRenew text d e) d e
+  renewed text true h =
+      let entry = entries.NewPolicy h.policy in
+      let done = steps entry h.asked.reply h.asked.asks refl refl in
+      stands_so true (AsksFor entry d e) (AsksToRenew text d e) d e (λ asked. inl (h.policy, h.is_text, asked))
+      (stands entry h.asked.reply h.asked.asks refl refl true (kept_policy laws d e h.asked.reply kept h.policy done (ap (λ (x : Driver). x.channels.items) same) footing) (λ b. tt)
+      (λ vain. (let no : true ≡ false = vain in absurd (cc))))
+  renewed text false h =
+      let entry = refusal h.line h.column h.kind in
+      let done = steps entry h.asked.reply h.asked.asks refl refl in
+      stands_so false (AsksFor entry d e) (AsksToRenew text d e) d e (λ asked. inr (h.line, h.column, h.kind, h.refused, asked))
+      (stands entry h.asked.reply h.asked.asks refl refl false (kept_entry laws d e entry h.asked.reply kept tt done refl refl (λ c. refl) same footing) (λ b. tt)
+      (λ vain. noted d.desk.now (notes.PolicyRefused h.line h.column h.kind) h.asked.reply e.desk.now done))
+
+  pub renews_stand : {E : Type 0} (r : Result Bool E) (text : List ℕ) → IfOk r (λ accepted. Renews accepted text d.desk e.desk) → StandsBy r (AsksToRenew text d e) d e
+  renews_stand r text h =
+      let Said = AsksToRenew text d e in
+      stands_by r Said d e (IfOk-weaker r (λ accepted. Renews accepted text d.desk e.desk) (λ accepted. Stands accepted Said d e) (renewed text) h)
+
+  pub rules_stand : (switch : ℕ) → Asked (entries.ReadRules switch) d.desk e.desk → Stands false (AsksFor (entries.ReadRules switch) d e) d e
+  rules_stand switch h =
+      let entry = entries.ReadRules switch in
+      let done = steps entry h.reply h.asks refl refl in
+      stands entry h.reply h.asks refl refl false (kept_entry laws d e entry h.reply kept tt done refl refl (λ c. refl) same footing) (λ b. tt)
+      (λ vain. listed d.desk.now switch h.reply e.desk.now done)

@@ -1,26 +1,28 @@
 -- What is done of an order, ahead of what that brings about.
-use Rattle.std.specs.Prelude.{◌≡◌, ℕ, ◌+◌, Bool, true, false, List, [], ◌∷◌, length, set, Some}
+use Rattle.std.specs.Prelude.{◌≡◌, ◌⊎◌, ℕ, Bool, true, false, List, [], ◌∷◌, Some}
 use Rattle.std.specs.List.{slice_get}
 use Rattle.maple_base.specs.declared.device.Seen.{Seen}
-use Rattle.maple_base.specs.declared.device.Seen.TheVariants.{Failed}
 use Rattle.device_port.specs.Devices.{Meaning}
 use Rattle.device_port.specs.Devices.Call.{Looking}
 use Rattle.machine_steps.specs.declared.entry.Entry.{Entry}
+use Rattle.machine_steps.specs.declared.entry.Entry.TheVariants as entries
+use Rattle.machine_steps.specs.declared.note.Note.TheVariants as notes
+use Rattle.policy_lang.specs.declared.Policy.{Policy}
+use Rattle.policy_text.specs.declared.reading.ReadError.TheVariants.{Refused}
+use Rattle.policy_text.specs.Texts.{IsRefused, IsTextOf}
 use Rattle.machine_steps.specs.declared.reply.Reply.{Reply}
 use Rattle.script_text.specs.Orders.{Order}
-use Rattle.world_steps.specs.Worlds.{lacks_memory}
 use Rattle.sim_steps.specs.Benches.{Bench}
-use Rattle.sim_steps.specs.Deeds.{CallsAt, Event, LooksUp, has_failed}
+use Rattle.sim_steps.specs.Deeds.{Event}
 use Rattle.sim_steps.specs.Deeds.Deed.{Calls}
 use Rattle.sim_steps.specs.Stretches.{Obeyed, Stretch}
-use Rattle.sim_channels.specs.Channels.{Fits, IsKept, bench, slot_by}
+use Rattle.sim_channels.specs.Channels.{Fits, IsKept, bench}
 use Rattle.sim_channels.specs.declared.channel.Channel.{Channel}
 use Rattle.sim_channels.specs.declared.channel.Plugging.{Plugging}
 use Rattle.sim_channels.specs.declared.channel.Plugging.TheVariants.{Left, Plugged, Unplugged}
 use Rattle.sim_channels.specs.declared.driver.Driver.{Driver}
-use Rattle.sim_channels.specs.Waiting.{IsAtRestBut, StaysBut}
-use Rattle.sim_channels.specs.Delivering.{IsPluggedIn}
-use Rattle.sim_turns.specs.Hearing.{KeepsChannels}
+use Rattle.sim_channels.specs.Waiting.{StaysBut}
+use Rattle.sim_channels.specs.Hearing.{KeepsChannels}
 use Rattle.sim_turns.specs.Turning.{IsAsked}
 
 -- the device with this index was never plugged in
@@ -34,14 +36,6 @@ abbrev pub stage_behind : Bool → Plugging
 stage_behind true = Left
 stage_behind false = Plugged
 
--- the channel with this index has this stage from now on, which no bench shows
-pub record Restages (at : ℕ) (stage : Plugging) (old new : Driver) : Type 0 where
-  pub rest : new ≡ record old { channels = new.channels }
-  pub channel : Channel
-  pub there : slice_get old.channels.items at ≡ Some channel
-  pub channels : new.channels.items ≡ set old.channels.items at (record channel { stage = stage })
-  pub slots : (devices : List Meaning) → bench new devices ≡ bench old devices
-
 -- at one place a session was opened or ended, and all others are as they were
 pub record IsChanged (at : ℕ) (old new : Driver) : Type 0 where
   pub kept : IsKept new
@@ -53,6 +47,12 @@ pub record IsChanged (at : ℕ) (old new : Driver) : Type 0 where
 abbrev pub AsksFor : Entry → Driver → Driver → Type 0
 AsksFor entry old new = (devices : List Meaning) → Fits old devices → (reply : Reply) × IsAsked entry reply (bench old devices) (bench new devices)
 
+-- another policy alone was asked for, or to tell why a text is of none
+abbrev pub AsksToRenew : List ℕ → Driver → Driver → Type 0
+AsksToRenew text old new =
+    ((policy : Policy) × IsTextOf policy text × AsksFor (entries.NewPolicy policy) old new)
+    ⊎ ((line column kind : ℕ) × IsRefused text (Refused line column kind) × AsksFor (entries.Note (notes.PolicyRefused line column kind)) old new)
+
 -- a driver over devices obeyed an order, and these stand behind it
 abbrev pub ObeyedBy : Order → Driver → List Meaning → Driver → List Meaning → Type 0
 ObeyedBy o old before new after = Obeyed o (bench old before) (bench new after)
@@ -60,35 +60,6 @@ ObeyedBy o old before new after = Obeyed o (bench old before) (bench new after)
 -- an order was obeyed, whatever the devices are
 abbrev pub ObeyedOver : Order → Driver → Driver → Type 0
 ObeyedOver o old new = (devices : List Meaning) → Fits old devices → Obeyed o (bench old devices) (bench new devices)
-
--- a frame came to the device behind a channel, which answers so; the channel and the device, before and behind
-pub record LooksUpBy (port : ℕ) (frame : List ℕ) (seen : Seen) (k : Channel) (d : Meaning) (l : Channel) (e : Meaning) : Type 0 where
-  pub bytes : List ℕ
-  pub looks : LooksUp port frame seen bytes (slot_by k d) (slot_by l e)
-  pub pending : length e.pending ≡ length d.pending
-  pub stage : l.stage ≡ k.stage
-  pub to : l.to ≡ k.to
-  pub waiting : l.waiting ≡ k.waiting
-
-abbrev pub is_failure : Seen → Bool
-is_failure Failed = true
-is_failure seen = false
-
--- a frame came to a device
-pub record Called (c port : ℕ) (frame : List ℕ) (failed : Bool) (a b : Bench) : Type 0 where
-  pub seen : Seen
-  pub bytes : List ℕ
-  pub reply : Reply
-  pub calls : CallsAt c (Looking port frame seen bytes) reply a b
-  pub memory : lacks_memory reply ≡ false
-  pub failed_is : has_failed (Looking port frame seen bytes) ≡ failed
-
--- and the driver behind it
-pub record IsCalled (at port : ℕ) (frame : List ℕ) (failed : Bool) (old : Driver) (before : List Meaning) (new : Driver) (after : List Meaning) : Type 0 where
-  pub fits : Fits new after
-  pub rest : IsAtRestBut at new
-  pub plugged : IsPluggedIn at new
-  pub called : Called (at + 1) port frame failed (bench old before) (bench new after)
 
 -- a frame came to a device, whose session ended where it failed
 pub record Looked (c port : ℕ) (frame : List ℕ) (a b : Bench) : Type 0 where

@@ -1,21 +1,16 @@
 // The network changes, another policy is put in force, rules are listed.
 ghost use Rattle.std.specs.Prelude.{◌≡◌, false, map, Ok, OnOk};
 ghost use Rattle.machine_steps.specs.declared.entry.Entry.TheVariants as entries;
-ghost use Rattle.machine_moves.specs.Told.{is_new_state};
 ghost use Rattle.script_text.specs.Orders.{Order};
 ghost use Rattle.script_text.specs.Steps.{IsOfLine};
 ghost use Rattle.sim_channels.specs.Channels.{Fits, IsKept};
 ghost use Rattle.sim_channels.specs.Waiting.{IsAtRest, IsHeardThrough};
 ghost use Rattle.sim_turns.specs.Turning.{FitsStill};
-ghost use Rattle.sim_commands.specs.Commands.{AsksFor, ObeyedBy, ObeyedOver};
+ghost use Rattle.sim_commands.specs.Commands.{AsksFor, AsksToRenew, ObeyedBy, ObeyedOver};
 
-use core_machine::{Entry, Note, Reply};
 use device_port::Device;
 use env_cells::Update;
-use policy_lang::Policy;
-use policy_text::{ReadError, read_policy};
 use sim_channels::{Driver, Stopped, driving_laws};
-use sim_turns::{ask, note};
 use std::sync::Wait;
 
 /// What is known of the network changes, and what the machine has for devices then is given to them.
@@ -56,14 +51,7 @@ fn update_network<R: Wait>(rt: &R, driver: &mut Driver<'_>, update: Update) -> R
     ensures footing { driver.new.desk.footing ≡ driver.old.desk.footing }
 {
     driving_laws();
-    let reply = ask(rt, driver, Entry::Change(update))?;
-    Ok(is_new_state(&reply))
-}
-
-fn is_new_state(reply: &Reply) -> bool
-    ensures { result ≡ is_new_state reply.now }
-{
-    matches!(reply, Reply::NewState { .. })
+    driver.change(rt, update)
 }
 
 /// The policy of a text is put in force, and what the machine has for devices then is given to them.
@@ -85,30 +73,25 @@ pub(crate) fn renew<R: Wait, D: Device>(
     ensures obeyed { OnOk result (ObeyedBy (Order.NewPolicy text.now) driver.old (map D.meaning devices.old) driver.new (map D.meaning devices.new)) }
     ensures footing { driver.new.desk.footing ≡ driver.old.desk.footing }
 {
-    match read_policy(driver.alloc, text) {
-        Ok(policy) => {
-            put_in_force(rt, driver, policy)?;
-            driver.deliver_all(rt, devices)
-        }
-        Err(ReadError::Refused { line, column, kind }) => {
-            note(rt, driver, Note::PolicyRefused { line, column, kind })
-        }
-        Err(ReadError::NoMemory) => Err(Stopped),
+    if renew_policy(rt, driver, text)? {
+        driver.deliver_all(rt, devices)
+    } else {
+        Ok(())
     }
 }
 
-// The policy is put in force.
-fn put_in_force<R: Wait>(rt: &R, driver: &mut Driver<'_>, policy: Policy) -> Result<(), Stopped>
+// Tells whether the text is a policy's.
+fn renew_policy<R: Wait>(rt: &R, driver: &mut Driver<'_>, text: &[u8]) -> Result<bool, Stopped>
     requires kept { IsKept driver.old }
     requires rest { IsAtRest driver.old }
     ensures fits { OnOk result (FitsStill driver.old driver.new) }
     ensures through { OnOk result (IsHeardThrough driver.new) }
-    ensures asked { OnOk result (AsksFor (entries.NewPolicy policy) driver.old driver.new) }
+    ensures rest { result ≡ Ok false → IsAtRest driver.new }
+    ensures asked { OnOk result (AsksToRenew text.now driver.old driver.new) }
     ensures footing { driver.new.desk.footing ≡ driver.old.desk.footing }
 {
     driving_laws();
-    ask(rt, driver, Entry::NewPolicy(policy))?;
-    Ok(())
+    driver.renew(rt, text)
 }
 
 /// The rules of a switch are listed.
@@ -129,6 +112,5 @@ pub(crate) fn list_rules<R: Wait>(
     ensures footing { driver.new.desk.footing ≡ driver.old.desk.footing }
 {
     driving_laws();
-    ask(rt, driver, Entry::ReadRules(switch))?;
-    Ok(())
+    driver.list_rules(rt, switch)
 }

@@ -4,7 +4,7 @@
 mod arriving;
 mod changing;
 pub mod obeying;
+mod places;
 mod plugging;
-mod staging;
 
 pub use obeying::obey;

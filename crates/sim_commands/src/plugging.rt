@@ -10,7 +10,7 @@ ghost use Rattle.sim_channels.specs.Waiting.{IsAtRest, IsHeard, IsOffered};
 ghost use Rattle.sim_turns.specs.Turning.{FitsStill};
 ghost use Rattle.sim_commands.specs.Commands.{AsksFor, IsChanged, IsUnplugged, ObeyedBy, ObeyedOver, stage_behind};
 
-use crate::staging::{index_of, set_stage};
+use crate::places::index_of;
 use core_machine::{Entry, Note, Reply};
 use device_port::Device;
 use sim_channels::{Driver, Plugging, Stopped, driving_laws};
@@ -39,7 +39,7 @@ pub(crate) fn plug<R: Wait, D: Device>(
 {
     driving_laws();
     let at = index_of(place);
-    match driver.channels[at].stage {
+    match driver.stage(at) {
         Plugging::Plugged => note(rt, driver, Note::Present(place)),
         Plugging::Left => note(rt, driver, Note::GoneAlready(place)),
         Plugging::Unplugged => {
@@ -64,7 +64,7 @@ pub(crate) fn unplug<R: Wait>(rt: &R, driver: &mut Driver<'_>, place: u32) -> Re
     ensures footing { driver.new.desk.footing ≡ driver.old.desk.footing }
 {
     let at = index_of(place);
-    match driver.channels[at].stage {
+    match driver.stage(at) {
         Plugging::Plugged => close(rt, driver, at, place),
         _ => note(rt, driver, Note::Absent(place)),
     }
@@ -84,7 +84,7 @@ fn open<R: Wait>(rt: &R, driver: &mut Driver<'_>, at: usize, place: u32) -> Resu
 {
     driving_laws();
     let reply = ask(rt, driver, Entry::Open(place))?;
-    set_stage(driver, at, stage_behind(&reply));
+    driver.set_stage(at, stage_behind(&reply));
     Ok(())
 }
 
@@ -117,6 +117,6 @@ fn close<R: Wait>(rt: &R, driver: &mut Driver<'_>, at: usize, place: u32) -> Res
             fault: false,
         },
     )?;
-    set_stage(driver, at, Plugging::Left);
+    driver.set_stage(at, Plugging::Left);
     Ok(())
 }

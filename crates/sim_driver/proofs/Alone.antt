@@ -1,5 +1,5 @@
 -- An entry at the desk of who has all parts: nobody came between.
-use Rattle.std.proofs.Common.{◌≡◌, List, [], ◌∷◌, ◌++◌, append-nil, sym, ap, ◌∙◌, subst}
+use Rattle.std.proofs.Common.{◌≡◌, List, [], ◌∷◌, ◌++◌, append-nil, ap, ◌∙◌, subst}
 use Rattle.machine_desk.specs.Desks.{DeskView, Enters}
 use Rattle.machine_steps.specs.declared.entry.Entry.{Entry}
 use Rattle.machine_steps.specs.declared.reply.Reply.{Reply}

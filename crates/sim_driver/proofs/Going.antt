@@ -4,10 +4,8 @@ use Rattle.std.specs.Prelude.{Some, None, Err}
 use Rattle.std.specs.List.{flat_map}
 use Rattle.std.proofs.lemmas.Grind.{flat_map-append}
 use Rattle.std.proofs.lemmas.List.{append_cancel_left}
-use Rattle.maple_base.specs.declared.decision.Settings.{Settings}
 use Rattle.maple_io.specs.Views.{SinkView, Wrote}
 use Rattle.maple_io.proofs.Pieces.{wrote_nothing, wrote_then}
-use Rattle.policy_lang.specs.declared.Policy.{Policy}
 use Rattle.report_text.specs.declared.line.Line.{Line}
 use Rattle.report_text.specs.declared.line.ScriptRefusal.{ScriptRefusal}
 use Rattle.report_text.specs.Report.{spelled}
@@ -22,7 +20,7 @@ use Rattle.script_text.specs.Orders.{Order, orders_of, refused_from}
 use Rattle.script_text.specs.declared.step.Step.{Step}
 use Rattle.script_text.specs.Steps.{Halts, Leads, order_with}
 use Rattle.sim_steps.specs.Agreeing.{taken_report}
-use Rattle.sim_steps.specs.Benches.{Bench, opening_bench}
+use Rattle.sim_steps.specs.Benches.{Bench}
 use Rattle.sim_steps.specs.Deeds.{Event, Runs, turn_of, turns_of}
 use Rattle.sim_steps.specs.Parts.{IsStill}
 use Rattle.sim_steps.specs.Showing.{AllIdle}
@@ -30,11 +28,10 @@ use Rattle.sim_laws.specs.Laws.{AgreeLaw, HistoryLaw, PastLaw, ReportLaw, WorldL
 use Rattle.sim_steps.proofs.Joining.{report_then}
 use Rattle.sim_channels.specs.declared.driver.Driver.{Driver}
 use Rattle.sim_channels.specs.Channels.{Fits, bench}
-use Rattle.sim_channels.specs.Waiting.{IsAtRest}
 use Rattle.sim_driver.specs.declared.drive.SimEnd.{SimEnd}
 use Rattle.sim_driver.specs.declared.drive.SimEnd.TheVariants as ends
 use Rattle.sim_driver.specs.Passes.{EndsAt, IsMarked, IsReported, IsUnreported, Passed, SameHall, end_of}
-use Rattle.sim_driver.specs.Runs.{Ends, EndsOver, Given, GoesOnFrom, IsBrokenOff, IsFollowed, IsRunOf, IsUnwritten, given, opened, orders, report}
+use Rattle.sim_driver.specs.Runs.{Ends, EndsOver, Given, GoesOnFrom, IsBrokenOff, IsFollowed, IsRunOf, IsUnwritten, opened, orders, report}
 use Rattle.sim_driver.proofs.Parting.{Parts, parts_follow, parts_run, parts_then}
 use Rattle.sim_driver.proofs.Taking.{bench_devices}
 

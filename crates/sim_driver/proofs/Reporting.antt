@@ -95,15 +95,15 @@ module _ (d next : Driver) (same : next ≡ record d { desk = next.desk }) (alon
       let (taken, is) = takes w.text w.enters in
       unreported o a d next taken ds h old new fits (w.front, subst (IsFront w.front) is w.is_front, w.wrote)
 
-  pub follows_by : (r : Result (Unit {0}) ReportStop) (step : Step) (text : List ℕ) (a : Bench) (ds : List Meaning) (old new : SinkView)
-      → Obeyed (order_with step text) a (bench d ds) → Fits d ds → ReportsBy r d.desk next.desk old new → Passed r step text a next ds old new
-  follows_by (Ok u) step text a ds old new h fits w =
+  pub follows_by : (r : Result (Unit {0}) ReportStop) (step : Step) (bytes : List ℕ) (a : Bench) (ds : List Meaning) (old new : SinkView)
+      → Obeyed (order_with step bytes) a (bench d ds) → Fits d ds → ReportsBy r d.desk next.desk old new → Passed r step bytes a next ds old new
+  follows_by (Ok u) step bytes a ds old new h fits w =
       let (taken, is) = takes w.text w.enters in
-      reported (order_with step text) a d next taken ds h old new (subst (Wrote old new) is w.wrote)
-  follows_by (Err Failed) step text a ds old new h fits (w, failed) = in_part (order_with step text) a ds old new h fits w
-  follows_by (Err NoMemory) step text a ds old new h fits (inl (enters, same)) = inl same
-  follows_by (Err NoMemory) step text a ds old new h fits (inr w) = inr (in_part (order_with step text) a ds old new h fits w)
-  follows_by (Err Worn) step text a ds old new h fits (wears, same) = (same, ap (λ (v : DeskView). v.worn) wears.same)
+      reported (order_with step bytes) a d next taken ds h old new (subst (Wrote old new) is w.wrote)
+  follows_by (Err Failed) step bytes a ds old new h fits (w, failed) = in_part (order_with step bytes) a ds old new h fits w
+  follows_by (Err NoMemory) step bytes a ds old new h fits (inl (enters, same)) = inl same
+  follows_by (Err NoMemory) step bytes a ds old new h fits (inr w) = inr (in_part (order_with step bytes) a ds old new h fits w)
+  follows_by (Err Worn) step bytes a ds old new h fits (wears, same) = (same, ap (λ (v : DeskView). v.worn) wears.same)
 
 -- ---- the mark
 
@@ -128,7 +128,3 @@ module _ (d : Driver) where
 
   pub marked_rests : IsAtRest d → IsAtRest marked
   marked_rests h = record { jobs = h.jobs; taken = h.taken; offered = h.offered; heard = h.heard }
-
--- so what was obeyed from there was obeyed from here
-pub as_before : (d : Driver) (m : DeskView) (ds : List Meaning) (o : Order) (b : Bench) → m ≡ (marked d).desk → Obeyed o (bench (record d { desk = m }) ds) b → Obeyed o (bench d ds) b
-as_before d m ds o b e h = subst (λ (x : DeskView). Obeyed o (bench (record d { desk = x }) ds) b) e h

@@ -23,6 +23,7 @@ use Rattle.machine_steps.specs.declared.entry.Entry.TheVariants.{TakeReport}
 use Rattle.machine_steps.specs.declared.reply.Reply.TheVariants.{Lines}
 use Rattle.maple_io.specs.Fronts.{IsFront}
 use Rattle.history_lock.specs.declared.view.Known.{Known}
+use Rattle.history_lock.specs.Passes.{parts}
 use Rattle.machine_desk.specs.declared.opening.Opening.{Opening}
 use Rattle.machine_desk.specs.Openings.{IsAhead, IsMachineOf}
 use Rattle.machine_steps.specs.declared.entry.Entry.{Entry}
@@ -72,6 +73,7 @@ pub record IsOpened (driver : Driver) (devices : List Meaning) : Type 0 where
 -- so it is of a hall that was just opened
 pub record IsOpening (o : Opening) (devices : List Meaning) : Type 0 where
   pub ahead : IsAhead o
+  pub alone : parts o.pass ≡ 1024
   pub machine : IsMachineOf o.start.value.policy o.start.value.settings o
   pub ranges : AreInRange o.start.value.settings
   pub idle : AllIdle devices

@@ -1,5 +1,5 @@
 -- A run of a script over devices, and how it ends.
-use Rattle.std.specs.Prelude.{◌≡◌, ◌⊎◌, ℕ, ◌^◌, ◌≤◌, true, map, List, [], ◌∷◌, ◌++◌, Option, Some, length}
+use Rattle.std.specs.Prelude.{◌≡◌, ◌⊎◌, ℕ, ◌^◌, ◌≤◌, map, List, [], ◌∷◌, ◌++◌, Option, Some, length}
 use Rattle.std.specs.List.{flat_map}
 use Rattle.std.specs.declared.vec.Vec.{Vec}
 use Rattle.maple_base.specs.declared.decision.Settings.{Settings}

@@ -35,7 +35,7 @@ pub enum SimEnd {
     WriteFault,
     /// Memory ran out.
     NoMemory,
-    /// The hall of the machine has room for no further entry: its history has 2^62 of them.
+    /// The hall of the machine has room for no further entry: its history has 2^62 of them or more.
     Worn,
 }
 
@@ -154,8 +154,7 @@ fn at_desk<'h, R: Wait, D: Device, O: Sink>(
     match Driver::new(alloc, desk, devices) {
         Ok(mut driver) => {
             let end = run_lines(rt, alloc, &mut driver, script, first, devices, to);
-            let Driver { desk, .. } = driver;
-            (end, desk.end())
+            (end, driver.into_desk().end())
         }
         Err(desk) => (SimEnd::NoMemory, desk.end()),
     }
@@ -197,7 +196,7 @@ fn run_lines<R: Wait, D: Device, O: Sink>(
         match follow(rt, driver, devices, next.step, next.text, to) {
             Ok(()) => {}
             Err(stop) => {
-                driver.desk.law();
+                driver.law();
                 return end_of(stop);
             }
         }

@@ -1,5 +1,5 @@
 // An order of a script is followed, and what the report gains by it is written.
-ghost use Rattle.std.specs.Prelude.{◌≡◌, ◌≢◌, map, length, true, Err, OnOk};
+ghost use Rattle.std.specs.Prelude.{◌≡◌, ◌≢◌, map, length, false, true, Err, OnOk};
 ghost use Rattle.maple_io.specs.Views.{NoWriteFailed, WriteFailed};
 ghost use Rattle.script_text.specs.Steps.{IsKept as IsKeptStep};
 ghost use Rattle.machine_desk.specs.declared.report.ReportStop.TheVariants as stops;
@@ -32,19 +32,20 @@ pub(crate) fn follow<R: Wait, D: Device, O: Sink>(
     ensures cause { result ≡ Err stops.Failed → WriteFailed (O.tells to.old) (O.tells to.new) }
     ensures spared { result ≢ Err stops.Failed → NoWriteFailed (O.tells to.old) (O.tells to.new) }
 {
-    driver.desk.mark();
+    driver.mark();
     let Ok(()) = obey(rt, driver, all, step, text) else {
         return Err(stopped(driver));
     };
-    driver.desk.write_report(rt, to)
+    driver.write_report(rt, to)
 }
 
 // Why it was that the driver stopped.
 fn stopped(driver: &Driver<'_>) -> ReportStop
     ensures failed { result ≢ ReportStop.Failed }
     ensures worn { result ≡ ReportStop.Worn → driver.now.desk.worn ≡ true }
+    ensures memory { result ≡ ReportStop.NoMemory → driver.now.desk.worn ≡ false }
 {
-    if driver.desk.is_worn() {
+    if driver.is_worn() {
         ReportStop::Worn
     } else {
         ReportStop::NoMemory

@@ -318,7 +318,6 @@ module _ (one : OneMessage) (connections : ConnectionsOpen) (a : Bench) (fresh :
   entry_led (entries.Heard c (Whole x)) reply at = hears_by c (plugged c at.may.0) reply x at (lacks_memory reply) refl at.slots
   entry_led (entries.Heard c (Faulty place bad)) reply at = hears_fault c (plugged c at.may.0) reply place bad at
   entry_led (entries.TakeOut c) reply at = takes_by c (plugged c at.may) reply at (lacks_memory reply) refl at.slots
-  entry_led (entries.Decide job) reply at = absurd at.may
   entry_led entry reply at =
       rests entry reply at.admitted at.steps refl at.slots (λ d. opens_none connections b.machine entry reply b'.machine at.steps d (λ e. cc))
 

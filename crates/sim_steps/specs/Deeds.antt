@@ -1,5 +1,5 @@
 -- What is done with the machine and the devices, one deed after the other.
-use Rattle.std.specs.Prelude.{◌≡◌, ℕ, ◌^◌, ◌<◌, Bool, true, false, List, [], ◌∷◌, ◌++◌, Some, All}
+use Rattle.std.specs.Prelude.{◌≡◌, ℕ, ◌^◌, ◌<◌, Bool, true, false, List, [], ◌∷◌, ◌++◌, map, Some, All}
 use Rattle.std.specs.List.{flat_map}
 use Rattle.maple_base.specs.declared.device.Turned.{Turned}
 use Rattle.maple_base.specs.declared.device.Turned.TheVariants.{Nothing, Failed as FailedTurn, NoMemory as NoMemoryTurn}
@@ -20,11 +20,13 @@ use Rattle.machine_steps.specs.declared.entry.Input.TheVariants.{Message as Whol
 use Rattle.machine_steps.specs.declared.note.Note.{Note}
 use Rattle.machine_steps.specs.declared.note.Note.TheVariants as notes
 use Rattle.machine_steps.specs.declared.reply.Reply.{Reply}
-use Rattle.machine_steps.specs.declared.reply.Reply.TheVariants.{Overload, Stale, NotOpen}
+use Rattle.machine_steps.specs.declared.reply.Reply.TheVariants.{Overload}
 use Rattle.machine_steps.specs.Admitting.{Admits}
 use Rattle.machine_steps.specs.Histories.{Turn}
 use Rattle.machine_steps.specs.Machine.{State, was_opened}
 use Rattle.machine_steps.specs.Steps.{Steps}
+use Rattle.machine_sharing.specs.Legal.{call_of}
+use Rattle.machine_sharing.specs.Sharing.{ThreeStale}
 use Rattle.world_steps.specs.Worlds.{lacks_memory, messages_for}
 use Rattle.sim_steps.specs.Benches.{Slot, Bench, MovesAt, is_place, is_plugged, slot_at}
 
@@ -127,22 +129,20 @@ MayNote (notes.Turned c turned) = ⊥
 MayNote (notes.Seen c port frame seen) = ⊥
 MayNote note = Unit {0}
 
--- when an entry is made: a place is opened once; it is heard, taken out for and left while its session is open. The machine isn't asked to run the policy
--- itself
+-- when an entry is made: a place is opened once; it is heard, taken out for and left while its session is open. The machine is asked to decide of a packet
+-- itself behind three stale runs for it
 abbrev pub MayEnter : Entry → Bench → Type 0
 MayEnter (entries.Open c) b = (is_place c b ≡ true) × (was_opened c b.machine ≡ false)
 MayEnter (entries.Heard c input) b = (is_plugged c b.machine ≡ true) × ComesNext c input b.slots
 MayEnter (entries.Gone c fault) b = is_plugged c b.machine ≡ true
 MayEnter (entries.TakeOut c) b = is_plugged c b.machine ≡ true
-MayEnter (entries.Decide job) b = ⊥
+MayEnter (entries.Decide job) b = ThreeStale job (map call_of b.past)
 MayEnter (entries.Note note) b = MayNote note
 MayEnter entry b = Unit {0}
 
--- no packet finds too many others waiting, and no run is stale or of no job
+-- no packet finds too many others waiting
 abbrev pub IsSmooth : Reply → Type 0
 IsSmooth Overload = ⊥
-IsSmooth (Stale differs) = ⊥
-IsSmooth NotOpen = ⊥
 IsSmooth reply = Unit {0}
 
 pub record EntersAt (entry : Entry) (reply : Reply) (a b : Bench) : Type 0 where

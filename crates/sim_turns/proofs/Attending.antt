@@ -11,9 +11,9 @@ use Rattle.sim_channels.specs.declared.driver.Driver.{Driver}
 use Rattle.sim_channels.specs.Channels.{Fits, IsKept}
 use Rattle.sim_channels.specs.Driving.{DrivingLaws}
 use Rattle.sim_channels.specs.Waiting.{IsAtRest, IsAtRestBut, IsHeard, IsHeardThrough, IsOffered, IsTaken, StaysBut, WhilePlugged}
+use Rattle.sim_channels.specs.Hearing.{KeepsChannels}
 use Rattle.sim_channels.proofs.Delivered.{stays_so, taken_stays}
 use Rattle.sim_channels.proofs.Kept.{waiting_but}
-use Rattle.sim_turns.specs.Hearing.{KeepsChannels}
 
 module _ (here : ℕ) (old mid : Driver) (ds : List Meaning) (fits : Fits old ds) (kept : IsKept mid) (keeps : KeepsChannels here old mid) where
   pub fits_still : Fits mid ds

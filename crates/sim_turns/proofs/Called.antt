@@ -17,9 +17,9 @@ use Rattle.sim_steps.specs.Parts.{has_dealt}
 use Rattle.sim_channels.specs.Channels.{EntersAlone, Fits, bench, is_plugged_in, slot_by, slots_of}
 use Rattle.sim_channels.specs.declared.channel.Channel.{Channel}
 use Rattle.sim_channels.specs.declared.driver.Driver.{Driver}
+use Rattle.sim_channels.specs.Turns.{Waits}
 use Rattle.sim_channels.proofs.Slots.{slots_move}
 use Rattle.sim_turns.specs.Taking.{IsTaken, TakesTurnAt, TurnsAt}
-use Rattle.sim_turns.specs.Turning.{Waits}
 
 -- ---- by its answer
 

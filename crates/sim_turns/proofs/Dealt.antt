@@ -21,14 +21,15 @@ use Rattle.sim_channels.specs.Driving.{DrivingLaws}
 use Rattle.sim_channels.specs.Waiting.{IsAtRest, IsAtRestBut, IsOffered, StaysBut}
 use Rattle.sim_channels.specs.declared.channel.Channel.{Channel}
 use Rattle.sim_channels.specs.declared.driver.Driver.{Driver}
+use Rattle.sim_channels.specs.Turns.{Appends, ChannelMoves, Waits}
 use Rattle.sim_channels.proofs.Keeping.{session_same}
 use Rattle.sim_channels.proofs.Kept.{ChannelAt, channel_at, is_as_long, is_beside, is_there, kept_channel, not_fresh, waiting_but}
 use Rattle.sim_channels.proofs.Slots.{set_beside, set_there}
-use Rattle.sim_turns.specs.Taking.{Appends, ChannelMoves, IsTaken, IsTold, NotesTurn, Tires, ToldOver, TurnsAt}
-use Rattle.sim_turns.specs.Turning.{TakesOne, Waits}
+use Rattle.sim_channels.proofs.Resting.{rest_is_still}
+use Rattle.sim_turns.specs.Taking.{IsTaken, IsTold, NotesTurn, Tires, ToldOver, TurnsAt}
+use Rattle.sim_turns.specs.Turning.{TakesOne}
 use Rattle.sim_turns.proofs.Called.{turned_bench, calls_at, dealt_one, is_dealt}
 use Rattle.sim_turns.proofs.Counted.{NoneOpens, count_le}
-use Rattle.sim_channels.proofs.Resting.{rest_is_still}
 use Rattle.sim_turns.proofs.Rested.{rests_but}
 
 -- ---- one device among the others
@@ -65,16 +66,16 @@ module _ (laws : DrivingLaws) (at : ℕ) (turned : Turned) (bytes : List ℕ) (o
   at_channel : ChannelAt at K L old new
   at_channel = channel_at at old mid K waits.there note.same L new moves.set_is (ap (λ (d : DeskView). d.footing) desk ∙ footing)
 
-  noted : EntersAlone (entries.Note (notes.Turned (at + 1) turned)) note.reply old.desk new.desk
-  noted = subst (EntersAlone (entries.Note (notes.Turned (at + 1) turned)) note.reply old.desk) (sym desk) note.enters
+  noted : EntersAlone Telling note.reply old.desk new.desk
+  noted = subst (EntersAlone Telling note.reply old.desk) (sym desk) note.enters
 
   kept_behind : IsKept new
-  kept_behind = kept_channel laws old new (entries.Note (notes.Turned (at + 1) turned)) note.reply kept tt noted.steps refl refl (λ c. refl) at K L at_channel changes.stage
+  kept_behind = kept_channel laws old new Telling note.reply kept tt noted.steps refl refl (λ c. refl) at K L at_channel changes.stage
       (not_fresh L (changes.stage ∙ waits.plugged))
 
   others_stay : StaysBut at old new
   others_stay = record {
-    sessions = λ c o. session_same laws old.desk.now (entries.Note (notes.Turned (at + 1) turned)) note.reply new.desk.now kept.reached noted.steps refl c refl;
+    sessions = λ c o. session_same laws old.desk.now Telling note.reply new.desk.now kept.reached noted.steps refl c refl;
     channels = λ n o. is_beside at K L old new at_channel n o;
   }
 
@@ -85,7 +86,7 @@ module _ (laws : DrivingLaws) (at : ℕ) (turned : Turned) (bytes : List ℕ) (o
 
   pub dealt_rest : IsAtRestBut at new
   dealt_rest =
-      rests_but laws at old new kept kept_behind rest others_stay (laws.none old.desk.now (entries.Note (notes.Turned (at + 1) turned)) note.reply new.desk.now rest.jobs refl noted.steps) offered
+      rests_but laws at old new kept kept_behind rest others_stay (laws.none old.desk.now Telling note.reply new.desk.now rest.jobs refl noted.steps) offered
 
   none_opens : NoneOpens old.channels.items new.channels.items
   none_opens n x y e f open_now =

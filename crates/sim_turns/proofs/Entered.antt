@@ -1,62 +1,46 @@
 -- An entry that a script asks for is an event at a bench at rest.
-use Rattle.std.proofs.Common.{◌≡◌, ℕ, true, false, List, refl, sym, ap, subst, inl, inr}
+use Rattle.std.proofs.Common.{◌≡◌, true, false, List, [], ◌∷◌, ◌++◌, append-nil, length, refl, sym, ap, ◌∙◌, subst, arith}
 use Rattle.device_port.specs.Devices.{Meaning}
-use Rattle.env_cells.specs.declared.updates.Update.{Update}
-use Rattle.switch_session.specs.declared.told.End.{End}
 use Rattle.machine_steps.specs.declared.entry.Entry.{Entry}
 use Rattle.machine_steps.specs.declared.entry.Entry.TheVariants as entries
 use Rattle.machine_steps.specs.declared.reply.Reply.{Reply}
-use Rattle.machine_steps.specs.declared.reply.Reply.TheVariants.{NoMemory}
+use Rattle.machine_steps.specs.declared.reply.Reply.TheVariants.{NoMemory, Overload}
 use Rattle.machine_steps.specs.Admitting.{Admits}
+use Rattle.machine_steps.specs.Effects.{tells_packet}
+use Rattle.machine_steps.specs.Histories.{Leads, Turn}
 use Rattle.machine_steps.specs.Machine.{State}
-use Rattle.machine_steps.specs.Steps.{EndsSession, Opens, Steps, Updates, link_end}
+use Rattle.machine_steps.specs.Steps.{Steps}
+use Rattle.machine_steps.proofs.Changes.{JobsBy, changes}
+use Rattle.machine_steps.proofs.Changes.JobsBy.{Left, AreMany, Added}
+use Rattle.machine_desk.specs.Orders.{Asks}
 use Rattle.world_steps.specs.Worlds.{lacks_memory}
 use Rattle.sim_steps.specs.Benches.{Slot}
-use Rattle.sim_steps.specs.Deeds.{EntersAt, IsSmooth, MayEnter, SlotsBehind}
+use Rattle.sim_steps.specs.Deeds.{EntersAt, IsSmooth, MayEnter, SlotsBehind, turn_by}
 use Rattle.sim_steps.specs.Parts.{asks}
 use Rattle.sim_steps.proofs.Moments.{entered, stretch_entry}
-use Rattle.sim_channels.specs.Channels.{EntersAlone, bench, slots_of}
+use Rattle.sim_channels.specs.Channels.{EntersAlone, IsAlone, bench, slots_of}
 use Rattle.sim_channels.specs.Waiting.{IsAtRest}
 use Rattle.sim_channels.specs.declared.driver.Driver.{Driver}
-use Rattle.sim_turns.specs.Turning.{AskedOver}
 use Rattle.sim_channels.proofs.Resting.{rest_is_still}
+use Rattle.sim_turns.specs.Turning.{AskedOver}
 
 pub had_memory : (r : Reply) → (r ≡ NoMemory → ⊥) → lacks_memory r ≡ false
 had_memory NoMemory other = absurd (other refl)
 had_memory reply other = refl
 
--- ---- what such an entry is replied
+-- ---- what is replied while no packet waits
 
-smooth_as : (r s : Reply) → r ≡ s → IsSmooth s → IsSmooth r
-smooth_as r s e h = subst IsSmooth (sym e) h
+smooth_untold : (r : Reply) → tells_packet r ≡ false → IsSmooth r
+smooth_untold Overload untold = absurd (cc)
+smooth_untold reply untold = tt
 
-module _ (m : State) (reply : Reply) (n : State) where
-  opens_smooth : (c : ℕ) → Opens c m reply n → IsSmooth reply
-  opens_smooth c (inl (was, (r, e))) = smooth_as reply _ r tt
-  opens_smooth c (inr (inl (fresh, full, r, e))) = smooth_as reply _ r tt
-  opens_smooth c (inr (inr (inl (fresh, few, r, e)))) = smooth_as reply _ r tt
-  opens_smooth c (inr (inr (inr (r, e)))) = smooth_as reply _ r tt
-
-  pub ends_smooth : (c : ℕ) (end : End) → EndsSession c end m reply n → IsSmooth reply
-  ends_smooth c end (inl (found, (r, e))) = smooth_as reply _ r tt
-  ends_smooth c end (inr (s, found, r, e)) = smooth_as reply _ r tt
-
-  updates_smooth : (u : Update) → Updates u m reply n → IsSmooth reply
-  updates_smooth u (inl (free, r, a)) = smooth_as reply _ r tt
-  updates_smooth u (inr (inl (kind, refused, r, e))) = smooth_as reply _ r tt
-  updates_smooth u (inr (inr (r, e))) = smooth_as reply _ r tt
-
-  asked_smooth : (entry : Entry) → asks entry ≡ true → Steps m entry reply n → IsSmooth reply
-  asked_smooth (entries.Open c) asked h = opens_smooth c h
-  asked_smooth (entries.Gone c fault) asked h = ends_smooth c (link_end fault) h
-  asked_smooth (entries.Change u) asked h = updates_smooth u h
-  asked_smooth (entries.NewPolicy p) asked (inl (r, e)) = smooth_as reply _ r tt
-  asked_smooth (entries.NewPolicy p) asked (inr (r, e)) = smooth_as reply _ r tt
-  asked_smooth (entries.ReadRules switch) asked (inl (rules, put, r, e)) = smooth_as reply _ r tt
-  asked_smooth (entries.ReadRules switch) asked (inr (r, e)) = smooth_as reply _ r tt
-  asked_smooth (entries.Note note) asked (inl (r, e)) = smooth_as reply _ r tt
-  asked_smooth (entries.Note note) asked (inr (r, e)) = smooth_as reply _ r tt
-  asked_smooth entry asked h = absurd (cc)
+smooth_alone : (m : State) (entry : Entry) (reply : Reply) (n : State) → m.jobs ≡ [] → Steps m entry reply n → IsSmooth reply
+smooth_alone m entry reply n none steps = go (changes m entry reply n steps).jobs
+  where
+    go : JobsBy m entry reply n → IsSmooth reply
+    go (Left untold count left) = smooth_untold reply untold
+    go (AreMany r count many same) = (let few : length m.jobs ≡ 0 = ap length none in absurd (omega (arith, many)))
+    go (Added h t j hearing r from number count jobs) = subst IsSmooth (sym r) tt
 
 -- ---- the event
 
@@ -72,7 +56,7 @@ module _ (entry : Entry) (reply : Reply) (old new : Driver) (rest : IsAtRest old
     may = may;
     admitted = admitted;
     steps = enters.steps;
-    smooth = asked_smooth old.desk.now reply new.desk.now entry asked enters.steps;
+    smooth = smooth_alone old.desk.now entry reply new.desk.now rest.jobs enters.steps;
     slots = asked_slots old.desk.now entry reply _ _ asked (ap (λ (x : Driver). slots_of x.channels.items devices) same);
     past = enters.past;
   }
@@ -84,3 +68,27 @@ module _ (entry : Entry) (reply : Reply) (old new : Driver) (rest : IsAtRest old
     before = refl;
     deed = refl;
   }
+
+-- ---- what was asked at the desk, where nobody else has a part of the machine
+
+module _ (entry : Entry) (reply : Reply) (old new : Driver) (alone : IsAlone old) (h : Asks entry reply old.desk new.desk) where
+  none_between : h.enters.others ≡ []
+  none_between = h.enters.alone alone
+
+  same_machine : h.enters.between ≡ old.desk.now
+  same_machine = subst (λ (ts : List Turn). Leads old.desk.now ts h.enters.between) none_between h.enters.meanwhile
+
+  pub alone_of_asks : EntersAlone entry reply old.desk new.desk
+  alone_of_asks = record {
+    steps = subst (λ (m : State). Steps m entry reply new.desk.now) same_machine h.enters.made.steps;
+    past =
+        h.enters.past
+        ∙ ap (λ (ts : List Turn). (old.desk.past ++ ts) ++ turn_by h.enters.between entry reply new.desk.now ∷ []) none_between
+        ∙ ap (λ (ts : List Turn). ts ++ turn_by h.enters.between entry reply new.desk.now ∷ []) (append-nil old.desk.past)
+        ∙ ap (λ (m : State). old.desk.past ++ turn_by m entry reply new.desk.now ∷ []) same_machine;
+  }
+
+  pub asked_over_of_asks : IsAtRest old → asks entry ≡ true → new ≡ record old { desk = new.desk } → AskedOver entry reply old new
+  asked_over_of_asks rest asked same =
+      let admitted = subst (λ (m : State). Admits m entry) same_machine h.enters.made.admitted in
+      asked_over entry reply old new rest asked admitted alone_of_asks same (had_memory reply h.memory)

@@ -20,15 +20,16 @@ use Rattle.sim_channels.specs.Driving.{DrivingLaws}
 use Rattle.sim_channels.specs.Waiting.{IsAtRest, IsAtRestBut}
 use Rattle.sim_channels.specs.declared.channel.Channel.{Channel}
 use Rattle.sim_channels.specs.declared.driver.Driver.{Driver}
+use Rattle.sim_channels.specs.Turns.{Waits}
 use Rattle.sim_channels.proofs.Kept.{all_left, waiting_but}
 use Rattle.sim_channels.proofs.Slots.{set_same}
+use Rattle.sim_channels.proofs.Resting.{rest_is_still}
 use Rattle.sim_turns.specs.Taking.{IsTaken, IsTold, NotesTurn, Tires, ToldOver, TurnsAt, plugged_count}
-use Rattle.sim_turns.specs.Turning.{TakesOne, Waits}
+use Rattle.sim_turns.specs.Turning.{TakesOne}
 use Rattle.sim_turns.proofs.Called.{turned_bench, calls_at, fed_nothing}
 use Rattle.sim_turns.proofs.Counted.{NoneOpens, count_lt}
 use Rattle.sim_turns.proofs.Dealt.{device_there, devices_beside, devices_long}
 use Rattle.sim_turns.proofs.Noted.{noted_fits, noted_kept, noted_rest}
-use Rattle.sim_channels.proofs.Resting.{rest_is_still}
 use Rattle.sim_turns.proofs.Pending.{there_is}
 use Rattle.sim_turns.proofs.Rested.{rests_but}
 

@@ -1,10 +1,7 @@
--- Bytes: a message has some. Replies: what is never replied to one. Answering: turns that answer a packet. Passing: what is known behind one message. Onward: behind
--- several. Attending: what is known behind a delivery then. Entered: an entry that a script asks for, as an event. Noted: what a note leaves. Pending: where a
--- message waits. Obeyed: turns are an order's part. Counted: how many sessions are open. Rested: what a turn leaves to do. Called: a turn is an event. Dealt,
--- Failing: what a turn brings about at once.
-pub mod Answering
+-- Onward: what is known behind several messages. Attending: what is known behind a delivery then. Entered: an entry that a script asks for, as an event, also
+-- where the desk is asked for it. Noted: what a note leaves. Pending: where a message waits. Obeyed: turns are an order's part. Counted: how many sessions are
+-- open. Rested: what a turn leaves to do. Called: a turn is an event. Dealt, Failing: what a turn brings about at once.
 pub mod Attending
-pub mod Bytes
 pub mod Called
 pub mod Counted
 pub mod Dealt
@@ -13,7 +10,5 @@ pub mod Failing
 pub mod Noted
 pub mod Obeyed
 pub mod Onward
-pub mod Passing
 pub mod Pending
-pub mod Replies
 pub mod Rested

@@ -44,12 +44,12 @@ module _ (note : Note) (desk : DeskView) (driver : Driver) (footing : desk.footi
 
 -- ---- so a note does
 
-pub record IsNoted (note : Note) (reply : Reply) (old new : Driver) : Type 0 where
-  pub done : reply ≡ Done
-  pub now_is : new ≡ told (note_lines note) new.desk old
+record IsNoted (note : Note) (reply : Reply) (old new : Driver) : Type 0 where
+  done : reply ≡ Done
+  now_is : new ≡ told (note_lines note) new.desk old
 
 module _ (note : Note) (reply : Reply) (old new : Driver) (same : new ≡ record old { desk = new.desk }) (memory : lacks_memory reply ≡ false) (footing : new.desk.footing ≡ old.desk.footing) where
-  pub noted : Steps old.desk.now (entries.Note note) reply new.desk.now → IsNoted note reply old new
+  noted : Steps old.desk.now (entries.Note note) reply new.desk.now → IsNoted note reply old new
   noted (inl (r, e)) = record { done = r; now_is = same ∙ ap (λ (m : State). record old { desk = record new.desk { now = m } }) e }
   noted (inr (r, e)) = (let f : lacks_memory reply ≡ lacks_memory NoMemory = ap lacks_memory r in absurd (cc))
 

@@ -13,7 +13,7 @@ use Rattle.sim_steps.specs.Deeds.{Event, MayNote}
 use Rattle.sim_steps.specs.Deeds.Deed.{Enters}
 use Rattle.sim_steps.specs.Parts.{EndsSettling, HasPending, IfPlugged, IsExhausted, IsLowestTurn, IsStill, IsTurnAt, JustNotes, Settles, TakesTurns, dealt_in, has_dealt, most_turns, turns_taken}
 use Rattle.sim_steps.specs.Stretches.{Carried, Obeyed}
-use Rattle.sim_steps.proofs.Joining.{all_append, carried_behind, obeyed, stretch_empty, stretch_then}
+use Rattle.sim_steps.proofs.Joining.{all_append, carried_behind, obeyed, stretch_then}
 use Rattle.sim_channels.specs.Channels.{Fits, bench}
 use Rattle.sim_channels.specs.Waiting.{IsAtRest}
 use Rattle.sim_channels.specs.declared.driver.Driver.{Driver}
@@ -26,9 +26,6 @@ use Rattle.sim_turns.specs.Turning.{AskedOver, FitsStill, IsAsked, TakesOne}
 turns_more : (es : List Event) (e : Event) → turns_taken (es ++ e ∷ []) ≡ turns_taken es + dealt_in e.deed
 turns_more [] e = omega arith
 turns_more (x ∷ es) e = let h = turns_more es e in omega arith
-
-pub takes_none : (P : Event → Type 0) (a : Bench) → TakesSome P 0 a a
-takes_none P a = record { turns = []; stretch = stretch_empty a; all = tt; count = refl }
 
 pub takes_more : (P : Event → Type 0) (n : ℕ) (a b d : Bench) (c : ℕ) (turned : Turned) → TakesSome P n a b → (one : TakesOne c turned b d) → P one.event
     → TakesSome P (n + has_dealt turned) a d

@@ -3,20 +3,20 @@ use Rattle.std.proofs.Common.{◌≡◌, ℕ, Bool, false, [], get_or, refl, sym
 use Rattle.std.specs.Prelude.{Some, Result, Ok}
 use Rattle.std.specs.List.{slice_get}
 use Rattle.std.proofs.lemmas.Option.{same_Some, slice_get_within, slice_get-get_or}
+use Rattle.sim_steps.proofs.Joining.{carried_none, carried_then}
 use Rattle.sim_channels.specs.declared.channel.Channel.{Channel}
 use Rattle.sim_channels.specs.declared.driver.Driver.{Driver}
 use Rattle.sim_channels.specs.declared.stopped.Stopped.{Stopped}
-use Rattle.sim_channels.specs.Channels.{IsKept}
+use Rattle.sim_channels.specs.Channels.{IsKept, bench}
 use Rattle.sim_channels.specs.Waiting.{IsOffered, StaysBut}
-use Rattle.sim_turns.specs.Hearing.{KeepsChannels}
-use Rattle.sim_turns.specs.Passes.{HasHeard, Passed, is_state}
-use Rattle.sim_turns.specs.declared.hear.Came.{Came}
-use Rattle.sim_turns.proofs.Passing.{over_none, over_then}
+use Rattle.sim_channels.specs.Hearing.{KeepsChannels}
+use Rattle.sim_channels.specs.Passes.{HasHeard, Passed, is_state}
+use Rattle.sim_channels.specs.declared.hear.Came.{Came}
 
 heard_none : (here : ℕ) (made : Bool) (driver : Driver) → IsKept driver → driver.desk.now.jobs ≡ [] → IsOffered here driver → HasHeard here made driver driver
 heard_none here made driver kept none offered = record {
   kept = kept;
-  carried = over_none driver driver (λ ds. refl);
+  carried = λ ds long. carried_none (bench driver ds);
   jobs = none;
   offered = offered;
   channels = record {
@@ -38,7 +38,7 @@ heard_then : (here : ℕ) (first second made : Bool) (a b d : Driver) → (made 
     → HasHeard here made a d
 heard_then here first second made a b d by h k = record {
   kept = k.kept;
-  carried = over_then a b d h.channels.count h.carried k.carried;
+  carried = λ ds long. carried_then (bench a ds) (bench b ds) (bench d ds) (h.carried ds long) (k.carried ds (long ∙ sym h.channels.count));
   jobs = k.jobs;
   offered = k.offered;
   channels = record {

@@ -1,51 +1,17 @@
 -- A message waits in a device of the bench just where its channel tells so.
-use Rattle.std.proofs.Common.{◌≡◌, ℕ, zero, suc, ◌+◌, ◌<◌, true, false, List, [], ◌∷◌, length, refl, sym, ap, ◌∙◌, subst, arith}
-use Rattle.std.specs.Prelude.{nat_lt, Some}
+use Rattle.std.proofs.Common.{◌≡◌, ℕ, zero, suc, ◌+◌, ◌<◌, List, [], ◌∷◌, length, refl, sym, ap, ◌∙◌, subst, arith}
+use Rattle.std.specs.Prelude.{Some}
 use Rattle.std.specs.List.{slice_get}
-use Rattle.std.proofs.lemmas.Bool.{and_from, and_parts}
-use Rattle.std.proofs.lemmas.Bool.Decides.{nat_tests}
-use Rattle.std.proofs.lemmas.Option.{same_Some, slice_get_within}
 use Rattle.of10_codec.specs.declared.message.Message.{Message}
 use Rattle.device_port.specs.Devices.{Meaning}
 use Rattle.sim_steps.specs.Benches.{Slot, is_plugged}
 use Rattle.sim_steps.specs.Parts.{HasPending, IsExhausted}
 use Rattle.sim_channels.specs.Channels.{Fits, bench, is_plugged_in, slot_by, slots_of}
-use Rattle.sim_channels.specs.declared.channel.Channel.{Channel}
 use Rattle.sim_channels.specs.declared.driver.Driver.{Driver}
+use Rattle.sim_channels.specs.Turns.{NoneBefore, Waits}
 use Rattle.sim_channels.proofs.Resting.{plugged_in}
 use Rattle.sim_channels.proofs.Slots.{slot_next, slots_found, slots_get}
-use Rattle.sim_turns.specs.Taking.{NoneBefore, waits_in}
-use Rattle.sim_turns.specs.Turning.{Waits}
-
--- ---- the test
-
-positive : (n : ℕ) → nat_lt 0 n ≡ true → 0 < n
-positive n e = grind (arith, nat_tests)
-
-is_positive : (n : ℕ) → 0 < n → nat_lt 0 n ≡ true
-is_positive n h = grind (arith, nat_tests)
-
-pub waits_there : (driver : Driver) (at : ℕ) (k : Channel) → slice_get driver.channels.items at ≡ Some k → waits_in k ≡ true → Waits at driver
-waits_there driver at k e waits = record {
-  channel = k;
-  there = e;
-  plugged = plugged_in k.stage (and_parts (is_plugged_in k.stage) (nat_lt 0 k.waiting) waits).0;
-  some = positive k.waiting (and_parts (is_plugged_in k.stage) (nat_lt 0 k.waiting) waits).1;
-}
-
-waits_now : (driver : Driver) (at : ℕ) (k : Channel) → slice_get driver.channels.items at ≡ Some k → Waits at driver → waits_in k ≡ true
-waits_now driver at k e h =
-    let same : h.channel ≡ k = same_Some h.channel k (sym h.there ∙ e) in
-    let one : waits_in h.channel ≡ true = and_from (is_plugged_in h.channel.stage) (nat_lt 0 h.channel.waiting) (ap is_plugged_in h.plugged) (is_positive h.channel.waiting h.some) in
-    ap waits_in (sym same) ∙ one
-
-pub waits_not : (driver : Driver) (at : ℕ) (k : Channel) → slice_get driver.channels.items at ≡ Some k → waits_in k ≡ false → Waits at driver → ⊥
-waits_not driver at k e not h = let f : true ≡ false = sym (waits_now driver at k e h) ∙ not in cc
-
-pub waits_within : (driver : Driver) (at : ℕ) → Waits at driver → at < length driver.channels.items
-waits_within driver at h = slice_get_within driver.channels.items at h.channel h.there
-
--- ---- the bench
+use Rattle.sim_channels.proofs.Waits.{waits_within}
 
 pub there_is : {X : Type 0} (xs : List X) (i : ℕ) → i < length xs → (x : X) × (slice_get xs i ≡ Some x)
 there_is [] i h = absurd (omega arith)
@@ -60,10 +26,10 @@ some_waits [] h = absurd (h refl)
 some_waits (x ∷ xs) h = omega arith
 
 -- the device at a place, by the index of its channel
-pub record WaitsAt (c : ℕ) (driver : Driver) : Type 0 where
-  pub at : ℕ
-  pub place : c ≡ at + 1
-  pub waits : Waits at driver
+record WaitsAt (c : ℕ) (driver : Driver) : Type 0 where
+  at : ℕ
+  place : c ≡ at + 1
+  waits : Waits at driver
 
 module _ (driver : Driver) (devices : List Meaning) (fits : Fits driver devices) where
   pub pends : (at : ℕ) → Waits at driver → HasPending (at + 1) (bench driver devices)
@@ -80,7 +46,7 @@ module _ (driver : Driver) (devices : List Meaning) (fits : Fits driver devices)
         some = some_there d.0.pending (subst (λ n. 0 < n) counted h.some);
       }
 
-  pub waits_by : (c : ℕ) → HasPending c (bench driver devices) → WaitsAt c driver
+  waits_by : (c : ℕ) → HasPending c (bench driver devices) → WaitsAt c driver
   waits_by c h =
       let f = slots_found driver.channels.items devices c h.slot h.is.there in
       let staged : is_plugged (f.at + 1) driver.desk.now ≡ is_plugged_in f.channel.stage = (fits.kept.stages f.at f.channel f.there).plugged in

@@ -1,9 +1,8 @@
--- Words for private contracts: a message waits, a turn of a device among the others, some turns one after the other.
-use Rattle.std.specs.Prelude.{◌≡◌, ◌≢◌, ℕ, ◌+◌, ◌<◌, Bool, false, nat_lt, ◌&&◌, if◌then◌else◌, List, [], ◌∷◌, ◌++◌, set, Some}
+-- Words for private contracts: a turn of a device among the others, some turns one after the other.
+use Rattle.std.specs.Prelude.{◌≡◌, ◌≢◌, ℕ, ◌+◌, ◌<◌, false, if◌then◌else◌, List, [], ◌∷◌, ◌++◌, set, Some}
 use Rattle.std.specs.List.{slice_get, AllByRecursion}
 use Rattle.maple_base.specs.declared.device.Turned.{Turned}
 use Rattle.maple_base.specs.declared.device.Turned.TheVariants.{Processed, Refused as RefusedChange, Failed as FailedTurn, NoMemory as NoMemoryTurn}
-use Rattle.of10_stream.specs.Steps.{fed}
 use Rattle.device_port.specs.Devices.{Meaning, Turns}
 use Rattle.machine_steps.specs.declared.entry.Entry.TheVariants as entries
 use Rattle.machine_steps.specs.declared.note.Note.TheVariants as notes
@@ -16,21 +15,9 @@ use Rattle.sim_steps.specs.Stretches.{Stretch}
 use Rattle.sim_channels.specs.Channels.{EntersAlone, Fits, bench, is_plugged_in}
 use Rattle.sim_channels.specs.declared.channel.Channel.{Channel}
 use Rattle.sim_channels.specs.declared.driver.Driver.{Driver}
-use Rattle.sim_turns.specs.Turning.{TakesOne, Waits}
+use Rattle.sim_turns.specs.Turning.{TakesOne}
 
 -- ---- which devices have a message to deal with
-
-abbrev pub waits_in : Channel → Bool
-waits_in k = is_plugged_in k.stage && nat_lt 0 k.waiting
-
--- no message waits in any device ahead of the one with this index
-abbrev pub NoneBefore : ℕ → Driver → Type 0
-NoneBefore at driver = (i : ℕ) → i < at → Waits i driver → ⊥
-
--- this is the first device in which a message waits
-pub record IsLowest (at : ℕ) (driver : Driver) : Type 0 where
-  pub waits : Waits at driver
-  pub lowest : NoneBefore at driver
 
 -- how many sessions are open
 abbrev pub plugged_count : List Channel → ℕ
@@ -71,21 +58,6 @@ pub record NotesTurn (at : ℕ) (turned : Turned) (old new : Driver) : Type 0 wh
   pub memory : lacks_memory reply ≡ false
   pub same : new ≡ record old { desk = new.desk }
   pub enters : EntersAlone (entries.Note (notes.Turned (at + 1) turned)) reply old.desk new.desk
-
--- the channel with this index changes so, and the others stay
-pub record ChannelMoves (at : ℕ) (Moves : Channel → Channel → Type 0) (old new : Driver) : Type 0 where
-  pub before : Channel
-  pub behind : Channel
-  pub there : slice_get old.channels.items at ≡ Some before
-  pub set_is : new.channels.items ≡ set old.channels.items at behind
-  pub moves : Moves before behind
-
--- these bytes came from the device, and one message less waits in it
-pub record Appends (bytes : List ℕ) (k l : Channel) : Type 0 where
-  pub stage : l.stage ≡ k.stage
-  pub to : l.to ≡ k.to
-  pub from : l.from.stream ≡ fed bytes k.from.stream
-  pub waiting : k.waiting ≡ l.waiting + 1
 
 -- the device with this index takes a turn, and what that brings about is done
 abbrev pub TakesOneBy : ℕ → Turned → Driver → List Meaning → Driver → List Meaning → Type 0

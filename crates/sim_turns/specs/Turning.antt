@@ -1,6 +1,5 @@
 -- What is done when a script asks for an entry, and when a device takes a turn.
-use Rattle.std.specs.Prelude.{◌≡◌, ℕ, ◌<◌, true, List, [], ◌∷◌, Some}
-use Rattle.std.specs.List.{slice_get}
+use Rattle.std.specs.Prelude.{◌≡◌, ℕ, true, List, [], ◌∷◌}
 use Rattle.maple_base.specs.declared.device.Turned.{Turned}
 use Rattle.device_port.specs.Devices.{Meaning}
 use Rattle.device_port.specs.Devices.Call.{Turning}
@@ -12,8 +11,6 @@ use Rattle.sim_steps.specs.Deeds.Deed.{Enters, Calls}
 use Rattle.sim_steps.specs.Parts.{asks}
 use Rattle.sim_steps.specs.Stretches.{Stretch}
 use Rattle.sim_channels.specs.Channels.{Fits, bench}
-use Rattle.sim_channels.specs.declared.channel.Channel.{Channel}
-use Rattle.sim_channels.specs.declared.channel.Plugging.TheVariants.{Plugged}
 use Rattle.sim_channels.specs.declared.driver.Driver.{Driver}
 
 -- a script asks for this entry
@@ -35,13 +32,6 @@ AskedOver entry reply old new =
 -- the channels are still those of the devices
 abbrev pub FitsStill : Driver → Driver → Type 0
 FitsStill old new = (devices : List Meaning) → Fits old devices → Fits new devices
-
--- a message waits in the device with this index, whose session is open
-pub record Waits (at : ℕ) (driver : Driver) : Type 0 where
-  pub channel : Channel
-  pub there : slice_get driver.channels.items at ≡ Some channel
-  pub plugged : channel.stage ≡ Plugged
-  pub some : 0 < channel.waiting
 
 -- the device at a place takes a turn
 pub record TakesOne (c : ℕ) (turned : Turned) (a b : Bench) : Type 0 where

@@ -7,7 +7,6 @@ pub mod hear;
 mod settling;
 mod telling;
 mod turning;
-mod waiting;
 
 pub use asking::{ask, note};
 pub use settling::settle;

@@ -7,7 +7,6 @@ ghost use Rattle.sim_channels.specs.Waiting.{IsAtRest};
 
 use crate::asking::note;
 use crate::turning::{dealt, take_turn};
-use crate::waiting::lowest_waiting;
 use core_machine::Note;
 use device_port::Device;
 use sim_channels::{Driver, Stopped};
@@ -35,7 +34,7 @@ pub fn settle<R: Wait, D: Device>(
     ensures footing { driver.new.desk.footing ≡ driver.old.desk.footing }
 {
     let mut taken = 0;
-    while let Some(at) = lowest_waiting(driver) {
+    while let Some(at) = driver.lowest_waiting() {
         if taken == MOST_TURNS {
             return note(rt, driver, Note::Unsettled(taken));
         }

@@ -2,12 +2,12 @@
 ghost use Rattle.std.specs.Prelude.{◌≡◌, ◌+◌, ◌^◌, ◌<◌, OnOk};
 ghost use Rattle.sim_channels.specs.Channels.{IsAlone, IsKept};
 ghost use Rattle.sim_channels.specs.Waiting.{IsAtRest, IsAtRestBut};
-ghost use Rattle.sim_turns.specs.Taking.{Appends, ChannelMoves, IsTaken, NotesTurn, Tires, ToldOver};
-ghost use Rattle.sim_turns.specs.Turning.{Waits};
+ghost use Rattle.sim_channels.specs.Turns.{Waits};
+ghost use Rattle.sim_turns.specs.Taking.{IsTaken, NotesTurn, Tires, ToldOver};
 
 use crate::asking::ask;
 use core_machine::{Entry, Note};
-use maple_base::{NoMemory, Turned};
+use maple_base::Turned;
 use sim_channels::{Driver, Stopped, connection_of, driving_laws};
 use std::sync::Wait;
 
@@ -40,7 +40,7 @@ pub(crate) fn tell_turn<R: Wait>(
             driver.leave(rt, at)?;
             Ok(())
         }
-        _ => Ok(append(driver, at, bytes)?),
+        _ => Ok(driver.append(at, bytes)?),
     }
 }
 
@@ -58,21 +58,5 @@ fn tell<R: Wait>(rt: &R, driver: &mut Driver<'_>, at: usize, turned: Turned) -> 
 {
     let device = connection_of(at);
     ask(rt, driver, Entry::Note(Note::Turned { device, turned }))?;
-    Ok(())
-}
-
-/// One message less waits in the device, which appended these bytes.
-///
-/// # Errors
-///
-/// `NoMemory`.
-fn append(driver: &mut Driver<'_>, at: usize, bytes: &[u8]) -> Result<(), NoMemory>
-    requires { Waits at driver.old }
-    ensures desk { driver.new.desk ≡ driver.old.desk }
-    ensures moves { OnOk result (ChannelMoves at (Appends bytes.now) driver.old driver.new) }
-{
-    let channel = &mut driver.channels[at];
-    channel.from.feed(bytes)?;
-    channel.waiting -= 1;
     Ok(())
 }

@@ -6,13 +6,12 @@ ghost use Rattle.sim_steps.specs.Parts.{has_dealt};
 ghost use Rattle.sim_steps.specs.Stretches.{Obeyed};
 ghost use Rattle.sim_channels.specs.Channels.{Fits, bench};
 ghost use Rattle.sim_channels.specs.Waiting.{IsAtRest, IsAtRestBut};
+ghost use Rattle.sim_channels.specs.Turns.{Waits};
 ghost use Rattle.sim_turns.specs.Taking.{IsTold, TakesOneBy, TakesTurnAt, TakesTurnsBy, Tires};
-ghost use Rattle.sim_turns.specs.Turning.{Waits};
 
 use crate::asking::note;
 use crate::attend::attend;
 use crate::telling::tell_turn;
-use crate::waiting::{is_plugged_at, is_waiting_at};
 use core_machine::Note;
 use device_port::Device;
 use maple_base::{NoMemory, Turned};
@@ -66,7 +65,7 @@ fn turn_told<R: Wait, D: Device>(
     ensures tires { IfOk result (λ turned. Tires turned driver.old driver.new) }
     ensures footing { driver.new.desk.footing ≡ driver.old.desk.footing }
 {
-    let mut bytes = Vec::new(driver.alloc);
+    let mut bytes = Vec::new(driver.alloc());
     let turned = turn_at(devices, at, &mut bytes)?;
     tell_turn(rt, driver, at, turned, &bytes)?;
     Ok(turned)
@@ -120,7 +119,7 @@ pub fn turn<R: Wait, D: Device>(
     ensures footing { driver.new.desk.footing ≡ driver.old.desk.footing }
 {
     let at = place as usize - 1;
-    if !is_plugged_at(driver, at) {
+    if !driver.is_plugged_at(at) {
         return note(rt, driver, Note::Absent(place));
     }
     let turns = take_turns(rt, driver, devices, at, count)?;
@@ -158,7 +157,7 @@ fn take_turns<R: Wait, D: Device>(
     ensures footing { driver.new.desk.footing ≡ driver.old.desk.footing }
 {
     let mut taken = 0;
-    while taken < most && is_waiting_at(driver, at) {
+    while taken < most && driver.is_waiting_at(at) {
         taken += dealt(take_turn(rt, driver, devices, at)?);
     }
     Ok(taken)

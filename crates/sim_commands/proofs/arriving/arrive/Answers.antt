@@ -4,7 +4,7 @@ use Rattle.script_text.specs.Orders.Order.{Arrival}
 use Rattle.sim_steps.specs.Parts.{JustLooks}
 use Rattle.sim_channels.specs.Channels.{is_plugged_in}
 use Rattle.sim_commands.proofs.Calling.{obeyed_looked}
-use Rattle.sim_commands.proofs.Doing.{if_absent, obeyed_noted, of_ok, on_ok, others_closed, staged_at}
+use Rattle.sim_commands.proofs.Doing.{if_absent, obeyed_noted, of_ok, on_ok, others_closed, staged_there}
 use Rattle.sim_commands.proofs.arriving.arrive.Goals as goal
 
 pub returns-in_ok-look-in-Plugged-clause-obeyed : goal.returns-in_ok-look-in-Plugged-clause-obeyed
@@ -15,7 +15,7 @@ returns-in_ok-look-in-Plugged-clause-obeyed g c =
     let h = c.requires in
     let place = c.args.place in
     let at = c.index_of-at.result in
-    let staged = staged_at g.D.Device.meaning d c.args.devices.now place at c.index.result.now h.fits h.among c.index_of-at.ensures c.index.ensures in
+    let staged = staged_there d place at c.stage.result h.fits.kept c.index_of-at.ensures c.stage.ensures in
     on_ok r (λ u e.
     obeyed_looked d _ c.look.new.driver _ c.attend.new.driver _ place at c.args.port c.args.frame c.index_of-at.ensures (staged.plugged ∙ ap is_plugged_in c.in-Plugged.is)
     c.in_ok-look-in-Plugged.ensures.looked (of_ok _ r u e done.carried) (of_ok _ r u e done.fits) (of_ok _ r u e done.rest))
@@ -28,7 +28,7 @@ returns-in_default-clause-obeyed g c =
     let place = c.args.place in
     let port = c.args.port in
     let frame = c.args.frame in
-    let staged = staged_at g.D.Device.meaning d c.args.devices.now place c.index_of-at.result c.index.result.now h.fits h.among c.index_of-at.ensures c.index.ensures in
+    let staged = staged_there d place c.index_of-at.result c.stage.result h.fits.kept c.index_of-at.ensures c.stage.ensures in
     on_ok r (λ u e.
     obeyed_noted (Arrival place port frame) (notes.Absent place) d c.note.new.driver _
     (λ es just. if_absent place d.desk.now (JustLooks place port frame es) (staged.plugged ∙ others_closed _ c.in_default.not-Plugged) es just) tt h.fits

@@ -3,8 +3,8 @@ use Rattle.script_text.specs.Orders.Order.{Plug}
 use Rattle.machine_steps.specs.declared.entry.Entry.TheVariants as entries
 use Rattle.machine_steps.specs.declared.note.Note.TheVariants as notes
 use Rattle.sim_channels.specs.Channels.{is_plugged_in, was_plugged_in}
-use Rattle.sim_commands.proofs.Doing.{obeyed_done, obeyed_noted, of_ok, on_ok, plugs_gone, plugs_now, plugs_present, staged_at, stays_then}
-use Rattle.sim_commands.proofs.Places.{fits_but, rest_but}
+use Rattle.sim_channels.proofs.Places.{fits_but, rest_but}
+use Rattle.sim_commands.proofs.Doing.{obeyed_done, obeyed_noted, of_ok, on_ok, plugs_gone, plugs_now, plugs_present, staged_there, stays_then}
 use Rattle.sim_commands.proofs.plugging.plug.Goals as goal
 
 pub deliver-requires-clause-fits : goal.deliver-requires-clause-fits
@@ -17,7 +17,7 @@ returns-in-Plugged-clause-obeyed g c =
     let d = c.args.driver.now in
     let h = c.requires in
     let place = c.args.place in
-    let staged = staged_at g.D.Device.meaning d c.args.devices.now place c.index_of-at.result c.index.result.now h.fits h.among c.index_of-at.ensures c.index.ensures in
+    let staged = staged_there d place c.index_of-at.result c.stage.result h.fits.kept c.index_of-at.ensures c.stage.ensures in
     on_ok c.note.result (λ u e.
     obeyed_noted (Plug place) (notes.Present place) d c.note.new.driver _ (plugs_present place d.desk.now (staged.plugged ∙ ap is_plugged_in c.in-Plugged.is)) tt h.fits
     (of_ok _ c.note.result u e c.note.ensures.asked) (of_ok _ c.note.result u e c.note.ensures.fits) (of_ok _ c.note.result u e c.note.ensures.rest))
@@ -27,7 +27,7 @@ returns-in-Left-clause-obeyed g c =
     let d = c.args.driver.now in
     let h = c.requires in
     let place = c.args.place in
-    let staged = staged_at g.D.Device.meaning d c.args.devices.now place c.index_of-at.result c.index.result.now h.fits h.among c.index_of-at.ensures c.index.ensures in
+    let staged = staged_there d place c.index_of-at.result c.stage.result h.fits.kept c.index_of-at.ensures c.stage.ensures in
     let r = c.note-in-Left.result in
     on_ok r (λ u e.
     obeyed_noted (Plug place) (notes.GoneAlready place) d c.note-in-Left.new.driver _
@@ -52,7 +52,7 @@ returns-in_ok-open-in-Unplugged-clause-obeyed g c =
     let d = c.args.driver.now in
     let h = c.requires in
     let place = c.args.place in
-    let staged = staged_at g.D.Device.meaning d c.args.devices.now place c.index_of-at.result c.index.result.now h.fits h.among c.index_of-at.ensures c.index.ensures in
+    let staged = staged_there d place c.index_of-at.result c.stage.result h.fits.kept c.index_of-at.ensures c.stage.ensures in
     on_ok r (λ u e.
     obeyed_done (Plug place) (entries.Open place) d c.open.new.driver _ c.deliver.new.self _
     (plugs_now place d.desk.now (staged.plugged ∙ ap is_plugged_in c.in-Unplugged.is) (staged.opened ∙ ap was_plugged_in c.in-Unplugged.is)) h.fits

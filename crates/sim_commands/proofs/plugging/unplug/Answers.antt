@@ -4,8 +4,8 @@ use Rattle.machine_steps.specs.declared.entry.Entry.TheVariants as entries
 use Rattle.machine_steps.specs.declared.note.Note.TheVariants as notes
 use Rattle.sim_steps.specs.Parts.{JustEnters}
 use Rattle.sim_channels.specs.Channels.{is_plugged_in}
+use Rattle.sim_channels.proofs.Places.{fits_but}
 use Rattle.sim_commands.proofs.Doing.{if_absent, if_plugged, obeyed_asked, obeyed_noted, of_ok, on_ok, others_closed, staged_there}
-use Rattle.sim_commands.proofs.Places.{fits_but}
 use Rattle.sim_commands.proofs.plugging.unplug.Goals as goal
 
 pub returns-in-Plugged-clause-fits : goal.returns-in-Plugged-clause-fits
@@ -20,7 +20,7 @@ returns-in-Plugged-clause-obeyed g c =
     let d = c.args.driver.now in
     let h = c.requires in
     let place = c.args.place in
-    let staged = staged_there d place c.index_of-at.result c.index.result.now h.kept h.among c.index_of-at.ensures c.index.ensures in
+    let staged = staged_there d place c.index_of-at.result c.stage.result h.kept c.index_of-at.ensures c.stage.ensures in
     on_ok r (λ u e devices fits.
     obeyed_asked (Unplug place) (entries.Gone place false) d c.close.new.driver devices
     (λ es just. if_plugged place d.desk.now es (JustEnters (entries.Gone place false) es) (staged.plugged ∙ ap is_plugged_in c.in-Plugged.is) just) fits
@@ -32,7 +32,7 @@ returns-in_default-clause-obeyed g c =
     let d = c.args.driver.now in
     let h = c.requires in
     let place = c.args.place in
-    let staged = staged_there d place c.index_of-at.result c.index.result.now h.kept h.among c.index_of-at.ensures c.index.ensures in
+    let staged = staged_there d place c.index_of-at.result c.stage.result h.kept c.index_of-at.ensures c.stage.ensures in
     on_ok r (λ u e devices fits.
     obeyed_noted (Unplug place) (notes.Absent place) d c.note.new.driver devices
     (λ es just. if_absent place d.desk.now (JustEnters (entries.Gone place false) es) (staged.plugged ∙ others_closed _ c.in_default.not-Plugged) es just) tt fits

@@ -1,7 +1,5 @@
 use Rattle.std.proofs.Common.{◌≡◌, ℕ, List, [], length, map, arith, refl, sym, ap, ◌∙◌, subst, rules}
-use Rattle.std.specs.Prelude.{Err}
 use Rattle.std.proofs.lemmas.List.{length-map, nil_from_length}
-use Rattle.maple_base.specs.Counts.{HasRisen}
 use Rattle.script_text.specs.Lines.{ended_lines}
 use Rattle.script_text.specs.Orders.{orders_of, refused_from}
 use Rattle.script_text.specs.Steps.{order_with}

@@ -1,6 +1,6 @@
 use Rattle.std.proofs.Common.{Bool, true, refl, sym, subst}
-use Rattle.sim_turns.specs.Passes.{Passed}
-use Rattle.sim_turns.specs.declared.hear.Came.TheVariants.{Message, NoMore, State}
+use Rattle.sim_channels.specs.Passes.{Passed}
+use Rattle.sim_channels.specs.declared.hear.Came.TheVariants.{Message, NoMore, State}
 use Rattle.sim_turns.proofs.Onward.{HearsOn, hears_none, hears_on, others_stay}
 use Rattle.sim_turns.proofs.hear.hear_all.Goals as goal
 
@@ -14,7 +14,7 @@ returns-in-NoMore g c =
     let here = c.args.at in
     let old = c.args.driver.now in
     let mid = c.loop-reaches_others.driver in
-    let new = c.hear_next.new.driver in
+    let new = c.hear_next.new.self in
     let reaches = c.loop-reaches_others.reaches_others in
     let passed = subst (Passed here mid new) c.in-NoMore.is c.in_ok-hear_next.ensures.passed in
     let h = hears_on here reaches reaches old mid new NoMore (λ e. (e, refl)) c.loop-reaches_others.invariant passed c.in_ok-hear_next.ensures.footing in
@@ -32,7 +32,7 @@ returns-in-NoMore g c =
 pub loop-reaches_others-preserved-in-Message : goal.loop-reaches_others-preserved-in-Message
 loop-reaches_others-preserved-in-Message g c =
     let mid = c.loop-reaches_others.driver in
-    let new = c.hear_next.new.driver in
+    let new = c.hear_next.new.self in
     let reaches = c.loop-reaches_others.reaches_others in
     hears_on c.args.at reaches reaches c.args.driver.now mid new Message (λ e. (e, refl)) c.loop-reaches_others.invariant
     (subst (Passed c.args.at mid new) c.in-Message.is c.in_ok-hear_next.ensures.passed) c.in_ok-hear_next.ensures.footing
@@ -40,6 +40,6 @@ loop-reaches_others-preserved-in-Message g c =
 pub loop-reaches_others-preserved : goal.loop-reaches_others-preserved
 loop-reaches_others-preserved g c =
     let mid = c.loop-reaches_others.driver in
-    let new = c.hear_next.new.driver in
+    let new = c.hear_next.new.self in
     hears_on c.args.at c.loop-reaches_others.reaches_others true c.args.driver.now mid new State (λ e. absurd (cc)) c.loop-reaches_others.invariant
     (subst (Passed c.args.at mid new) c.in-State.is c.in_ok-hear_next.ensures.passed) c.in_ok-hear_next.ensures.footing

@@ -1,4 +1,4 @@
-use Rattle.sim_turns.specs.Passes.{rest_at}
+use Rattle.sim_channels.specs.Passes.{rest_at}
 use Rattle.sim_turns.proofs.Onward.{HearsOn}
 use Rattle.sim_turns.proofs.hear.hear_all.Given as goal
 

@@ -1,8 +1,8 @@
 use Rattle.std.proofs.Common.{◌≡◌, ◌+◌, length, map, arith}
 use Rattle.std.proofs.lemmas.List.{length-map}
+use Rattle.sim_channels.proofs.Waits.{waits_within}
 use Rattle.sim_turns.proofs.Counted.{carried_count}
 use Rattle.sim_turns.proofs.Obeyed.{takes_behind}
-use Rattle.sim_turns.proofs.Pending.{waits_within}
 use Rattle.sim_turns.proofs.turning.take_turn.Goals as goal
 
 pub attend-requires-clause-within : goal.attend-requires-clause-within

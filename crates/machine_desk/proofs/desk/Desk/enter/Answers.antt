@@ -28,8 +28,8 @@ invariant_of-self g c =
       (
         is_desk laws old new start worn c.args.entry c.in-Ok.reply c.self.invariant.1.0 stays.1 made c.call.ensures.leads c.if-self.false,
         record { learning_is = cc; budget_is = told.budget_is },
+        is_marked laws old new start worn c.args.entry c.in-Ok.reply c.self.invariant.1.0 stays.1 made (known c.self.inside.mark.value) c.self.invariant.1.2,
       ),
-      is_marked laws old new start worn c.args.entry c.in-Ok.reply c.self.invariant.1.0 stays.1 made (known c.self.inside.mark.value) c.self.invariant.2,
     )
 
 pub returns-in-Ok-clause-ok : goal.returns-in-Ok-clause-ok

@@ -1,6 +1,6 @@
-use Rattle.std.proofs.Common.{◌≡◌, ◌∙◌, ap, subst, sym}
+use Rattle.std.proofs.Common.{◌∙◌, ap, subst}
 use Rattle.history_lock.specs.Histories.{state_behind}
-use Rattle.history_lock.specs.Passes.{known, seen}
+use Rattle.history_lock.specs.Passes.{known}
 use Rattle.machine_sharing.specs.Legal.{turns_of}
 use Rattle.machine_desk.specs.Desks.{DeskLaw, DeskView}
 use Rattle.machine_desk.proofs.Turning.{turns_append}
@@ -13,7 +13,7 @@ returns c =
     let mark = known c.self.inside.mark.value in
     let start = c.self.inside.start.value in
     let desk = c.self.invariant.1.0 in
-    let later = c.self.invariant.2 in
+    let later = c.self.invariant.1.2 in
     let P : DeskView → Type 0 = λ d. DeskLaw d in
     subst P c.self.view_is (record {
       sound = laws.sound start k.seen (state_behind start k.seen) desk.sound desk.legal;

@@ -1,0 +1,193 @@
+-- Turns that answer a packet: which packets wait behind each, what they leave of the sessions, and that the work on a packet makes such.
+use Rattle.std.proofs.Common.{◌≡◌, ◌⊎◌, ℕ, false, List, [], ◌∷◌, ◌++◌, refl, sym, ap, ◌∙◌, subst, inl, inr, arith}
+use Rattle.std.specs.Prelude.{◌==◌, ◌&&◌, ◌||◌, Contains}
+use Rattle.std.specs.List.{AllByRecursion, list_any}
+use Rattle.std.proofs.lemmas.Bool.{and_left, and_right, ne_eqb}
+use Rattle.history_lock.specs.Histories.{AreAllowed, state_behind}
+use Rattle.of10_codec.specs.declared.message.Message.{Message}
+use Rattle.machine_steps.specs.declared.entry.Entry.{Entry}
+use Rattle.machine_steps.specs.declared.entry.Entry.TheVariants as entries
+use Rattle.machine_steps.specs.declared.entry.Input.TheVariants.{Message as Whole}
+use Rattle.machine_steps.specs.declared.job.Job.{Job}
+use Rattle.machine_steps.specs.declared.reply.Reply.{Reply}
+use Rattle.machine_steps.specs.Admitting.{Admits}
+use Rattle.machine_steps.specs.Histories.{Leads, Turn}
+use Rattle.machine_steps.specs.Machine.{State, session_at}
+use Rattle.machine_steps.specs.Steps.{Steps, item_of}
+use Rattle.machine_steps.specs.Waiting.{Waiting}
+use Rattle.machine_steps.proofs.Changes.{JobsBy, changes}
+use Rattle.machine_steps.proofs.Changes.JobsBy.{Left, AreMany, Added}
+use Rattle.machine_steps.proofs.Sound.Zipped.{all_filter}
+use Rattle.machine_sharing.specs.Legal.{call_of}
+use Rattle.machine_sharing.specs.Sharing.{Allows, Call}
+use Rattle.machine_moves.specs.Told.{concerns, is_end, may_end}
+use Rattle.packet_workers.specs.declared.worked.Worked.{Worked}
+use Rattle.packet_workers.specs.declared.worked.Worked.TheVariants as how
+use Rattle.packet_workers.specs.Rounds.{HasNoJob, IsBroken, IsClosedBy}
+use Rattle.machine_desk.specs.Desks.{DeskView, calls_of}
+use Rattle.machine_desk.specs.Working.{IsPlainCall, RoundsArePlain, RoundsClose, Works}
+use Rattle.machine_desk.specs.declared.hearing.Heard.TheVariants as heard
+use Rattle.sim_channels.specs.declared.driver.Driver.{Driver}
+use Rattle.sim_channels.specs.Answering.{Answers, IsPlain}
+use Rattle.sim_channels.specs.Channels.{IsKept}
+use Rattle.sim_channels.specs.Driving.{DrivingLaws}
+use Rattle.sim_channels.specs.Passes.{WaitsBy}
+use Rattle.sim_channels.proofs.Making.{may_make}
+use Rattle.sim_channels.proofs.Keeping.{is_opening, is_policy, policy_same, session_same}
+use Rattle.sim_channels.proofs.Kept.{alone_still, kept_entry}
+
+-- ---- the packets that wait
+
+not_heard : (log : List Call) (entry : Entry) → Allows log entry → (d : ℕ) (x : Message) → entry ≡ entries.Heard d (Whole x) → ⊥
+not_heard log entry may d x is = subst (Allows log) is may
+
+-- all that wait behind such an entry waited ahead of it
+still_all : (P : Job → Type 0) (log : List Call) (old : State) (entry : Entry) (reply : Reply) (new : State) → Allows log entry → Steps old entry reply new → AllByRecursion P old.jobs
+    → AllByRecursion P new.jobs
+still_all P log old entry reply new may steps all = go (changes old entry reply new steps).jobs
+  where
+    go : JobsBy old entry reply new → AllByRecursion P new.jobs
+    go (Left untold count (inl e)) = subst (AllByRecursion P) (sym e) all
+    go (Left untold count (inr (p, e))) = subst (AllByRecursion P) (sym e) (all_filter P p old.jobs all)
+    go (AreMany r count many e) = subst (AllByRecursion P) (sym e) all
+    go (Added x t j from r its number count e) = absurd (not_heard log entry may from.connection from.message from.is)
+
+all_along : (P : Job → Type 0) (log : List Call) (m : State) (ts : List Turn) (n : State) → Leads m ts n → AreAllowed Allows log (calls_of ts) → AllByRecursion P m.jobs → AllByRecursion P n.jobs
+all_along P log m [] n e allowed all = subst (λ (x : State). AllByRecursion P x.jobs) (sym e) all
+all_along P log m (t ∷ ts) n (same, turn, rest) allowed all =
+    let steps = subst (λ (x : State). Steps x t.entry t.reply t.behind) same turn.steps in
+    all_along P (log ++ call_of t ∷ []) t.behind ts n rest allowed.1 (still_all P log m t.entry t.reply t.behind allowed.0 steps all)
+
+-- ---- the work on a packet
+
+last_behind : (m : State) (ts : List Turn) (n : State) → Leads m ts n → state_behind m (calls_of ts) ≡ n
+last_behind m [] n e = sym e
+last_behind m (t ∷ ts) n (same, turn, rest) = last_behind t.behind ts n rest
+
+plain_turns : (worked : Worked) → (worked ≡ how.NoMemory → ⊥) → (ts : List Turn) → AllByRecursion (IsPlainCall worked) (calls_of ts) → AllByRecursion IsPlain ts
+plain_turns worked enough [] all = tt
+plain_turns worked enough (t ∷ ts) all = (record { few = all.0.few; memory = all.0.memory enough }, plain_turns worked enough ts all.1)
+
+abbrev IsItem : Waiting → Job → Type 0
+IsItem item j = item ≡ item_of j
+
+-- none waits where all that do are this one, and no open job is
+none_left : (item : Waiting) (m : State) → HasNoJob item m → AllByRecursion (IsItem item) m.jobs → m.jobs ≡ []
+none_left item m none all = go m.jobs refl all
+  where
+    go : (js : List Job) → m.jobs ≡ js → AllByRecursion (IsItem item) js → m.jobs ≡ []
+    go [] e its = e
+    go (j ∷ js) e its =
+        absurd (none j (record {
+          there = subst (λ (xs : List Job). Contains xs j) (sym e) (0, omega arith, refl);
+          number = sym (ap (λ (i : Waiting). i.job) its.0);
+          switch = sym (ap (λ (i : Waiting). i.switch) its.0);
+          key = sym (ap (λ (i : Waiting). i.key) its.0);
+        }))
+
+closed : (item : Waiting) (m : State) (worked : Worked) → (IsBroken worked → ⊥) → IsClosedBy worked item m → HasNoJob item m
+closed item m how.NoMemory whole none = absurd (whole tt)
+closed item m how.Worn whole none = absurd (whole tt)
+closed item m worked whole none = none
+
+-- it wasn't broken off
+abbrev IsWhole : Worked → Type 0
+IsWhole worked = (worked ≡ how.Answered) ⊎ ((worked ≡ how.Spent) ⊎ (worked ≡ how.NotOpen))
+
+not_broken : (worked : Worked) → IsWhole worked → IsBroken worked → ⊥
+not_broken worked (inl e) broken = subst IsBroken e broken
+not_broken worked (inr (inl e)) broken = subst IsBroken e broken
+not_broken worked (inr (inr e)) broken = subst IsBroken e broken
+
+-- so it answers the packet
+pub answers_by : RoundsArePlain → RoundsClose → (item : Waiting) (worked : Worked) (a b : DeskView) → a.footing.parts ≡ 1024 → WaitsBy (heard.Packet item) a.now.jobs → Works item worked a b
+    → IsWhole worked → Answers a b
+answers_by plain close item worked a b alone (one, waits, its) works is = record {
+  turns = works.turns;
+  leads = works.meanwhile;
+  past = works.past;
+  allowed = works.allowed;
+  plain = plain_turns worked (λ e. whole (subst IsBroken (sym e) tt)) works.turns
+      (subst (AllByRecursion (IsPlainCall worked)) (sym same) (plain item a.now.settings.budget 3 works.calls worked works.rounds));
+  none = none_left item b.now (closed item b.now worked whole (subst (IsClosedBy worked item) last (close item a.now.settings.budget 3 works.calls worked a.now works.rounds)))
+      (all_along (IsItem item) (calls_of a.past) a.now works.turns b.now works.meanwhile works.allowed (subst (AllByRecursion (IsItem item)) (sym waits) (its, tt)));
+}
+  where
+    whole : IsBroken worked → ⊥
+    whole = not_broken worked is
+
+    same : calls_of works.turns ≡ works.calls
+    same = works.alone alone
+
+    last : state_behind a.now works.calls ≡ b.now
+    last = ap (state_behind a.now) (sym same) ∙ last_behind a.now works.turns b.now works.meanwhile
+
+-- ---- what such turns leave
+
+-- only packets of this connection wait
+abbrev pub AllBy : ℕ → State → Type 0
+AllBy c m = AllByRecursion (λ (j : Job). j.connection ≡ c) m.jobs
+
+-- such a turn is of no other connection
+none_of : (c d job : ℕ) → (d ≡ c → ⊥) → (js : List Job) → AllByRecursion (λ (j : Job). j.connection ≡ c) js
+    → list_any (λ (j : Job). j.number == job && j.connection == d) js ≡ false
+none_of c d job other [] h = refl
+none_of c d job other (j ∷ js) h =
+    ap (λ b. b || list_any (λ (i : Job). i.number == job && i.connection == d) js)
+    (and_right (j.number == job) (j.connection == d) (ne_eqb j.connection d (λ e. other (sym e ∙ h.0))))
+    ∙ none_of c d job other js h.1
+
+concerns_none : (c : ℕ) (m : State) → AllBy c m → (log : List Call) (entry : Entry) → Allows log entry → (d : ℕ) → (d ≡ c → ⊥) → concerns d entry m ≡ false
+concerns_none c m h log entries.ReadPolicy may d other = refl
+concerns_none c m h log (entries.ReadCell cell) may d other = refl
+concerns_none c m h log entries.OpenJobs may d other = refl
+concerns_none c m h log (entries.Commit job run) may d other = none_of c d job other m.jobs h
+concerns_none c m h log (entries.Decide job) may d other = none_of c d job other m.jobs h
+concerns_none c m h log entry may d other = absurd may
+
+-- the driver with this machine
+abbrev pub with_machine : Driver → State → Driver
+with_machine driver m = record driver { desk = record driver.desk { now = m } }
+
+-- what the driver knows of the machine doesn't hang on what else the desk has
+pub kept_at_desk : (driver : Driver) (d : DeskView) → d.footing ≡ driver.desk.footing → IsKept (with_machine driver d.now) → IsKept (record driver { desk = d })
+kept_at_desk driver d footing h =
+    record { alone = alone_still driver (record driver { desk = d }) footing h.alone; reached = h.reached; numbers = h.numbers; stages = h.stages; places_alone = h.places_alone; fresh = h.fresh }
+
+pub record IsBehind (c : ℕ) (driver : Driver) (m : State) : Type 0 where
+  pub kept : IsKept (with_machine driver m)
+  pub policy : m.policy ≡ driver.desk.now.policy
+  pub others : (d : ℕ) → (d ≡ c → ⊥) → session_at d m ≡ session_at d driver.desk.now
+
+module _ (laws : DrivingLaws) (c : ℕ) where
+  behind_turn : (driver : Driver) (log : List Call) (entry : Entry) (reply : Reply) (m : State) → IsKept driver → AllBy c driver.desk.now → Allows log entry → Admits driver.desk.now entry
+      → Steps driver.desk.now entry reply m → IsBehind c driver m
+  behind_turn driver log entry reply m kept by may admitted steps = go entry may admitted steps
+    where
+      behind : (e : Entry) → is_opening e ≡ false → is_policy e ≡ false → may_make e ≡ false → ((d : ℕ) → may_end d e ≡ false) → Allows log e → Admits driver.desk.now e → Steps driver.desk.now e reply m
+          → IsBehind c driver m
+      behind e no_open no_policy no_state no_end can a s = record {
+        kept = kept_entry laws driver (with_machine driver m) e reply kept a s no_open no_policy (λ d. and_left (may_end d e) (is_end reply) (no_end d)) refl refl;
+        policy = policy_same laws driver.desk.now e reply m kept.reached s no_policy;
+        others = λ d other. session_same laws driver.desk.now e reply m kept.reached s no_state d (concerns_none c driver.desk.now by log e can d other);
+      }
+
+      go : (e : Entry) → Allows log e → Admits driver.desk.now e → Steps driver.desk.now e reply m → IsBehind c driver m
+      go entries.ReadPolicy can a s = behind entries.ReadPolicy refl refl refl (λ d. refl) can a s
+      go (entries.ReadCell cell) can a s = behind (entries.ReadCell cell) refl refl refl (λ d. refl) can a s
+      go entries.OpenJobs can a s = behind entries.OpenJobs refl refl refl (λ d. refl) can a s
+      go (entries.Commit job run) can a s = behind (entries.Commit job run) refl refl refl (λ d. refl) can a s
+      go (entries.Decide job) can a s = behind (entries.Decide job) refl refl refl (λ d. refl) can a s
+      go other can a s = absurd can
+
+  pub behind_along : (driver : Driver) (log : List Call) (ts : List Turn) (m : State) → IsKept driver → AllBy c driver.desk.now → Leads driver.desk.now ts m → AreAllowed Allows log (calls_of ts)
+      → IsBehind c driver m
+  behind_along driver log [] m kept by e allowed =
+      record { kept = subst (λ (n : State). IsKept (with_machine driver n)) (sym e) kept; policy = ap (λ (n : State). n.policy) e; others = λ d other. ap (session_at d) e }
+  behind_along driver log (t ∷ ts) m kept by (same, turn, rest) allowed =
+      let admitted = subst (λ (n : State). Admits n t.entry) same turn.admitted in
+      let steps = subst (λ (n : State). Steps n t.entry t.reply t.behind) same turn.steps in
+      let first = behind_turn driver log t.entry t.reply t.behind kept by allowed.0 admitted steps in
+      let by_then = still_all (λ (j : Job). j.connection ≡ c) log driver.desk.now t.entry t.reply t.behind allowed.0 steps by in
+      let later = behind_along (with_machine driver t.behind) (log ++ call_of t ∷ []) ts m first.kept by_then rest allowed.1 in
+      record { kept = later.kept; policy = later.policy ∙ first.policy; others = λ d other. later.others d other ∙ first.others d other }

@@ -1,0 +1,372 @@
+-- What is known behind one message.
+use Rattle.std.proofs.Common.{◌≡◌, ℕ, ◌+◌, ◌<◌, Bool, true, false, List, [], ◌∷◌, ◌++◌, append-nil, length, get_or, set, refl, sym, ap, ◌∙◌, subst, inl, inr, arith}
+use Rattle.std.specs.Prelude.{Option, Some, Result, Ok, Err, OnOk, IfOk, is_some}
+use Rattle.std.specs.List.{AllByRecursion, slice_get}
+use Rattle.std.proofs.lemmas.Bool.{and_right, eq-eqb, ne_eqb}
+use Rattle.std.proofs.lemmas.List.{set-set}
+use Rattle.std.proofs.lemmas.Option.{same_Some, slice_get_read}
+use Rattle.policy_lang.specs.declared.Policy.{Policy}
+use Rattle.of10_stream.specs.Steps.{Stream}
+use Rattle.device_port.specs.Devices.{Meaning}
+use Rattle.machine_desk.specs.Desks.{DeskView, Enters, calls_of, turn}
+use Rattle.machine_desk.specs.Hearing.{Hears, heard_by}
+use Rattle.machine_desk.specs.declared.hearing.Heard.{Heard}
+use Rattle.machine_moves.specs.Told.{WaitsAs, is_end, is_new_state, may_end}
+use Rattle.machine_steps.specs.declared.entry.Entry.{Entry}
+use Rattle.machine_steps.specs.declared.entry.Entry.TheVariants as entries
+use Rattle.machine_steps.specs.declared.entry.Input.{Input}
+use Rattle.machine_steps.specs.declared.entry.Input.TheVariants.{Message as Whole, Bad}
+use Rattle.machine_steps.specs.declared.job.Job.{Job}
+use Rattle.machine_steps.specs.declared.reply.Reply.{Reply}
+use Rattle.machine_steps.specs.declared.reply.Reply.TheVariants.{NoMemory, Count, Ended, NewState, Job as JobOpened, Overload}
+use Rattle.machine_steps.specs.Histories.{Leads, Turn}
+use Rattle.machine_steps.specs.Machine.{State, session_at}
+use Rattle.machine_steps.specs.Steps.{HearsInput, Steps}
+use Rattle.world_steps.specs.Worlds.{lacks_memory}
+use Rattle.sim_steps.specs.Benches.{MovesAt, is_plugged, slot_at}
+use Rattle.sim_steps.specs.Deeds.{EntersAt, HearsNext, IsSmooth, NextIs, UnlessLacking}
+use Rattle.sim_steps.specs.Parts.{IsHeardOut}
+use Rattle.sim_steps.specs.Stretches.{Carried}
+use Rattle.sim_steps.proofs.Joining.{carried_none, carried_then}
+use Rattle.sim_steps.proofs.Moments.{carried_heard}
+use Rattle.sim_steps.proofs.Silent.{IsEasy, carried_along}
+use Rattle.sim_channels.specs.declared.channel.Channel.{Channel}
+use Rattle.sim_channels.specs.declared.channel.Plugging.TheVariants.{Left}
+use Rattle.sim_channels.specs.declared.driver.Driver.{Driver}
+use Rattle.sim_channels.specs.declared.stopped.Stopped.{Stopped}
+use Rattle.sim_channels.specs.Answering.{Answers, IsPlain}
+use Rattle.sim_channels.specs.Channels.{CarriedOver, EntersAlone, IsKept, bench, slot_by, slots_of}
+use Rattle.sim_channels.specs.Driving.{DrivingLaws}
+use Rattle.sim_channels.specs.Waiting.{IsHeard, IsOffered}
+use Rattle.sim_channels.proofs.Emptied.{device_at}
+use Rattle.sim_channels.proofs.Keeping.{policy_same, reached_sound}
+use Rattle.sim_channels.proofs.Kept.{ChannelAt, all_left, is_as_long, is_beside, is_there, kept_channel, kept_left, not_fresh, plugged_at, plugged_has}
+use Rattle.sim_channels.proofs.Resting.{hears_in_order}
+use Rattle.sim_channels.proofs.Slots.{slot_next, slots_alike, slots_channel, slots_get}
+use Rattle.sim_channels.specs.Passes.{ComesNext, Follows, GoesOn, HasHeard, IsDone, IsLeft, Passed, Takes, WaitsBy, came_of, rest_at, rest_in}
+use Rattle.sim_channels.specs.declared.hear.Came.{Came}
+use Rattle.sim_channels.proofs.Answering.{AllBy, behind_along, kept_at_desk}
+use Rattle.sim_channels.proofs.Bytes.{gets_shorter}
+
+-- ---- what is carried
+
+pub over_none : (old new : Driver) → ((ds : List Meaning) → bench new ds ≡ bench old ds) → CarriedOver old new
+over_none old new same = λ ds long. subst (Carried (bench old ds)) (sym (same ds)) (carried_none (bench old ds))
+
+pub over_then : (a b c : Driver) → length b.channels.items ≡ length a.channels.items → CarriedOver a b → CarriedOver b c → CarriedOver a c
+over_then a b c long h k = λ ds e. carried_then (bench a ds) (bench b ds) (bench c ds) (h ds e) (k ds (e ∙ sym long))
+
+smooth : (reply : Reply) → (reply ≡ Overload → ⊥) → IsSmooth reply
+smooth Overload few = absurd (few refl)
+smooth reply few = tt
+
+enough : (reply : Reply) → (reply ≡ NoMemory → ⊥) → lacks_memory reply ≡ false
+enough NoMemory memory = absurd (memory refl)
+enough reply memory = refl
+
+easy : (ts : List Turn) → AllByRecursion IsPlain ts → AllByRecursion IsEasy ts
+easy [] all = tt
+easy (t ∷ ts) all = (record { smooth = smooth t.reply all.0.few; memory = enough t.reply all.0.memory }, easy ts all.1)
+
+-- a packet is answered
+over_answers : (old new : Driver) → Answers old.desk new.desk → new ≡ record old { desk = new.desk } → CarriedOver old new
+over_answers old new h e = λ ds long. subst (Carried (bench old ds)) (bench_is ds) (carried_along (bench old ds) h.turns new.desk.now h.leads h.allowed (easy h.turns h.plain))
+  where
+    channels_same : new.channels.items ≡ old.channels.items
+    channels_same = ap (λ (x : Driver). x.channels.items) e
+
+    bench_is : (ds : List Meaning) → record (bench old ds) { past = old.desk.past ++ h.turns; machine = new.desk.now } ≡ bench new ds
+    bench_is ds = λ i. record { past = sym h.past i; machine = new.desk.now; slots = slots_of (sym channels_same i) ds }
+
+-- ---- what is known of one channel
+
+pub written : (here : ℕ) (k l : Channel) (old new : Driver) → here < length old.channels.items → k ≡ get_or old.channels.items here k → new.channels.items ≡ set old.channels.items here l
+    → new.desk.footing ≡ old.desk.footing → ChannelAt here k l old new
+written here k l old new within is channels footing = record { there = slice_get_read old.channels.items (length old.channels.items) here k refl within is; channels = channels; footing = footing }
+
+module _ (here : ℕ) (k l : Channel) (old new : Driver) (at : ChannelAt here k l old new) where
+  -- the driver behind some messages, by what is known of it
+  passed : (made : Bool) → l.waiting ≡ k.waiting → IsKept new → CarriedOver old new → new.desk.now.jobs ≡ [] → IsOffered here new
+      → (made ≡ false → old.desk.now.policy.learning ≡ false → (c : ℕ) → (c ≡ here + 1 → ⊥) → session_at c new.desk.now ≡ session_at c old.desk.now)
+      → new.desk.now.policy.learning ≡ old.desk.now.policy.learning → HasHeard here made old new
+  passed made waiting kept carried jobs offered sessions learning = record {
+    kept = kept;
+    carried = carried;
+    jobs = jobs;
+    offered = offered;
+    channels = record {
+      count = is_as_long here k l old new at;
+      others = is_beside here k l old new at;
+      waiting = λ x y was there.
+          ap (λ (z : Channel). z.waiting) (same_Some y l (sym there ∙ is_there here k l old new at)) ∙ waiting ∙ ap (λ (z : Channel). z.waiting) (same_Some k x (sym at.there ∙ was));
+    };
+    others = λ untold no_hosts. record { sessions = sessions untold no_hosts; channels = is_beside here k l old new at };
+    learning = learning;
+  }
+
+  offers : GoesOn k l → k.to ≡ [] → IsOffered here new
+  offers goes empty = plugged_has (λ (x : Channel). x.to ≡ []) here new l (is_there here k l old new at) (goes.to ∙ empty)
+
+  fewer : length l.from.stream.rest < length k.from.stream.rest → rest_at here new < rest_at here old
+  fewer h =
+      let before : rest_at here old ≡ length k.from.stream.rest = ap rest_in at.there in
+      let behind : rest_at here new ≡ length l.from.stream.rest = ap rest_in (is_there here k l old new at) in
+      omega (arith, h, before, behind)
+
+-- ---- nothing came
+
+module _ (laws : DrivingLaws) (here : ℕ) (k l : Channel) (old new : Driver) (at : ChannelAt here k l old new) (done : IsDone k l) (desk : new.desk ≡ old.desk) where
+  core : new.desk.now ≡ old.desk.now
+  core = ap (λ (d : DeskView). d.now) desk
+
+  bench_same : (ds : List Meaning) → bench new ds ≡ bench old ds
+  bench_same ds =
+      let slots = ap (λ ks. slots_of ks ds) at.channels ∙ slots_alike old.channels.items ds here k l at.there done.goes.to done.same in
+      λ i. record { past = (desk i).past; machine = (desk i).now; slots = slots i }
+
+  -- as behind a question that changes nothing
+  kept_same : IsKept old → IsKept new
+  kept_same kept = kept_channel laws old new entries.OpenJobs (Count (length old.desk.now.jobs)) kept tt (refl, core) refl refl (λ c. refl) here k l at done.goes.stage
+      (λ unplugged. (let f = kept.fresh here k at.there (sym done.goes.stage ∙ unplugged) in record { to = done.goes.to ∙ f.to; from = done.same ∙ f.from }))
+
+  pub heard_nothing : IsKept old → old.desk.now.jobs ≡ [] → IsOffered here old → HasHeard here false old new
+  heard_nothing kept none offered =
+      passed here k l old new at false done.goes.waiting (kept_same kept) (over_none old new bench_same) (ap (λ (m : State). m.jobs) core ∙ none)
+      (λ x there plugged. (let is = same_Some l x (sym (is_there here k l old new at) ∙ there) in
+      sym (ap (λ (y : Channel). y.to) is) ∙ done.goes.to ∙ offered k at.there (sym done.goes.stage ∙ ap (λ (y : Channel). y.stage) is ∙ plugged)))
+      (λ untold no_hosts c other. ap (session_at c) core) (ap (λ (m : State). m.policy.learning) core)
+
+  pub all_heard : IsHeard here new
+  all_heard = λ x there plugged.
+      (let is = same_Some l x (sym (is_there here k l old new at) ∙ there) in
+      subst (λ (y : Channel). IsHeardOut y.from.stream) is (subst IsHeardOut (sym done.same) (done.heard (sym done.goes.stage ∙ ap (λ (y : Channel). y.stage) is ∙ plugged))))
+
+-- ---- a message, or the fault that ends the session
+
+-- fewer bytes are left where the session goes on
+shorter : (c : ℕ) (input : Input) (s t : Stream) (m : State) (reply : Reply) (n : State) → NextIs input s t → HearsInput c input m reply n → is_plugged c m ≡ true → is_end reply ≡ false
+    → length t.rest < length s.rest
+shorter c (Whole x) s t m reply n next h plugged goes_on = gets_shorter x s t next
+shorter c (Bad place bad) s t m reply n next (inl (none, passes)) plugged goes_on = (let f : true ≡ false = sym plugged ∙ ap is_some none in absurd (cc))
+shorter c (Bad place bad) s t m reply n next (inr (session, found, r, e)) plugged goes_on = (let f : false ≡ true = sym goes_on ∙ ap is_end r in absurd (cc))
+
+-- what is known behind its reply
+pub record Replied (here : ℕ) (old mid : Driver) (reply : Reply) : Type 0 where
+  pub laws : DrivingLaws
+  pub kept : IsKept old
+  pub none : old.desk.now.jobs ≡ []
+  pub offered : IsOffered here old
+  pub input : Input
+  pub k : Channel
+  pub l : Channel
+  pub next : ComesNext input k l
+  pub at : ChannelAt here k l old mid
+  pub entered : EntersAlone (entries.Heard (here + 1) input) reply old.desk mid.desk
+  pub memory : lacks_memory reply ≡ false
+
+module _ (here : ℕ) (old mid : Driver) (reply : Reply) (h : Replied here old mid reply) where
+  open h use {laws, kept, none, offered, input, k, l, next, at, entered, memory}
+
+  abbrev Hearing : Entry
+  Hearing = entries.Heard (here + 1) input
+
+  steps : Steps old.desk.now Hearing reply mid.desk.now
+  steps = entered.steps
+
+  waits : WaitsAs (here + 1) reply mid.desk.now.jobs
+  waits = laws.jobs old.desk.now (here + 1) input reply mid.desk.now none steps
+
+  is_open : is_plugged (here + 1) old.desk.now ≡ true
+  is_open = plugged_at old here k kept at.there next.plugged
+
+  empty : k.to ≡ []
+  empty = offered k at.there next.plugged
+
+  module _ (ds : List Meaning) (d : Meaning) (its : slice_get ds here ≡ Some d) where
+    found : slot_at (here + 1) (slots_of old.channels.items ds) ≡ Some (slot_by k d)
+    found = slot_next here (slots_of old.channels.items ds) ∙ slots_get old.channels.items ds here k d at.there its
+
+    hears : HearsNext input (slot_by k d) (slot_by l d)
+    hears = (l.from.stream, next.next, λ i. record { device = d; to = next.goes.to i; from = l.from.stream })
+
+    moves : MovesAt (here + 1) (HearsNext input) (slots_of old.channels.items ds) (slots_of mid.channels.items ds)
+    moves =
+        subst (λ ks. MovesAt (here + 1) (HearsNext input) (slots_of old.channels.items ds) (slots_of ks ds)) (sym at.channels)
+        (slots_channel old.channels.items ds here k l d (HearsNext input) at.there its hears)
+
+    enters : EntersAt (entries.Heard (here + 1) input) reply (bench old ds) (bench mid ds)
+    enters = record {
+      may = (is_open, (slot_by k d, l.from.stream, found, next.next));
+      admitted = next.can;
+      steps = steps;
+      smooth = smooth reply (λ e. subst (λ r. WaitsAs (here + 1) r mid.desk.now.jobs) e waits);
+      slots =
+          subst (λ b. UnlessLacking b (slots_of old.channels.items ds) (slots_of mid.channels.items ds) (MovesAt (here + 1) (HearsNext input) (slots_of old.channels.items ds) (slots_of mid.channels.items ds)))
+          (sym memory) moves;
+      past = entered.past;
+    }
+
+  over : CarriedOver old mid
+  over = λ ds long.
+      (let d = device_at old.channels.items ds here k long at.there in carried_heard (here + 1) input reply (bench old ds) (bench mid ds) (hears_in_order old ds here input reply kept none offered) memory (enters ds d.0 d.1))
+
+  beside : (c : ℕ) → (c ≡ here + 1 → ⊥) → may_end c Hearing ≡ false
+  beside c other = ne_eqb (here + 1) c (λ e. other (sym e))
+
+  sessions : is_new_state reply ≡ false → old.desk.now.policy.learning ≡ false → (c : ℕ) → (c ≡ here + 1 → ⊥) → session_at c mid.desk.now ≡ session_at c old.desk.now
+  sessions untold no_hosts c other =
+      laws.others old.desk.now Hearing reply mid.desk.now (reached_sound laws old.desk.now kept.reached) steps
+      (laws.states old.desk.now Hearing reply mid.desk.now steps no_hosts untold) c (beside c other)
+
+  learning : mid.desk.now.policy.learning ≡ old.desk.now.policy.learning
+  learning = ap (λ (p : Policy). p.learning) (policy_same laws old.desk.now Hearing reply mid.desk.now kept.reached steps refl)
+
+  -- ---- what the reply brings about
+
+  kept_open : is_end reply ≡ false → IsKept mid
+  kept_open goes_on = kept_channel laws old mid Hearing reply kept next.can steps refl refl (λ c. and_right (may_end c Hearing) (is_end reply) goes_on) here k l at next.goes.stage (not_fresh l (next.goes.stage ∙ next.plugged))
+
+  shorter_now : is_end reply ≡ false → length l.from.stream.rest < length k.from.stream.rest
+  shorter_now goes_on = shorter (here + 1) input k.from.stream l.from.stream old.desk.now reply mid.desk.now next.next steps is_open goes_on
+
+  fewer_now : is_end reply ≡ false → rest_at here mid < rest_at here old
+  fewer_now goes_on = fewer here k l old mid at (shorter_now goes_on)
+
+  -- nothing
+  plain : is_end reply ≡ false → mid.desk.now.jobs ≡ [] → HasHeard here (is_new_state reply) old mid
+  plain goes_on jobs = passed here k l old mid at (is_new_state reply) next.goes.waiting (kept_open goes_on) over jobs (offers here k l old mid at next.goes empty) sessions learning
+
+  -- the packet is answered
+  module _ (new : Driver) (footing : new.desk.footing ≡ mid.desk.footing) (f : Answers mid.desk new.desk) (e : new ≡ record mid { desk = new.desk }) where
+    at_new : ChannelAt here k l old new
+    at_new = record { there = at.there; channels = ap (λ (x : Driver). x.channels.items) e ∙ at.channels; footing = footing ∙ at.footing }
+
+    fewer_answered : is_end reply ≡ false → rest_at here new < rest_at here old
+    fewer_answered goes_on = fewer here k l old new at_new (shorter_now goes_on)
+
+    answered : is_end reply ≡ false → is_new_state reply ≡ false → AllBy (here + 1) mid.desk.now → HasHeard here false old new
+    answered goes_on untold by =
+        let b = behind_along laws (here + 1) mid (calls_of mid.desk.past) f.turns new.desk.now (kept_open goes_on) by f.leads f.allowed in
+        passed here k l old new at_new false next.goes.waiting (subst IsKept (sym e) (kept_at_desk mid new.desk footing b.kept))
+        (over_then old mid new (is_as_long here k l old mid at) over (over_answers mid new f e)) f.none (offers here k l old new at_new next.goes empty)
+        (λ none_made no_hosts c other. b.others c other ∙ sessions untold no_hosts c other) (ap (λ (p : Policy). p.learning) b.policy ∙ learning)
+
+  -- the channel is left
+  module _ (new : Driver) (left : IsLeft here mid new) where
+    machine_same : new.desk.now ≡ mid.desk.now
+    machine_same = ap (λ (d : DeskView). d.now) left.desk
+
+    abbrev Gone : Channel
+    Gone = record l { stage = Left }
+
+    its_channel : left.channel ≡ l
+    its_channel = same_Some left.channel l (sym left.there ∙ is_there here k l old mid at)
+
+    at_left : ChannelAt here k (record l { stage = Left }) old new
+    at_left = record {
+      there = at.there;
+      channels =
+          left.channels ∙ ap (λ (x : Channel). set mid.channels.items here (record x { stage = Left })) its_channel ∙ ap (λ ks. set ks here Gone) at.channels
+          ∙ set-set old.channels.items here l Gone;
+      footing = ap (λ (d : DeskView). d.footing) left.desk ∙ at.footing;
+    }
+
+    is_left : (x : Channel) → slice_get new.channels.items here ≡ Some x → x.stage ≡ Left
+    is_left x there = sym (ap (λ (y : Channel). y.stage) (same_Some Gone x (sym (is_there here k Gone old new at_left) ∙ there)))
+
+    over_left : CarriedOver mid new
+    over_left = over_none mid new (λ ds. (let slots =
+        ap (λ ks. slots_of ks ds) left.channels ∙ slots_alike mid.channels.items ds here left.channel (record left.channel { stage = Left }) left.there refl refl in
+        λ i. record { past = (left.desk i).past; machine = (left.desk i).now; slots = slots i }))
+
+    kept_gone : is_end reply ≡ true → IsKept new
+    kept_gone end =
+        kept_left laws old new Hearing reply kept next.can (subst (λ (m : State). Steps old.desk.now Hearing reply m) (sym machine_same) steps) refl refl here k Gone at_left next.plugged refl
+        (eq-eqb (here + 1) (here + 1) refl) end beside
+
+    closed : is_end reply ≡ true → is_new_state reply ≡ false → mid.desk.now.jobs ≡ [] → HasHeard here false old new
+    closed end untold jobs =
+        passed here k Gone old new at_left false next.goes.waiting (kept_gone end) (over_then old mid new (is_as_long here k l old mid at) over over_left)
+        (ap (λ (m : State). m.jobs) machine_same ∙ jobs) (all_left (λ (x : Channel). x.to ≡ []) here new is_left)
+        (λ none_made no_hosts c other. ap (session_at c) machine_same ∙ sessions untold no_hosts c other)
+        (ap (λ (m : State). m.policy.learning) machine_same ∙ learning)
+
+-- by what the machine made of the input
+follows : (here : ℕ) (old mid : Driver) (reply : Reply) → Replied here old mid reply → (new : Driver) → new.desk.footing ≡ mid.desk.footing → Follows here (heard_by reply) mid new
+    → Passed here old new (came_of (heard_by reply))
+follows here old mid NoMemory h new footing f = (let e : true ≡ false = h.memory in absurd (cc))
+follows here old mid (JobOpened item) h new footing (f, e) =
+    let (one, alone, is, its) = waits here old mid (JobOpened item) h in
+    let by : AllBy (here + 1) mid.desk.now = subst (AllByRecursion (λ (j : Job). j.connection ≡ here + 1)) (sym alone) (its, tt) in
+    (answered here old mid (JobOpened item) h new footing f e refl refl by, fewer_answered here old mid (JobOpened item) h new footing f e refl)
+follows here old mid (Ended end) h new footing left = (
+  closed here old mid (Ended end) h new left refl refl (waits here old mid (Ended end) h),
+  all_left (λ (x : Channel). IsHeardOut x.from.stream) here new (is_left here old mid (Ended end) h new left),
+)
+follows here old mid (NewState state pruned) h new footing e =
+    let reply = NewState state pruned in
+    subst (λ x. Passed here old x (came_of (heard_by reply))) (sym e) (plain here old mid reply h refl (waits here old mid reply h), fewer_now here old mid reply h refl)
+follows here old mid Overload h new footing e = absurd (waits here old mid Overload h)
+follows here old mid other h new footing e =
+    subst (λ x. Passed here old x (came_of (heard_by other))) (sym e) (plain here old mid other h refl (waits here old mid other h), fewer_now here old mid other h refl)
+
+-- ---- how it is heard at the desk
+
+-- nobody came between
+alone_at : (a : DeskView) (entry : Entry) (reply : Reply) (b : DeskView) → a.footing.parts ≡ 1024 → Enters a entry reply b → EntersAlone entry reply a b
+alone_at a entry reply b alone h = record {
+  steps = subst (λ (m : State). Steps m entry reply b.now) same h.made.steps;
+  past = h.past ∙ ap (λ ts. (a.past ++ ts) ++ turn h.between entry reply b.now ∷ []) none ∙ ap (λ ts. ts ++ turn h.between entry reply b.now ∷ []) (append-nil a.past)
+      ∙ ap (λ (m : State). a.past ++ turn m entry reply b.now ∷ []) same;
+}
+  where
+    none : h.others ≡ []
+    none = h.alone alone
+
+    same : h.between ≡ a.now
+    same = subst (λ ts. Leads a.now ts h.between) none h.meanwhile
+
+-- a packet that was heard waits
+waits_by : (c : ℕ) (reply : Reply) (jobs : List Job) → WaitsAs c reply jobs → WaitsBy (heard_by reply) jobs
+waits_by c (JobOpened item) jobs (j, alone, is, its) = (j, alone, is)
+waits_by c (Ended end) jobs w = tt
+waits_by c (NewState state pruned) jobs w = tt
+waits_by c other jobs w = tt
+
+-- what is known once an input was heard at the desk
+pub record HasCome (here : ℕ) (old mid : Driver) (heard : Heard) : Type 0 where
+  pub reply : Reply
+  pub replied : Replied here old mid reply
+  pub heard_is : heard ≡ heard_by reply
+
+pub has_come : (here : ℕ) (old mid : Driver) → DrivingLaws → IsKept old → old.desk.now.jobs ≡ [] → IsOffered here old → (k l : Channel) → ChannelAt here k l old mid → (taken : Option Input)
+    → Takes taken k l → (input : Input) → taken ≡ Some input → (c : ℕ) → c ≡ here + 1 → (heard : Heard) → Hears c input heard old.desk mid.desk → HasCome here old mid heard
+has_come here old mid laws kept none offered k l at taken takes input is c place heard h = record {
+  reply = h.reply;
+  replied = record {
+    laws = laws;
+    kept = kept;
+    none = none;
+    offered = offered;
+    input = input;
+    k = k;
+    l = l;
+    next = subst (λ o. Takes o k l) is takes;
+    at = at;
+    entered = subst (λ n. EntersAlone (entries.Heard n input) h.reply old.desk mid.desk) place (alone_at old.desk (entries.Heard c input) h.reply mid.desk kept.alone h.asks.enters);
+    memory = enough h.reply h.asks.memory;
+  };
+  heard_is = h.heard_is;
+}
+
+pub come_waits : (here : ℕ) (old mid : Driver) (heard : Heard) → HasCome here old mid heard → WaitsBy heard mid.desk.now.jobs
+come_waits here old mid heard h =
+    subst (λ x. WaitsBy x mid.desk.now.jobs) (sym h.heard_is) (waits_by (here + 1) h.reply mid.desk.now.jobs (waits here old mid h.reply h.replied))
+
+-- by what the call that does so tells
+pub told : (here : ℕ) (old mid new : Driver) (heard : Heard) (result : Result Came Stopped) → HasCome here old mid heard → new.desk.footing ≡ mid.desk.footing → IfOk result (λ came. came ≡ came_of heard)
+    → OnOk result (Follows here heard mid new) → IfOk result (Passed here old new)
+told here old mid new heard (Err stopped) h footing is f = tt
+told here old mid new heard (Ok came) h footing is f =
+    let passed_so = follows here old mid h.reply h.replied new footing (subst (λ x. Follows here x mid new) h.heard_is f) in
+    subst (Passed here old new) (sym (is ∙ ap came_of h.heard_is)) passed_so

@@ -1,0 +1,87 @@
+-- What is kept, and what is left to do, where at most one place changed.
+use Rattle.std.proofs.Common.{◌≡◌, ℕ, zero, suc, ◌+◌, ◌<◌, List, [], ◌∷◌, length, set, get_or, refl, sym, ap, ◌∙◌, subst, ⊎_elim, arith}
+use Rattle.std.specs.Prelude.{Some}
+use Rattle.std.specs.List.{slice_get}
+use Rattle.std.proofs.lemmas.Bool.{cases_eq}
+use Rattle.std.proofs.lemmas.Option.{slice_get_within, slice_get-get_or}
+use Rattle.device_port.specs.Devices.{Meaning}
+use Rattle.machine_steps.specs.Machine.{session_at}
+use Rattle.sim_channels.specs.declared.channel.Channel.{Channel}
+use Rattle.sim_channels.specs.declared.channel.Plugging.{Plugging}
+use Rattle.sim_channels.specs.declared.driver.Driver.{Driver}
+use Rattle.sim_channels.specs.Channels.{Fits, IsKept, bench, slots_of}
+use Rattle.sim_channels.specs.Driving.{DrivingLaws}
+use Rattle.sim_channels.specs.Waiting.{IsAtRest, IsHeard, IsOffered, IsTaken, StaysBut, WhilePlugged}
+use Rattle.sim_channels.proofs.Keeping.{messages_same}
+use Rattle.sim_channels.proofs.Kept.{plugged_at}
+use Rattle.sim_channels.proofs.Slots.{slots_alike}
+use Rattle.sim_channels.specs.Hearing.{KeepsChannels}
+use Rattle.sim_channels.specs.Staging.{Restages}
+
+-- an index is this one or another
+pub by_index : (at here : ℕ) {P : Type 0} → (at ≡ here → P) → ((at ≡ here → ⊥) → P) → P
+by_index at here same other = ⊎_elim same other (cases_eq at here)
+
+-- a list of the same length has an element there too
+pub there_too : {X Y : Type 0} (xs : List X) (ys : List Y) (at : ℕ) (y : Y) → length xs ≡ length ys → slice_get ys at ≡ Some y → (x : X) × (slice_get xs at ≡ Some x)
+there_too {X} {Y} xs ys at y same e = within xs at (let h = slice_get_within ys at y e in omega (arith, h, same))
+  where
+    within : (zs : List X) (n : ℕ) → n < length zs → (x : X) × (slice_get zs n ≡ Some x)
+    within [] n h = absurd (omega (arith, h))
+    within (z ∷ zs) zero h = (z, refl)
+    within (z ∷ zs) (suc n) h = within zs n (omega (arith, h))
+
+-- a channel's stage is written
+pub restaged : (d : Driver) (at : ℕ) (stage : Plugging) (k : Channel) → at < length d.channels.items → k ≡ get_or d.channels.items at k → (e : Driver) → e ≡ record d { channels = e.channels }
+    → e.channels.items ≡ set d.channels.items at (record k { stage = stage }) → Restages at stage d e
+restaged d at stage k within is e rest sets =
+    let there : slice_get d.channels.items at ≡ Some k = slice_get-get_or d.channels.items at k within ∙ ap Some (sym is) in
+    record {
+      rest = rest;
+      channel = k;
+      there = there;
+      channels = sets;
+      slots = λ devices. ap (λ (x : Driver). bench x devices) rest ∙ ap (λ xs. record { past = d.desk.past; machine = d.desk.now; slots = slots_of xs devices }) sets
+          ∙ ap (λ xs. record { past = d.desk.past; machine = d.desk.now; slots = xs }) (slots_alike d.channels.items devices at k (record k { stage = stage }) there refl refl);
+    }
+
+-- ---- the devices
+
+pub fits_but : (d e : Driver) (here : ℕ) (devices : List Meaning) → IsKept e → KeepsChannels here d e → Fits d devices → Fits e devices
+fits_but d e here devices kept keeps fits = record {
+  kept = kept;
+  places = keeps.count ∙ fits.places;
+  waiting = λ at k dev there here_is. by_index at here
+      (λ same. (let old = there_too d.channels.items e.channels.items at k (sym keeps.count) there in
+      keeps.waiting old.0 k (ap (λ n. slice_get d.channels.items n) (sym same) ∙ old.1) (ap (λ n. slice_get e.channels.items n) (sym same) ∙ there) ∙ fits.waiting at old.0 dev old.1 here_is))
+      (λ other. fits.waiting at k dev (sym (keeps.others at other) ∙ there) here_is);
+}
+
+pub fits_same : (d e : Driver) (devices : List Meaning) → IsKept e → e.channels.items ≡ d.channels.items → Fits d devices → Fits e devices
+fits_same d e devices kept same fits = record {
+  kept = kept;
+  places = ap (λ (xs : List Channel). length xs) same ∙ fits.places;
+  waiting = λ at k dev there here_is. fits.waiting at k dev (ap (λ (xs : List Channel). slice_get xs at) (sym same) ∙ there) here_is;
+}
+
+-- ---- what is left to do
+
+-- of a channel that stays
+pub while_still : (P : Channel → Type 0) (at : ℕ) (d e : Driver) → slice_get e.channels.items at ≡ slice_get d.channels.items at → WhilePlugged P at d → WhilePlugged P at e
+while_still P at d e same h k there plugged = h k (sym same ∙ there) plugged
+
+pub taken_still : (laws : DrivingLaws) (d e : Driver) (at : ℕ) → IsKept d → IsKept e → session_at (at + 1) e.desk.now ≡ session_at (at + 1) d.desk.now
+    → slice_get e.channels.items at ≡ slice_get d.channels.items at → IsTaken at d → IsTaken at e
+taken_still laws d e at kept also session same taken k there plugged =
+    let was = sym same ∙ there in
+    messages_same laws (at + 1) d.desk.now e.desk.now kept.reached also.reached (plugged_at d at k kept was plugged) session ∙ taken k was plugged
+
+-- all other places are as they were
+pub rest_but : (laws : DrivingLaws) (d e : Driver) (here : ℕ) → IsKept d → IsKept e → IsAtRest d → StaysBut here d e → e.desk.now.jobs ≡ [] → IsTaken here e → IsOffered here e → IsHeard here e → IsAtRest e
+rest_but laws d e here kept also rest stays jobs taken offered heard = record {
+  jobs = jobs;
+  taken = λ at. by_index at here (λ same. subst (λ n. IsTaken n e) (sym same) taken)
+      (λ other. taken_still laws d e at kept also (stays.sessions (at + 1) (λ f. other (omega (arith, f)))) (stays.channels at other) (rest.taken at));
+  offered = λ at. by_index at here (λ same. subst (λ n. IsOffered n e) (sym same) offered) (λ other. while_still _ at d e (stays.channels at other) (rest.offered at));
+  heard = λ at. by_index at here (λ same. subst (λ n. IsHeard n e) (sym same) heard) (λ other. while_still _ at d e (stays.channels at other) (rest.heard at));
+}

@@ -1,0 +1,22 @@
+use Rattle.std.proofs.Common.{ap, ◌∙◌, arith}
+use Rattle.std.proofs.lemmas.List.{length-map}
+use Rattle.sim_channels.specs.declared.driver.Driver.{Driver}
+use Rattle.sim_channels.proofs.Looking.{is_called}
+use Rattle.sim_channels.proofs.driver.Driver.call.Goals as goal
+
+pub connection_of-device-requires : goal.connection_of-device-requires
+connection_of-device-requires g c =
+    let h = c.requires in
+    let few = h.fits.kept.numbers in
+    let same = h.fits.places ∙ length-map c.args.devices.now g.D.Device.meaning in
+    let within = h.within in
+    omega arith
+
+pub returns-clause-called : goal.returns-clause-called
+returns-clause-called g c =
+    let h = c.requires in
+    let told = c.in_ok-tell.ensures in
+    is_called g.D.Device.meaning c.driving_laws.ensures c.args.self.now c.tell.new.driver c.args.devices.now c.args.at c.args.port c.args.frame c.items.result.now c.in_ok-seen.seen
+    c.connection_of-device.result c.index_mut.result.now c.look_up.new.channel c.index-devices-at.result c.look_up.new.device c.has_failed-failed.result h.fits h.rest h.plugged h.within
+    c.index_mut.ensures.value c.index-devices-at.is c.items.ensures c.in_ok-seen.ensures (ap (λ (x : Driver). x.channels.items) told.same) told.footing
+    c.connection_of-device.ensures told.enters c.has_failed-failed.ensures
