@@ -8,7 +8,7 @@ use Rattle.maple_io.specs.declared.act.Act.TheVariants as acts
 use Rattle.maple_io.specs.Boards.{BoardView, BoardFailed, NoBoardFailed}
 use Rattle.report_text.specs.declared.line.ScriptRefusal.{ScriptRefusal}
 use Rattle.report_text.specs.Report.{spelled}
-use Rattle.machine_steps.specs.Histories.{Leads, report_of}
+use Rattle.machine_steps.specs.Histories.{Leads, Turn, report_of}
 use Rattle.machine_steps.specs.Machine.{State, opening}
 use Rattle.world_steps.specs.Worlds.{World, messages_for}
 use Rattle.world_steps.specs.Runs.{Event as WorldEvent, IsWorldRun}
@@ -127,12 +127,14 @@ EndsWith BoardFault g first parts text = IsFailed g first parts text
 EndsWith Worn g first parts text = IsWorn g first parts text
 EndsWith NoMemory g first parts text = IsBrokenOff g first parts text
 
--- a run: its parts, in which the machine's turns are a legal history, and the board's acts are what its log gained; and the text that was written
-pub record IsRun (end : ServeEnd) (g : Given) (board_old board_new : BoardView) (to_old to_new : SinkView) : Type 0 where
+-- a run of this history: its parts, in which the machine's turns are the history, which is legal, and the board's acts are what its log gained; and the text
+-- that was written
+pub record IsRun (end : ServeEnd) (g : Given) (history : List Turn) (board_old board_new : BoardView) (to_old to_new : SinkView) : Type 0 where
   pub first : Past
   pub parts : List Part
+  pub turns : turns_of (deeds_of first parts) ≡ history
   pub last : State
-  pub history : Leads (opening g.policy g.settings) (turns_of (deeds_of first parts)) last
+  pub legal : Leads (opening g.policy g.settings) history last
   pub cut : AreCutAtTurns first parts
   pub log : board_new.log ≡ board_old.log ++ acts_of (deeds_of first parts)
   pub text : List ℕ
