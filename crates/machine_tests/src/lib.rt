@@ -4,6 +4,8 @@
 #[cfg(test)]
 mod halls;
 #[cfg(test)]
+mod stale;
+#[cfg(test)]
 mod threads;
 #[cfg(test)]
 mod waiting;

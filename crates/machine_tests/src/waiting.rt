@@ -1,5 +1,5 @@
 // A packet that waits is answered over a hall of the machine.
-ghost use Rattle.std.specs.Prelude.{◌≡◌, IfSome, IsTrue};
+ghost use Rattle.std.specs.Prelude.{◌≡◌, ◌≤◌, IfSome, IsTrue};
 ghost use Rattle.history_lock.specs.Passes.{IsPassOf, known, leads, opening, parts};
 ghost use Rattle.machine_steps.specs.Admitting.{Admits};
 ghost use Rattle.machine_steps.specs.Machine.{State};
@@ -17,7 +17,14 @@ use std::sync::Wait;
 use std::test::Fail;
 use worker_crew::{GaveUp, Works};
 
-const TO_HOST: &[u8] = b"policy { if host(pkt.dl_dst) as h { out h.port; } flood; }";
+pub(crate) const TO_HOST: &[u8] = b"policy { if host(pkt.dl_dst) as h { out h.port; } flood; }";
+
+// Asks an empty table for 4,000 numbers.
+const ASKS_MUCH: &[u8] =
+    b"table t; policy { let i = 0; while i < 4000 { if t[i] as v { out v; } i = i + 1; } flood; }";
+
+// Its steps: 2 for the let and 1 for the while, 10 a round, 3 for the last test and 1 for the end.
+const MUCH: u32 = 40_007;
 
 // A HELLO and the reply to the first barrier (OpenFlow 1.0, 5.1).
 const HELLO: &[u8] = &[1, 0, 0, 8, 0, 0, 0, 7];
@@ -35,6 +42,12 @@ const PACKET_IN: &[u8] = &[
 
 const REPORT: &[u8] =
     b"open c1\nstate 1 pruned 0\nready c1 s1\nstate 2 pruned 0\nanswer s1 4 out 2 learned\n";
+
+const SPENT_REPORT: &[u8] =
+    b"open c1\nstate 1 pruned 0\nready c1 s1\nstate 2 pruned 0\nspent s1 4\n";
+
+const FLOOD_REPORT: &[u8] =
+    b"open c1\nstate 1 pruned 0\nready c1 s1\nstate 2 pruned 0\nanswer s1 4 flood learned\n";
 
 // The machine does what an entry asks that may come at any moment.
 fn enter<R: Wait>(rt: &R, hall: &Hall<Core>, pass: &mut Pass<Core>, entry: Entry) -> Option<Reply>
@@ -97,8 +110,17 @@ fn boot<R: Wait>(rt: &R, alloc: Global, hall: &Hall<Core>, pass: &mut Pass<Core>
     hear(rt, alloc, hall, pass, FIRST_BARRIER)
 }
 
-// A host stands at port 2 of switch 1, and a packet for it comes.
-fn packet_for_host<R: Wait>(
+// The host 02:00:00:00:00:09 is at this port of switch 1 now.
+pub(crate) fn host_at(port: u64) -> Entry
+    ensures { (m : State) → Admits m result }
+{
+    let place = Place { switch: 1, port };
+    let mac = 0x0200_0000_0009;
+    Entry::Change(Update::Host { mac, place })
+}
+
+// The host stands at port 2, and a packet for it comes.
+pub(crate) fn packet_for_host<R: Wait>(
     rt: &R,
     alloc: Global,
     hall: &Hall<Core>,
@@ -109,9 +131,7 @@ fn packet_for_host<R: Wait>(
     ensures leads { IsTrue (leads pass.new) }
 {
     boot(rt, alloc, hall, pass)?;
-    let place = Place { switch: 1, port: 2 };
-    let mac = 0x0200_0000_0009;
-    enter(rt, hall, pass, Entry::Change(Update::Host { mac, place }))?;
+    enter(rt, hall, pass, host_at(2))?;
     match hear(rt, alloc, hall, pass, PACKET_IN)? {
         Reply::Job(item) => Some(item),
         _ => None,
@@ -119,31 +139,86 @@ fn packet_for_host<R: Wait>(
 }
 
 // Whether the machine has this to report.
-fn reports(mut core: Core, lines: &[u8]) -> bool {
+pub(crate) fn reports(mut core: Core, lines: &[u8]) -> bool {
     match core.step(Entry::TakeReport) {
         Reply::Lines(bytes) => bytes.items() == lines,
         _ => false,
     }
 }
 
+// How the work on a packet went: what it answered, what its gate was told, and the machine then.
+#[derive(Drop)]
+struct Outcome {
+    worked: Worked,
+    told: [u64; 4],
+    core: Core,
+}
+
+// A packet comes and is worked on.
+fn worked_on<R: Wait>(
+    rt: &R,
+    alloc: Global,
+    hall: &Hall<Core>,
+    pass: &mut Pass<Core>,
+    budget: u32,
+    told: &Told,
+) -> Option<Worked>
+    requires hall { IsPassOf hall.now pass.old × IsTrue (leads pass.old) }
+    requires budget { IsBudgetOf budget (known pass.old) }
+    ensures { IsPassOf hall.now pass.new × (parts pass.new ≡ parts pass.old) }
+{
+    let item = packet_for_host(rt, alloc, hall, pass)?;
+    Some(work(rt, alloc, hall, pass, budget, item, told))
+}
+
+// The same at the machine of a policy, with so many steps a packet.
+fn works_at<R: Wait>(rt: &R, alloc: Global, text: &[u8], budget: u32) -> Option<Outcome>
+    requires { (1 ≤ budget) × (budget ≤ 65536) }
+{
+    let core = machine(alloc, text, budget)?;
+    let Ok((hall, mut pass)) = Hall::open(alloc, core) else {
+        return None;
+    };
+    let gate = Told::new();
+    let worked = worked_on(rt, alloc, &hall, &mut pass, budget, &gate);
+    let told = gate.all();
+    let core = hall.close(pass);
+    match worked {
+        Some(worked) => Some(Outcome { worked, told, core }),
+        None => None,
+    }
+}
+
 #[test]
 fn a_packet_that_waits(rt: HostRuntime) -> Result<(), Fail> {
-    let alloc = rt.alloc();
-    let Some(core) = machine(alloc, TO_HOST) else {
-        panic!(&rt; "memory")
-    };
-    let Ok((hall, mut pass)) = Hall::open(alloc, core) else {
-        panic!(&rt; "memory")
-    };
-    let Some(item) = packet_for_host(&rt, alloc, &hall, &mut pass) else {
+    let Some(outcome) = works_at(&rt, rt.alloc(), TO_HOST, BUDGET) else {
         panic!(&rt; "no packet waits")
     };
-    let told = Told::new();
-    let worked = work(&rt, alloc, &hall, &mut pass, BUDGET, item, &told);
-    let core = hall.close(pass);
-    assert!(&rt; worked == Worked::Answered);
-    assert!(&rt; told.all() == [1, 1, 1, 1]);
-    assert!(&rt; reports(core, REPORT));
+    assert!(&rt; outcome.worked == Worked::Answered);
+    assert!(&rt; outcome.told == [1, 1, 1, 1]);
+    assert!(&rt; reports(outcome.core, REPORT));
+    Ok(())
+}
+
+#[test]
+fn a_policy_that_takes_too_many_steps(rt: HostRuntime) -> Result<(), Fail> {
+    let Some(outcome) = works_at(&rt, rt.alloc(), TO_HOST, 1) else {
+        panic!(&rt; "no packet waits")
+    };
+    assert!(&rt; outcome.worked == Worked::Spent);
+    assert!(&rt; outcome.told == [1, 1, 1, 0]);
+    assert!(&rt; reports(outcome.core, SPENT_REPORT));
+    Ok(())
+}
+
+#[test]
+fn a_policy_that_asks_much(rt: HostRuntime) -> Result<(), Fail> {
+    let Some(outcome) = works_at(&rt, rt.alloc(), ASKS_MUCH, MUCH) else {
+        panic!(&rt; "no packet waits")
+    };
+    assert!(&rt; outcome.worked == Worked::Answered);
+    assert!(&rt; outcome.told == [1, 1, 1, 4000]);
+    assert!(&rt; reports(outcome.core, FLOOD_REPORT));
     Ok(())
 }
 
@@ -170,7 +245,7 @@ fn worked_in_crew<R: Wait>(
 #[test]
 fn a_crews_work(rt: HostRuntime) -> Result<(), Fail> {
     let alloc = rt.alloc();
-    let Some(core) = machine(alloc, TO_HOST) else {
+    let Some(core) = machine(alloc, TO_HOST, BUDGET) else {
         panic!(&rt; "memory")
     };
     let Ok((hall, mut pass)) = Hall::open(alloc, core) else {

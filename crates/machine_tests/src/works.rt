@@ -1,5 +1,5 @@
 // A packet that waits is worked on over a hall of the machine, and a gate is told of it.
-ghost use Rattle.std.specs.Prelude.{◌≡◌, IfSome};
+ghost use Rattle.std.specs.Prelude.{◌≡◌, ◌≤◌, IfSome};
 
 use core_machine::{Core, JobItem};
 use history_lock::Hall;
@@ -56,14 +56,16 @@ impl Gate for Told {
     }
 }
 
-pub(crate) fn machine(alloc: Global, text: &[u8]) -> Option<Core>
-    ensures { IfSome result (λ core. core.settings.budget ≡ 100) }
+// The machine of a policy, with so many steps a packet.
+pub(crate) fn machine(alloc: Global, text: &[u8], budget: u32) -> Option<Core>
+    requires { (1 ≤ budget) × (budget ≤ 65536) }
+    ensures { IfSome result (λ core. core.settings.budget ≡ budget) }
 {
     let policy = read_policy(alloc, text).ok()?;
     let settings = Settings {
         capacity: 100,
         levels: 50,
-        budget: BUDGET,
+        budget,
         workers: 0,
     };
     Core::new(alloc, policy, settings).ok()
@@ -95,7 +97,7 @@ fn unsent() -> Option<JobItem> {
 #[test]
 fn a_packet_that_does_not_wait(rt: HostRuntime) -> Result<(), Fail> {
     let alloc = rt.alloc();
-    let Some(core) = machine(alloc, DROPS) else {
+    let Some(core) = machine(alloc, DROPS, BUDGET) else {
         panic!(&rt; "memory")
     };
     let Some(item) = unsent() else {
