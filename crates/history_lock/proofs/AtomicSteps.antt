@@ -14,7 +14,7 @@ use Rattle.history_lock.specs.declared.view.Standing.{Standing}
 use Rattle.history_lock.specs.declared.view.Standing.TheVariants.{Idle, Looked, Waits, Turn, Recorded}
 use Rattle.history_lock.specs.declared.view.View.{View}
 use Rattle.history_lock.specs.Histories.{times, once_below, event, state_behind, Replays, IsAllowed}
-use Rattle.history_lock.specs.Rule.{total, waiting, pending, HasTicket, HasTurn, InStep, look_stage, staged, reads, records, IsHome, Kept, Looks, Draws, Turns, Writes, Hands, Compares, Answered, calls_of, machines_of}
+use Rattle.history_lock.specs.Rule.{total, waiting, pending, HasTicket, HasTurn, InStep, look_stage, machine_in, staged, reads, records, IsHome, Kept, Looks, Draws, Turns, Writes, Hands, Compares, Answered, calls_of, machines_of}
 use Rattle.history_lock.proofs.Totals.{total_le, one_le}
 use Rattle.history_lock.proofs.Lists.{times_more, once_more, below_more, are_positions, starts_short, starts_more, starts_of, at_set_same, same_at}
 use Rattle.history_lock.proofs.Stages.{turn_ticket, stands_next, stands_else, stands_on, ticket_below, fewer_one, pends_idle, no_turn}
@@ -324,7 +324,7 @@ module _ {M E R : Type 0} (steps : M → E → R → M → Type 0) (allows : Lis
 
   -- the turn is handed on, and the machine is back in its place
   hand_moves : (opening : M) (s : State S V) (k : Kept steps allows opening s) (id : ℕ) (v : V) → get_elem? s.views id ≡ some v → (t : ℕ) (m : M) (slot : S) → v.stage ≡ Recorded t m
-      → slot.machine ≡ Some m → (words : List ℕ) → words ≡ length k.log ∷ k.next ∷ (t + 1) ∷ [] → (homes : List (Maybe S)) → homes ≡ some slot ∷ []
+      → machine_in slot ≡ Some m → (words : List ℕ) → words ≡ length k.log ∷ k.next ∷ (t + 1) ∷ [] → (homes : List (Maybe S)) → homes ≡ some slot ∷ []
       → Moves steps allows opening s k id v (staged v Idle) k.log k.machine k.next (k.turn + 1) (some slot) words homes
   hand_moves opening s k id v at t m slot done holds words are homes back =
       let stands : (t ≡ k.turn) × (t < k.next) × (m ≡ k.machine) = (let P : Standing M → Type 0 = InStep k.machine k.turn k.next in subst P done (k.stands id v at).in_step) in
@@ -358,7 +358,7 @@ module _ {M E R : Type 0} (steps : M → E → R → M → Type 0) (allows : Lis
         room = λ m n e f g. omega arith;
       }
 
-  hands : (opening : M) (count id : ℕ) (v : V) (t : ℕ) (m : M) (slot : S) → v.stage ≡ Recorded t m → slot.machine ≡ Some m
+  hands : (opening : M) (count id : ℕ) (v : V) (t : ℕ) (m : M) (slot : S) → v.stage ≡ Recorded t m → machine_in slot ≡ Some m
       → Allows (Kept steps allows opening) count id (v, (0, slot) ∷ []) 2 (λ _. t + 1) (λ _. Hands steps (step count 2 (t + 1) 0 none) (v, (0, slot) ∷ []) (t + 1))
   hands opening count id v t m slot done holds s k slots at fits = (
     staged v Idle,
@@ -369,7 +369,7 @@ module _ {M E R : Type 0} (steps : M → E → R → M → Type 0) (allows : Lis
     refl,
   )
 
-  pub hands_me : (opening : M) (count id : ℕ) (me : Me S V) (t : ℕ) (m : M) (slot : S) → me.1 ≡ (0, slot) ∷ [] → me.0.stage ≡ Recorded t m → slot.machine ≡ Some m
+  pub hands_me : (opening : M) (count id : ℕ) (me : Me S V) (t : ℕ) (m : M) (slot : S) → me.1 ≡ (0, slot) ∷ [] → me.0.stage ≡ Recorded t m → machine_in slot ≡ Some m
       → Allows (Kept steps allows opening) count id me 2 (λ _. t + 1) (λ _. Hands steps (step count 2 (t + 1) 0 none) me (t + 1))
   hands_me opening count id (v, c) t m slot held done holds =
       let P : Held → Type 0 = λ x. Allows (Kept steps allows opening) count id (v, x) 2 (λ _. t + 1) (λ _. Hands steps (step count 2 (t + 1) 0 none) (v, x) (t + 1)) in

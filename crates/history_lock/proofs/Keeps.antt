@@ -12,7 +12,7 @@ use Rattle.history_lock.specs.declared.view.Standing.{Standing}
 use Rattle.history_lock.specs.declared.view.Standing.TheVariants.{Idle, Looked, Waits, Turn, Recorded}
 use Rattle.history_lock.specs.declared.view.View.{View}
 use Rattle.history_lock.specs.Histories.{times, once_below, Replays}
-use Rattle.history_lock.specs.Rule.{total, leader, waiting, pending, HasTicket, opened, Knows, Stands, IsHome, IsLed, Kept}
+use Rattle.history_lock.specs.Rule.{total, leader, waiting, pending, HasTicket, machine_in, opened, Knows, Stands, IsHome, IsLed, Kept}
 use Rattle.history_lock.proofs.Totals.{all_set, total_set, total_le}
 use Rattle.history_lock.proofs.Leads.{since_same}
 
@@ -40,7 +40,7 @@ module _ {M E R : Type 0} (steps : M → E → R → M → Type 0) (allows : Lis
   abbrev SS : Type 0
   SS = Slot M E R
 
-  begins : (m : M) (slot : SS) → slot.machine ≡ Some m → Kept steps allows m (table_opening (0 ∷ 0 ∷ 0 ∷ []) (slot ∷ []) (opened m))
+  begins : (m : M) (slot : SS) → machine_in slot ≡ Some m → Kept steps allows m (table_opening (0 ∷ 0 ∷ 0 ∷ []) (slot ∷ []) (opened m))
   begins m slot has = record {
     log = [];
     machine = m;
@@ -74,7 +74,7 @@ module _ {M E R : Type 0} (steps : M → E → R → M → Type 0) (allows : Lis
     room = omega arith;
   }
 
-  pub begins_at : (m n : M) (slots : List SS) (slot : SS) → slots ≡ slot ∷ [] → slot.machine ≡ Some n → m ≡ n → Kept steps allows m (table_opening (0 ∷ 0 ∷ 0 ∷ []) slots (opened m))
+  pub begins_at : (m n : M) (slots : List SS) (slot : SS) → slots ≡ slot ∷ [] → machine_in slot ≡ Some n → m ≡ n → Kept steps allows m (table_opening (0 ∷ 0 ∷ 0 ∷ []) slots (opened m))
   begins_at m n slots slot one has same =
       let P : List SS → Type 0 = λ xs. Kept steps allows m (table_opening (0 ∷ 0 ∷ 0 ∷ []) xs (opened m)) in
       subst P (sym one) (begins m slot (has ∙ ap Some (sym same)))

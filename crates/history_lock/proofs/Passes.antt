@@ -12,7 +12,7 @@ use Rattle.history_lock.specs.declared.view.Slot.{Slot}
 use Rattle.history_lock.specs.declared.view.Standing.TheVariants.{Idle}
 use Rattle.history_lock.specs.declared.view.View.{View}
 use Rattle.history_lock.specs.Histories.{StartsWith, times, AreAllPositions, LeadsTo, Replays}
-use Rattle.history_lock.specs.Rule.{total, leader, waiting, pending, HasTicket, HasTurn, less, share, joined, no_view, Knows, Stands, IsHome, IsLed, Kept}
+use Rattle.history_lock.specs.Rule.{total, leader, waiting, pending, HasTicket, HasTurn, machine_in, less, share, joined, no_view, Knows, Stands, IsHome, IsLed, Kept}
 use Rattle.history_lock.proofs.Totals.{all_set, total_set, total_snoc, others_none}
 use Rattle.history_lock.proofs.Lists.{times_append, times_neither, starts_either, longer_most, same_at, at_longer}
 use Rattle.history_lock.proofs.Stages.{no_ticket, no_turn}
@@ -169,13 +169,13 @@ module _ {M E R : Type 0} (steps : M → E → R → M → Type 0) (allows : Lis
     pub machine : M
     pub slot : S
     pub there : get_elem? slots 0 ≡ some slot
-    pub has : slot.machine ≡ Some machine
+    pub has : machine_in slot ≡ Some machine
     pub leads : LeadsTo steps v.known machine
     pub owns : AreAllPositions (length v.known.seen) v.known.own
     pub read : v.known.number ≤ length v.known.seen
 
   closes_home : (opening : M) (id : ℕ) (v : V) (s : State S V) (k : Kept steps allows opening s) → get_elem? s.views id ≡ some v → v.stage ≡ Idle → v.known.parts ≡ 1024 → IsHome steps k.machine s.views k.home
-      → (slot : S) × (k.home ≡ some slot) × (slot.machine ≡ Some k.machine)
+      → (slot : S) × (k.home ≡ some slot) × (machine_in slot ≡ Some k.machine)
   closes_home opening id v s k at idle all (inl there) = there
   closes_home opening id v s k at idle all (inr (gone, port, u, there, turn)) =
       let whole : total (λ (x : V). x.known.parts) s.views ≡ v.known.parts = k.parts ∙ sym all in
@@ -201,8 +201,8 @@ module _ {M E R : Type 0} (steps : M → E → R → M → Type 0) (allows : Lis
       }
 
   -- the slot that was taken out has the machine
-  pub taken_has : (opening : M) (v : V) (slots : List S) (slot : S) (whole : Whole opening v slots) → get_elem? slots 0 ≡ some slot → slot.machine ≡ Some whole.machine
-  taken_has opening v slots slot whole at = ap (λ (x : S). x.machine) (some-injective slot whole.slot (sym at ∙ whole.there)) ∙ whole.has
+  pub taken_has : (opening : M) (v : V) (slots : List S) (slot : S) (whole : Whole opening v slots) → get_elem? slots 0 ≡ some slot → machine_in slot ≡ Some whole.machine
+  taken_has opening v slots slot whole at = ap machine_in (some-injective slot whole.slot (sym at ∙ whole.there)) ∙ whole.has
 
   pub whole_leads : (opening : M) (v : V) (slots : List S) (whole : Whole opening v slots) (m : M) → Some whole.machine ≡ Some m → LeadsTo steps v.known m
   whole_leads opening v slots whole m is = let same : whole.machine ≡ m = cc in let P : M → Type 0 = λ x. LeadsTo steps v.known x in subst P same whole.leads

@@ -1,5 +1,6 @@
 -- The rule of the table: one legal history stands behind its words. And what each kind of step does to a view and tells its pass.
-use Rattle.std.specs.Prelude.{◌≡◌, ℕ, ◌+◌, ◌-◌, ◌^◌, ◌<◌, ◌≤◌, ◌⊎◌, max, if◌then◌else◌, nat_lt, ◌||◌, Bool, true, false, IsTrue, List, [], ◌∷◌, ◌++◌, length, Option, Some, None}
+use Rattle.std.specs.Prelude.{◌≡◌, ℕ, ◌+◌, ◌-◌, ◌^◌, ◌<◌, ◌≤◌, ◌⊎◌, max, if◌then◌else◌, nat_lt, ◌||◌, Bool, true, false, IsTrue, List, [], ◌∷◌, ◌++◌, length, Option, Some, None, box_value}
+use Rattle.std.specs.Option.{option_map}
 use mathlib.Core.Option.{Option as Maybe, some, none}
 use lib.ListN.{get_elem?}
 use Rattle.atomic_table.specs.Table.{State, Me, Step}
@@ -68,6 +69,10 @@ module _ {M : Type 0} where
   look_stage b = if b then Looked else Idle
 
 module _ {M E R : Type 0} where
+  -- the machine that lies behind the slot's pointer
+  abbrev pub machine_in : Slot M E R → Option M
+  machine_in slot = option_map box_value slot.machine
+
   -- the call that the slot's entry and reply are, with its machine behind it
   abbrev pub call_in : Option M → Option (Snapshot E) → Option (Snapshot R) → List (Event M E R)
   call_in (Some m) (Some e) (Some r) = event e.value r.value m ∷ []
@@ -117,11 +122,11 @@ module _ {M E R : Type 0} where
   -- the call and the machine of the slot that a pass has
   abbrev pub calls_of : List (ℕ × Slot M E R) → List (Event M E R)
   calls_of [] = []
-  calls_of (x ∷ xs) = call_in x.1.machine x.1.entry x.1.reply
+  calls_of (x ∷ xs) = call_in (machine_in x.1) x.1.entry x.1.reply
 
   abbrev pub machines_of : List (ℕ × Slot M E R) → Option M
   machines_of [] = None
-  machines_of (x ∷ xs) = x.1.machine
+  machines_of (x ∷ xs) = machine_in x.1
 
   -- both lists are as before
   abbrev pub IsKept : Known M E R → Known M E R → Type 0
@@ -145,7 +150,7 @@ module _ {M E R : Type 0} where
   -- the entry is recorded, and the machine lies in the slot that the pass has
   abbrev pub HasRecorded : View M E R → List (ℕ × Slot M E R) → ℕ → Type 0
   HasRecorded v carried ticket =
-      (m : M) × (slot : Slot M E R) × (carried ≡ (0, slot) ∷ []) × (v.stage ≡ Recorded ticket m) × (slot.machine ≡ Some m)
+      (m : M) × (slot : Slot M E R) × (carried ≡ (0, slot) ∷ []) × (v.stage ≡ Recorded ticket m) × (machine_in slot ≡ Some m)
 
 module _ {S M E R : Type 0} where
   -- what the pass of a seat knows
@@ -167,7 +172,7 @@ module _ {M E R : Type 0} (steps : M → E → R → M → Type 0) where
   -- the machine lies in its slot, or the pass whose turn it is has it
   abbrev pub IsHome : M → List (View M E R) → Maybe (Slot M E R) → Type 0
   IsHome m views home =
-      ((slot : Slot M E R) × (home ≡ some slot) × (slot.machine ≡ Some m))
+      ((slot : Slot M E R) × (home ≡ some slot) × (machine_in slot ≡ Some m))
       ⊎ ((home ≡ none) × (port : ℕ) × (v : View M E R) × (get_elem? views port ≡ some v) × HasTurn v.stage)
 
   -- what each kind of step tells its pass
@@ -187,8 +192,8 @@ module _ {M E R : Type 0} (steps : M → E → R → M → Type 0) where
     pub after : M
     pub stage : v.stage ≡ Turn ticket before
     pub carries : carried ≡ (0, slot) ∷ []
-    pub is_call : call_in slot.machine slot.entry slot.reply ≡ event entry reply after ∷ []
-    pub has : slot.machine ≡ Some after
+    pub is_call : call_in (machine_in slot) slot.entry slot.reply ≡ event entry reply after ∷ []
+    pub has : machine_in slot ≡ Some after
     pub stepped : steps before entry reply after
 
   -- the pass has its turn, and holds the machine, which admits the entry
@@ -197,7 +202,7 @@ module _ {M E R : Type 0} (steps : M → E → R → M → Type 0) where
     pub machine : M
     pub stage : v.stage ≡ Turn ticket machine
     pub carries : carried ≡ (0, slot) ∷ []
-    pub has : slot.machine ≡ Some machine
+    pub has : machine_in slot ≡ Some machine
     pub admitted : admits machine entry
 
 module _ {M E R : Type 0} (steps : M → E → R → M → Type 0) (allows : List (Event M E R) → E → Type 0) where
@@ -239,7 +244,7 @@ module _ {M E R : Type 0} (steps : M → E → R → M → Type 0) (allows : Lis
     pub legal : Replays steps opening log machine
     pub led : IsTrue v.known.leads → IsAllowedSince allows log v.known.seen
     pub alone : v.known.parts ≡ 1024 → log ≡ v.known.seen
-    pub has : slot.machine ≡ Some machine
+    pub has : machine_in slot ≡ Some machine
     pub mine : me' ≡ (staged v (Turn t machine), (0, slot) ∷ [])
 
   abbrev pub Turns : Step (Slot M E R) → Mine M E R → ℕ → Mine M E R → Type 0

@@ -1,8 +1,8 @@
 //! One machine that threads share by a ticket lock. The calls of all threads stand in one legal history.
 //!
 //! A hall is a table of three words and a slot. Word 0 is the length of the history, word 1 the next ticket, word 2 the
-//! turn; the machine lies in the slot. A pass is a seat of the table. What a pass knows, and the history itself, are in
-//! proofs alone: the running program has the length and the machine.
+//! turn. The machine lies behind a pointer in the slot, so that a call moves no machine. A pass is a seat of the table.
+//! What a pass knows, and the history itself, are in proofs alone: the running program has the length and the machine.
 //!
 //! A call goes by six steps:
 //!
@@ -48,6 +48,7 @@ ghost use Rattle.std.specs.Prelude.{◌≡◌, ◌<◌, ◌≤◌, ◌+◌, ◌-
 ghost use Rattle.history_lock.specs.declared.view.Slot.{Slot};
 ghost use Rattle.history_lock.specs.Histories.{AreAllPositions, Calls, HasSeenLegal, IsAdmitted, IsAllowed, IsAllowedSince, LeadsTo, StartsWith, longer};
 ghost use Rattle.history_lock.specs.Passes.{IsPassOf, known, leads, number, opening, own, parts, seen};
+ghost use Rattle.history_lock.specs.Rule.{machine_in};
 
 use crate::machine::Machine;
 use crate::pass::{Pass, Token};
@@ -60,9 +61,9 @@ use std::snapshot::Snapshot;
 use std::sync::Wait;
 
 // The machine of the one slot of a vector.
-fn only<M, E, R>(mut slots: Vec<Slot<M, E, R>>) -> M
-    requires { (slot : Slot M E R) × (slots.items ≡ slot ∷ []) × IsSome slot.machine }
-    ensures { (slot : Slot M E R) × (slots.items ≡ slot ∷ []) × (slot.machine ≡ Some result) }
+fn only<M, E, R>(mut slots: Vec<Slot<M, E, R>>) -> Box<M>
+    requires { (slot : Slot M E R) × (slots.items ≡ slot ∷ []) × IsSome (machine_in slot) }
+    ensures { (slot : Slot M E R) × (slots.items ≡ slot ∷ []) × (machine_in slot ≡ Some result.value) }
 {
     match slots.pop() {
         Some(slot) => {
@@ -82,17 +83,21 @@ impl<M: Machine> Hall<M> {
         ensures err { IfErr result (λ m. m ≡ machine) }
     {
         let about = Snapshot::of(&machine);
+        let boxed = match Box::new(alloc, machine) {
+            Ok(boxed) => boxed,
+            Err(failed) => return Err(failed.value),
+        };
         let Ok(mut slots) = Vec::with_capacity(alloc, 1) else {
-            return Err(machine);
+            return Err(Box::into_inner(boxed));
         };
         slots.push_reserved(Slot {
-            machine: Some(machine),
+            machine: Some(boxed),
             entry: None,
             reply: None,
         });
         match Table::new(alloc, &[0, 0, 0], slots, &about) {
             Ok((table, seat)) => Ok((Room { table }, Token { seat })),
-            Err(Refused { slots }) => Err(only(slots)),
+            Err(Refused { slots }) => Err(Box::into_inner(only(slots))),
         }
     }
 
@@ -163,6 +168,6 @@ impl<M: Machine> Hall<M> {
         let mut closed = table.close_with(seat);
         let slot = closed.take(0);
         closed.free();
-        machine_of(slot)
+        Box::into_inner(machine_of(slot))
     }
 }

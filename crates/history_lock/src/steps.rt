@@ -3,7 +3,7 @@ ghost use Rattle.std.specs.Prelude.{◌≡◌, ◌<◌, ◌≤◌, ◌+◌, ◌^
 ghost use Rattle.history_lock.specs.declared.view.Slot.{Slot};
 ghost use Rattle.history_lock.specs.declared.view.Standing.TheVariants.{Idle, Looked, Waits, Turn, Recorded};
 ghost use Rattle.history_lock.specs.Histories.{Calls, HasSeenLegal, IsAdmitted, IsAllowed, IsAllowedSince, IsLedByOther, StartsWith};
-ghost use Rattle.history_lock.specs.Rule.{Acts, Adds, Answered, HasRecorded, Holds, IsFree, IsKept, Takes, joined, less, reads, share, staged};
+ghost use Rattle.history_lock.specs.Rule.{Acts, Adds, Answered, HasRecorded, Holds, IsFree, IsKept, Takes, joined, less, machine_in, reads, share, staged};
 
 use crate::law::{Compare, Count, Cut, Draw, Glue, Hand, Look, Take, Write};
 use crate::machine::Machine;
@@ -25,9 +25,9 @@ const TICKETS: usize = 1;
 const TURN: usize = 2;
 
 // The machine that a slot has.
-pub(crate) fn machine_of<M, E, R>(slot: Slot<M, E, R>) -> M
-    requires { IsSome slot.machine }
-    ensures { slot.machine ≡ Some result }
+pub(crate) fn machine_of<M, E, R>(slot: Slot<M, E, R>) -> Box<M>
+    requires { IsSome (machine_in slot) }
+    ensures { machine_in slot ≡ Some result.value }
 {
     let Slot {
         machine,

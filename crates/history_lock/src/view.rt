@@ -37,9 +37,9 @@ pub struct View<M, E, R> {
     pub stage: Standing<M>,
 }
 
-/// The place of the machine, with the call that it just answered.
+/// The place of the machine, which lies behind a pointer, with the call that it just answered.
 pub struct Slot<M, E, R> {
-    pub machine: Option<M>,
+    pub machine: Option<Box<M>>,
     pub entry: Option<Snapshot<E>>,
     pub reply: Option<Snapshot<R>>,
 }
