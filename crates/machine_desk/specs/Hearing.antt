@@ -13,7 +13,7 @@ use Rattle.machine_desk.specs.declared.hearing.Heard.{Heard}
 use Rattle.machine_desk.specs.declared.hearing.Heard.TheVariants.{Packet, Ended, State, Other}
 use Rattle.machine_desk.specs.declared.inbound.Inbound.{Inbound}
 use Rattle.machine_desk.specs.declared.inbound.Stage.{Stage}
-use Rattle.machine_desk.specs.declared.inbound.Stage.TheVariants.{Unopened, Live, Over}
+use Rattle.machine_desk.specs.declared.inbound.Stage.TheVariants.{Live, Over}
 use Rattle.machine_desk.specs.Desks.{DeskView, Enters}
 use Rattle.machine_desk.specs.Orders.{Asks}
 

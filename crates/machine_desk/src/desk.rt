@@ -53,7 +53,7 @@ impl<'h> Model for Desk<'h> {
 }
 
 impl<'h> Desk<'h> {
-    /// The desk of a hall, at which it is driven by this pass from the beginning on.
+    /// The desk of a hall, by a pass that leads there and has seen nothing of it yet. The pass is lent until `end`.
     pub fn new(hall: &'h Hall<Core>, pass: &'h mut Pass<Core>, opening: Opening) -> Desk<'h>
         requires hall { IsPassOf hall.now pass.now }
         requires ahead { IsAhead (known pass.now) opening }
@@ -120,15 +120,7 @@ impl<'h> Desk<'h> {
         if self.worn {
             return Worked::Worn;
         }
-        let worked = work(
-            rt,
-            alloc,
-            self.hall,
-            self.pass,
-            self.budget,
-            item,
-            gate,
-        );
+        let worked = work(rt, alloc, self.hall, self.pass, self.budget, item, gate);
         self.worn = worked == Worked::Worn;
         worked
     }

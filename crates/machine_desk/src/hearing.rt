@@ -25,8 +25,8 @@ pub enum Heard {
 }
 
 impl<'h> Desk<'h> {
-    /// The machine opens the session of a connection, whose number was never used. Where it has no place for it the session
-    /// is over at once.
+    /// The machine opens the session of a connection, whose number is a new one: at another it does nothing. Where it has no
+    /// place for the session, that is over at once.
     ///
     /// # Errors
     ///
