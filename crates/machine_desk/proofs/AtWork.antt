@@ -147,10 +147,10 @@ module _ (laws : DeskLaws) (old new : Seen) (start : State) (worn : Bool) (h : I
     budget_is = t.budget_is ∙ sym (ap (λ (x : Settings). x.budget) stays.settings);
   }
 
-  pub works : (p q : TableId) (mark : Seen) (item : Waiting) (worked : Worked) (learning : Bool) (budget : ℕ) (now : Bool) → IsTold learning budget ahead
+  pub works : (p q : TableId) (name : ℕ) (mark : Seen) (item : Waiting) (worked : Worked) (learning : Bool) (budget : ℕ) (now : Bool) → IsTold learning budget ahead
       → Rounds item budget 3 calls worked → IsWornBy worked new.number → worn ≡ false → now ≡ is_worn worked
-      → Works item worked (view_by p old mark start worn) (view_by q new mark start now)
-  works p q mark item worked learning budget now t rounds full well is_now = record {
+      → Works item worked (view_by p name old mark start worn) (view_by q name new mark start now)
+  works p q name mark item worked learning budget now t rounds full well is_now = record {
     turns = turns_of ahead rest;
     past = past;
     meanwhile = meanwhile;
@@ -161,5 +161,5 @@ module _ (laws : DeskLaws) (old new : Seen) (start : State) (worn : Bool) (h : I
     at = at;
     rounds = (let P : ℕ → Type 0 = λ n. Rounds item n 3 calls worked in subst P t.budget_is rounds);
     alone = alone;
-    worn = wears_by worked (view_by p old mark start worn) (view_by q new mark start now) well is_now full;
+    worn = wears_by worked (view_by p name old mark start worn) (view_by q name new mark start now) well is_now full;
   }

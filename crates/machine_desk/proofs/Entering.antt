@@ -72,8 +72,9 @@ module _ (laws : DeskLaws) (old new : Seen) (start : State) (worn : Bool) (entry
   alone : old.parts ≡ 1024 → turns_of ahead rest ≡ []
   alone all = ap (turns_of ahead) (nothing_behind old.seen rest (sym c.later.1 ∙ c.alone all))
 
-  pub enters : (p q : TableId) (mark : Seen) → q ≡ p → new.parts ≡ old.parts → Enters (view_by p old mark start worn) entry reply (view_by q new mark start worn)
-  enters p q mark there parts = record {
+  pub enters : (p q : TableId) (name : ℕ) (mark : Seen) → q ≡ p → new.parts ≡ old.parts
+      → Enters (view_by p name old mark start worn) entry reply (view_by q name new mark start worn)
+  enters p q name mark there parts = record {
     others = turns_of ahead rest;
     allowed = allowed;
     between = c.before;
@@ -83,7 +84,7 @@ module _ (laws : DeskLaws) (old new : Seen) (start : State) (worn : Bool) (entry
     own = own;
     small = c.small;
     alone = alone;
-    footing = λ i. record { place = there i; start = start; parts = parts i; marked = turns_of start mark.seen };
+    footing = λ i. record { place = there i; name = name; start = start; parts = parts i; marked = turns_of start mark.seen };
     worn = refl;
   }
 

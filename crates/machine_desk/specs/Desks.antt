@@ -12,9 +12,11 @@ use Rattle.machine_steps.specs.Sound.{IsSound}
 use Rattle.machine_sharing.specs.Legal.{call_of, turns_of}
 use Rattle.machine_sharing.specs.Sharing.{Call, Allows, Turns}
 
--- what no entry changes: which hall it is, the machine as it was when that was opened, the parts of the desk's pass, and the turns ahead of the last mark
+-- what no entry changes: which hall it is, by which reference its pass was lent, the machine as it was when the hall was opened, the parts of the pass, and
+-- the turns ahead of the last mark
 pub record Footing : Type 0 where
   pub place : TableId
+  pub name : ℕ
   pub start : State
   pub parts : ℕ
   pub marked : List Turn
@@ -29,10 +31,10 @@ pub record DeskView : Type 0 where
   pub number : ℕ
   pub worn : Bool
 
--- by what its pass knows, and what that knew at the last mark
-abbrev pub view_by : TableId → Known State Entry Reply → Known State Entry Reply → State → Bool → DeskView
-view_by place k mark start worn = record {
-  footing = record { place = place; start = start; parts = k.parts; marked = turns_of start mark.seen };
+-- by the reference of its pass, what that knows, and what it knew at the last mark
+abbrev pub view_by : TableId → ℕ → Known State Entry Reply → Known State Entry Reply → State → Bool → DeskView
+view_by place name k mark start worn = record {
+  footing = record { place = place; name = name; start = start; parts = k.parts; marked = turns_of start mark.seen };
   past = turns_of start k.seen;
   now = state_behind start k.seen;
   own = k.own;

@@ -27,7 +27,7 @@ pub struct Worn;
 #[derive(Drop)]
 pub struct Desk<'h> {
     hall: &'h Hall<Core>,
-    pass: Pass<Core>,
+    pass: &'h mut Pass<Core>,
     start: Snapshot<Core>,
     mark: Snapshot<Pass<Core>>,
     learning: bool,
@@ -47,25 +47,24 @@ impl<'h> Model for Desk<'h> {
 
     ghost coded = { Prim.hlevel (codes, machine.the_row.coded, entry.the_row.coded, reply.the_row.coded) };
 
-    ghost view = { λ d. view_by (place_of d.pass) (known d.pass) (known d.mark.value) d.start.value d.worn };
+    ghost view = { λ d. view_by (place_of d.pass.now) d.pass.ghost_name (known d.pass.now) (known d.mark.value) d.start.value d.worn };
 
-    ghost invariant = { λ d. IsPassOf d.hall.now d.pass × IsDriven (known d.mark.value) (known d.pass) d.start.value d.worn d.learning d.budget };
+    ghost invariant = { λ d. IsPassOf d.hall.now d.pass.now × IsDriven (known d.mark.value) (known d.pass.now) d.start.value d.worn d.learning d.budget };
 }
 
 impl<'h> Desk<'h> {
-    /// The desk of a hall that was just opened.
-    pub fn new(hall: &'h Hall<Core>, opening: Opening) -> Desk<'h>
-        requires hall { IsPassOf hall.now opening.pass }
-        requires ahead { IsAhead opening }
-        ensures { result ≡ view_by (place_of opening.pass) (known opening.pass) (known opening.pass) opening.start.value false }
+    /// The desk of a hall, by a pass that leads there and has seen nothing of it yet. The pass is lent until `end`.
+    pub fn new(hall: &'h Hall<Core>, pass: &'h mut Pass<Core>, opening: Opening) -> Desk<'h>
+        requires hall { IsPassOf hall.now pass.now }
+        requires ahead { IsAhead (known pass.now) opening }
+        ensures { result ≡ view_by (place_of pass.old) pass.entry.ghost_name (known pass.old) (known pass.old) opening.start.value false }
     {
         let Opening {
-            pass,
             start,
             learning,
             budget,
         } = opening;
-        let mark = Snapshot::of(&pass);
+        let mark = Snapshot::of(pass);
         Desk {
             hall,
             pass,
@@ -94,7 +93,7 @@ impl<'h> Desk<'h> {
             return Err(Worn);
         }
         let learning = learning_behind(&entry, self.learning);
-        match self.hall.call(rt, &mut self.pass, entry) {
+        match self.hall.call(rt, self.pass, entry) {
             Ok(reply) => {
                 self.learning = accepted(&reply, learning, self.learning);
                 Ok(reply)
@@ -121,15 +120,7 @@ impl<'h> Desk<'h> {
         if self.worn {
             return Worked::Worn;
         }
-        let worked = work(
-            rt,
-            alloc,
-            self.hall,
-            &mut self.pass,
-            self.budget,
-            item,
-            gate,
-        );
+        let worked = work(rt, alloc, self.hall, self.pass, self.budget, item, gate);
         self.worn = worked == Worked::Worn;
         worked
     }
@@ -138,7 +129,7 @@ impl<'h> Desk<'h> {
     pub fn mark(&mut self)
         ensures { self.new ≡ record self.old { footing = record self.old.footing { marked = self.old.past } } }
     {
-        self.mark = Snapshot::of(&self.pass);
+        self.mark = Snapshot::of(self.pass);
     }
 
     /// Whether the policy in force learns where hosts are.
@@ -146,13 +137,6 @@ impl<'h> Desk<'h> {
         ensures { result ≡ self.now.now.policy.learning }
     {
         self.learning
-    }
-
-    /// The most steps of a run.
-    pub fn budget(&self) -> u32
-        ensures { result ≡ self.now.now.settings.budget }
-    {
-        self.budget
     }
 
     /// Whether the hall was found worn.
@@ -170,14 +154,15 @@ impl<'h> Desk<'h> {
         let _ = &self.pass;
     }
 
-    /// The pass again, with which the hall can be closed where it has all parts.
-    pub fn end(self) -> Pass<Core>
-        ensures hall { place_of result ≡ self.entry.footing.place }
-        ensures leads { IsTrue (leads result) }
-        ensures parts { parts result ≡ self.entry.footing.parts }
-        ensures opens { opening result ≡ Some self.entry.footing.start }
-        ensures past { turns_of self.entry.footing.start (seen result) ≡ self.entry.past }
-        ensures own { (own result ≡ self.entry.own) × (number result ≡ self.entry.number) }
+    /// The pass again. Where it has all parts the hall can be closed with it.
+    pub fn end(self) -> &'h mut Pass<Core>
+        ensures reference { result.ghost_name ≡ self.entry.footing.name }
+        ensures hall { place_of result.now ≡ self.entry.footing.place }
+        ensures leads { IsTrue (leads result.now) }
+        ensures parts { parts result.now ≡ self.entry.footing.parts }
+        ensures opens { opening result.now ≡ Some self.entry.footing.start }
+        ensures past { turns_of self.entry.footing.start (seen result.now) ≡ self.entry.past }
+        ensures own { (own result.now ≡ self.entry.own) × (number result.now ≡ self.entry.number) }
     {
         let Desk { pass, .. } = self;
         pass

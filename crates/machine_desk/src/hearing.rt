@@ -1,15 +1,14 @@
-// What a connection sends is heard.
-ghost use Rattle.std.specs.Prelude.{◌≡◌, IfErr, IfOk, IfSome};
-ghost use Rattle.of10_stream.specs.Steps.{Tells};
+// The session of a connection is opened, what it sends is heard, and the session ends.
+ghost use Rattle.std.specs.Prelude.{◌≡◌, IfErr, IfOk, OnErr, OnOk};
+ghost use Rattle.machine_moves.specs.Told.{is_end};
 ghost use Rattle.machine_steps.specs.Admitting.{IsHeard};
 ghost use Rattle.machine_steps.specs.declared.entry.Entry.TheVariants as entries;
-ghost use Rattle.machine_desk.specs.Hearing.{Hears, told_as};
+ghost use Rattle.machine_desk.specs.Desks.{WearsOut};
+ghost use Rattle.machine_desk.specs.Hearing.{Closes, Hears, Opens, heard_by, stage_heard, stage_opened};
 ghost use Rattle.machine_desk.specs.Orders.{Stops};
 
-use crate::{Desk, DeskStop};
+use crate::{Desk, DeskStop, Inbound, Stage, Worn};
 use core_machine::{Entry, Input, JobItem, Reply};
-use maple_base::NoMemory;
-use of10_stream::{Next, Reassembly};
 use std::sync::Wait;
 
 /// What the machine made of an input.
@@ -25,45 +24,104 @@ pub enum Heard {
     Other,
 }
 
-/// What comes next of a stream: a whole message, or the fault at which it ends; `None` where there is neither yet.
-///
-/// # Errors
-///
-/// `NoMemory`.
-pub fn next_input(from: &mut Reassembly) -> Result<Option<Input>, NoMemory>
-    ensures tells { IfOk result (λ found. Tells (told_as found) from.old.stream from.new.stream) }
-    ensures heard { IfOk result (λ found. IfSome found IsHeard) }
-{
-    match from.next() {
-        Next::Message(message) => Ok(Some(Input::Message(message))),
-        Next::Bad { place, bad } => Ok(Some(Input::Bad { place, bad })),
-        Next::More => Ok(None),
-        Next::NoMemory => Err(NoMemory),
-    }
-}
-
 impl<'h> Desk<'h> {
-    /// The machine hears an input of a connection.
+    /// The machine opens the session of a connection, whose number is a new one: at another it does nothing. Where it has no
+    /// place for the session, that is over at once.
     ///
     /// # Errors
     ///
-    /// As `ask`.
+    /// As `ask`; the connection is as before.
+    pub fn open<R: Wait>(
+        &mut self,
+        rt: &R,
+        connection: u32,
+        inbound: &mut Inbound,
+    ) -> Result<(), DeskStop>
+        ensures ok { OnOk result (Opens connection self.old inbound.old self.new inbound.new) }
+        ensures stops { IfErr result (λ stop. Stops stop (entries.Open connection) self.old self.new) }
+        ensures same { OnErr result (inbound.new ≡ inbound.old) }
+        ensures footing { self.new.footing ≡ self.old.footing }
+    {
+        let reply = self.ask(rt, Entry::Open(connection))?;
+        inbound.stage = stage_opened(&reply);
+        Ok(())
+    }
+
+    /// The machine hears an input of a connection, which may end its session.
+    ///
+    /// # Errors
+    ///
+    /// As `ask`; the connection is as before.
     pub fn hear<R: Wait>(
         &mut self,
         rt: &R,
         connection: u32,
+        inbound: &mut Inbound,
         input: Input,
     ) -> Result<Heard, DeskStop>
         requires heard { IsHeard input }
-        ensures ok { IfOk result (λ heard. Hears connection input heard self.old self.new) }
+        ensures ok { IfOk result (λ heard. Hears connection input heard self.old inbound.old self.new inbound.new) }
         ensures stops { IfErr result (λ stop. Stops stop (entries.Heard connection input) self.old self.new) }
+        ensures same { OnErr result (inbound.new ≡ inbound.old) }
         ensures footing { self.new.footing ≡ self.old.footing }
     {
-        match self.ask(rt, Entry::Heard(connection, input))? {
-            Reply::Job(item) => Ok(Heard::Packet(item)),
-            Reply::Ended(_) => Ok(Heard::Ended),
-            Reply::NewState { .. } => Ok(Heard::State),
-            _ => Ok(Heard::Other),
-        }
+        let reply = self.ask(rt, Entry::Heard(connection, input))?;
+        let heard = heard_by(reply);
+        inbound.stage = stage_heard(&heard, inbound.stage);
+        Ok(heard)
+    }
+
+    /// The session of a connection ends, with a fault of its link or without. It takes no memory.
+    ///
+    /// # Errors
+    ///
+    /// `Worn`; the connection is as before.
+    pub fn close<R: Wait>(
+        &mut self,
+        rt: &R,
+        connection: u32,
+        inbound: &mut Inbound,
+        fault: bool,
+    ) -> Result<(), Worn>
+        ensures ok { OnOk result (Closes connection fault self.old inbound.old self.new inbound.new) }
+        ensures worn { OnErr result (WearsOut self.old self.new) }
+        ensures same { OnErr result (inbound.new ≡ inbound.old) }
+        ensures footing { self.new.footing ≡ self.old.footing }
+    {
+        self.enter(rt, Entry::Gone { connection, fault })?;
+        inbound.stage = Stage::Over;
+        Ok(())
+    }
+}
+
+// The stage of a session that was opened with this reply.
+fn stage_opened(reply: &Reply) -> Stage
+    ensures { result ≡ stage_opened (is_end reply.now) }
+{
+    match reply {
+        Reply::Ended(_) => Stage::Over,
+        _ => Stage::Live,
+    }
+}
+
+// The stage of a session behind an input, which may have ended it.
+fn stage_heard(heard: &Heard, stage: Stage) -> Stage
+    ensures { result ≡ stage_heard heard.now stage }
+{
+    match heard {
+        Heard::Ended => Stage::Over,
+        _ => stage,
+    }
+}
+
+// What a reply tells of an input.
+fn heard_by(reply: Reply) -> Heard
+    ensures { result ≡ heard_by reply }
+{
+    match reply {
+        Reply::Job(item) => Heard::Packet(item),
+        Reply::Ended(_) => Heard::Ended,
+        Reply::NewState { .. } => Heard::State,
+        _ => Heard::Other,
     }
 }

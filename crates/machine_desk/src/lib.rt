@@ -4,13 +4,15 @@
 pub mod asking;
 pub mod desk;
 pub mod hearing;
+pub mod inbound;
 pub mod laws;
 pub mod opening;
 pub mod report;
 
 pub use asking::DeskStop;
 pub use desk::{Desk, Worn};
-pub use hearing::{Heard, next_input};
+pub use hearing::Heard;
+pub use inbound::{Inbound, Stage};
 pub use laws::{desk_laws, working_laws};
 pub use opening::{Opening, close_hall, open_hall};
 pub use report::ReportStop;

@@ -1,6 +1,6 @@
 // A hall is opened, and the desk in it.
 ghost use Rattle.std.specs.Prelude.{◌≡◌, ◌≤◌, IfOk, length};
-ghost use Rattle.history_lock.specs.Passes.{IsPassOf, number, parts, seen};
+ghost use Rattle.history_lock.specs.Passes.{IsPassOf, known, number, parts, seen};
 ghost use Rattle.machine_steps.specs.Sound.{AreInRange};
 ghost use Rattle.machine_desk.specs.Openings.{IsAhead, IsMachineOf};
 
@@ -12,16 +12,16 @@ use policy_lang::Policy;
 use std::alloc::Global;
 use std::snapshot::Snapshot;
 
-/// What the desk of a hall is made of.
+/// What the desk of a hall is made of, beside a pass that leads in it.
 #[derive(Drop)]
 pub struct Opening {
-    pub pass: Pass<Core>,
     pub start: Snapshot<Core>,
     pub learning: bool,
     pub budget: u32,
 }
 
-/// A hall of the machine ahead of its first entry, with this policy and these settings, and what its desk is made of.
+/// A hall of the machine ahead of its first entry, with this policy and these settings, its one pass, and what its desk is
+/// made of.
 ///
 /// # Errors
 ///
@@ -30,12 +30,12 @@ pub fn open_hall(
     alloc: Global,
     policy: Policy,
     settings: Settings,
-) -> Result<(Hall<Core>, Opening), NoMemory>
+) -> Result<(Hall<Core>, Pass<Core>, Opening), NoMemory>
     requires ranges { AreInRange settings }
-    ensures hall { IfOk result (λ r. IsPassOf r.0 r.1.pass) }
-    ensures ahead { IfOk result (λ r. IsAhead r.1) }
-    ensures parts { IfOk result (λ r. parts r.1.pass ≡ 1024) }
-    ensures machine { IfOk result (λ r. IsMachineOf policy settings r.1) }
+    ensures hall { IfOk result (λ r. IsPassOf r.0 r.1) }
+    ensures ahead { IfOk result (λ r. IsAhead (known r.1) r.2) }
+    ensures parts { IfOk result (λ r. parts r.1 ≡ 1024) }
+    ensures machine { IfOk result (λ r. IsMachineOf policy settings r.2) }
 {
     machine_laws();
     let learning = policy.learning();
@@ -45,18 +45,17 @@ pub fn open_hall(
     match Hall::open(alloc, core) {
         Ok((hall, pass)) => {
             let opening = Opening {
-                pass,
                 start,
                 learning,
                 budget,
             };
-            Ok((hall, opening))
+            Ok((hall, pass, opening))
         }
         Err(_) => Err(NoMemory),
     }
 }
 
-/// Closes a hall, with the pass that its desk gave back. It has as many entries as a call read, or more.
+/// Closes a hall, with the pass that has all parts. It has as many entries as a call read, or more.
 pub fn close_hall(hall: Hall<Core>, pass: Pass<Core>)
     requires hall { IsPassOf hall pass }
     requires all { parts pass ≡ 1024 }

@@ -10,12 +10,12 @@ pub call-requires-clause-admitted : goal.call-requires-clause-admitted
 call-requires-clause-admitted g c =
     let P : DeskView → Type 0 = λ d. Admits d.now c.args.entry in
     let now = subst P (sym c.self.view_is) c.requires.admits in
-    admitted c.desk_laws.ensures.since (known c.self.inside.pass) c.self.inside.start.value c.self.inside.worn c.self.invariant.1.0 c.args.entry now
+    admitted c.desk_laws.ensures.since (known c.self.inside.pass.now) c.self.inside.start.value c.self.inside.worn c.self.invariant.1.0 c.args.entry now
 
 pub invariant_of-self : goal.invariant_of-self
 invariant_of-self g c =
     let laws = c.desk_laws.ensures in
-    let old = known c.self.inside.pass in
+    let old = known c.self.inside.pass.now in
     let new = known c.call.new.pass in
     let start = c.self.inside.start.value in
     let worn = c.self.inside.worn in
@@ -34,12 +34,12 @@ invariant_of-self g c =
 
 pub returns-in-Ok-clause-ok : goal.returns-in-Ok-clause-ok
 returns-in-Ok-clause-ok g c =
-    let old = known c.self.inside.pass in
+    let old = known c.self.inside.pass.now in
     let new = known c.call.new.pass in
     let start = c.self.inside.start.value in
     let worn = c.self.inside.worn in
     let stays = c.call.ensures.stays in
-    let P : DeskView → Type 0 = λ a. Enters a c.args.entry c.in-Ok.reply (view_by (hall c.call.new.pass) new (known c.self.inside.mark.value) start worn) in
+    let P : DeskView → Type 0 = λ a. Enters a c.args.entry c.in-Ok.reply (view_by (hall c.call.new.pass) c.self.inside.pass.ghost_name new (known c.self.inside.mark.value) start worn) in
     subst P c.self.view_is (
-    enters c.desk_laws.ensures old new start worn c.args.entry c.in-Ok.reply c.self.invariant.1.0 stays.1 c.in-Ok.ensures.ok (hall c.self.inside.pass)
-    (hall c.call.new.pass) (known c.self.inside.mark.value) (stays.0 ∙ sym c.self.invariant.0) stays.2)
+    enters c.desk_laws.ensures old new start worn c.args.entry c.in-Ok.reply c.self.invariant.1.0 stays.1 c.in-Ok.ensures.ok (hall c.self.inside.pass.now)
+    (hall c.call.new.pass) c.self.inside.pass.ghost_name (known c.self.inside.mark.value) (stays.0 ∙ sym c.self.invariant.0) stays.2)

@@ -9,7 +9,7 @@ use Rattle.machine_desk.proofs.desk.Desk.law.Goals as goal
 pub returns : goal.returns
 returns c =
     let laws = c.desk_laws.ensures in
-    let k = known c.self.inside.pass in
+    let k = known c.self.inside.pass.now in
     let mark = known c.self.inside.mark.value in
     let start = c.self.inside.start.value in
     let desk = c.self.invariant.1.0 in

@@ -11,13 +11,13 @@ returns-then-self-clause-works g c =
     let P : DeskView → Type 0 = λ d. Works c.args.item Worn d d in
     subst P c.self.view_is (
     works_not c.args.item
-    (view_by (hall c.self.inside.pass) (known c.self.inside.pass) (known c.self.inside.mark.value) c.self.inside.start.value c.self.inside.worn)
+    (view_by (hall c.self.inside.pass.now) c.self.inside.pass.ghost_name (known c.self.inside.pass.now) (known c.self.inside.mark.value) c.self.inside.start.value c.self.inside.worn)
     c.if-self.true (c.self.invariant.1.0.full c.if-self.true))
 
 pub invariant_of-self : goal.invariant_of-self
 invariant_of-self g c =
     let laws = c.desk_laws.ensures in
-    let old = known c.self.inside.pass in
+    let old = known c.self.inside.pass.now in
     let new = known c.work-worked.new.pass in
     let start = c.self.inside.start.value in
     let worn = c.self.inside.worn in
@@ -35,13 +35,13 @@ invariant_of-self g c =
 
 pub returns-clause-works : goal.returns-clause-works
 returns-clause-works g c =
-    let old = known c.self.inside.pass in
+    let old = known c.self.inside.pass.now in
     let new = known c.work-worked.new.pass in
     let start = c.self.inside.start.value in
     let worn = c.self.inside.worn in
     let done = c.work-worked.ensures.works in
-    let P : DeskView → Type 0 = λ a. Works c.args.item c.work-worked.result a (view_by (hall c.work-worked.new.pass) new (known c.self.inside.mark.value) start c.eq-self-inside.result) in
+    let P : DeskView → Type 0 = λ a. Works c.args.item c.work-worked.result a (view_by (hall c.work-worked.new.pass) c.self.inside.pass.ghost_name new (known c.self.inside.mark.value) start c.eq-self-inside.result) in
     subst P c.self.view_is (
-    works c.desk_laws.ensures old new start worn c.self.invariant.1.0 done.calls done.adds (hall c.self.inside.pass) (hall c.work-worked.new.pass) (known c.self.inside.mark.value)
+    works c.desk_laws.ensures old new start worn c.self.invariant.1.0 done.calls done.adds (hall c.self.inside.pass.now) (hall c.work-worked.new.pass) c.self.inside.pass.ghost_name (known c.self.inside.mark.value)
     c.args.item c.work-worked.result c.self.inside.learning c.self.inside.budget c.eq-self-inside.result c.self.invariant.1.1 done.are done.worn c.if-self.false
     (c.eq-self-inside.ensures ∙ is_same c.work-worked.result))
