@@ -2,7 +2,8 @@
 ghost use Rattle.std.specs.Prelude.{◌≡◌, IfOk, None, OnErr, OnOk, Some};
 ghost use Rattle.board_lines.specs.ControlItems.{is_new_policy, line_item};
 ghost use Rattle.board_lines.specs.KeptTexts.{nothing_kept};
-ghost use Rattle.board_lines.specs.Readings.{IsBounded, beginning, behind, behind_end, going_on, is_end, item_at, item_at_end, item_of_rest, last_item, last_text, next_line, stored};
+ghost use Rattle.board_lines.specs.Readings.{IsBounded, beginning, behind, behind_end, going_on, is_end, item_at, item_at_end};
+ghost use Rattle.board_lines.specs.Readings.{item_of_rest, last_item, last_text, next_line, stored};
 
 use crate::{ControlItem, KeptText};
 use maple_base::{Bytes, NoMemory};

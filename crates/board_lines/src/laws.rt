@@ -1,5 +1,6 @@
 // What holds of whatever is sent and read.
-ghost use Rattle.board_lines.specs.Laws.{AnyPieces, BeginsAsOrdered, BeginsAt, EndsAt, GoesOnAt, IsFew, KeepsAll, KeepsFaults, NothingElse, PoliciesAlike, RefusedAlike};
+ghost use Rattle.board_lines.specs.Laws.{AnyPieces, BeginsAsOrdered, BeginsAt, EndsAt, GoesOnAt, IsFew, KeepsAll};
+ghost use Rattle.board_lines.specs.Laws.{KeepsFaults, NothingElse, PoliciesAlike, RefusedAlike};
 
 /// What a reader gave and what it holds are what the text has that was read so far: when it is new,
 /// behind each byte, and at the end. So pieces make no difference. A line begins the text of a policy just

@@ -1,7 +1,8 @@
 -- Texts that are written one behind the other.
-use Rattle.std.proofs.Common.{◌≡◌, ℕ, ◌+◌, List, [], ◌++◌, take, drop, sym, ap, ◌∙◌, subst, append-nil, append_assoc, take-append-drop}
+use Rattle.std.proofs.Common.{◌≡◌, ◌≢◌, ℕ, ◌+◌, ◌<◌, List, [], ◌++◌, take, drop, length, sym, ap, ◌∙◌, subst, append-nil, append_assoc, take-append-drop, arith}
 use Rattle.std.specs.Io.KnownBytes.{Appends, Keeps}
 use Rattle.std.proofs.Math.Seq.{take-add}
+use Rattle.std.proofs.lemmas.List.{append_cancel_left, length-take-le}
 use Rattle.std.proofs.KnownBytes.{Appends-nil, Appends-trans, Appends-kept}
 use Rattle.maple_io.specs.Fronts.{IsFront}
 use Rattle.maple_io.specs.Views.{SinkView, Wrote}
@@ -32,3 +33,14 @@ front_kept old mid new bytes at h k e = (
     took = e ∙ append-nil mid.took ∙ h.took;
   },
 )
+
+-- a front that ends ahead of the last byte is not all
+short_front : (bytes : List ℕ) (at : ℕ) → at < length bytes → take at bytes ≢ bytes
+short_front bytes at lt all =
+    let same : length (take at bytes) ≡ at = length-take-le at bytes (omega (arith, lt)) in
+    omega (arith, lt, same, ap length all)
+
+pub not_all : (old mid new : SinkView) (bytes : List ℕ) (at : ℕ) → Wrote old mid (take at bytes) → at < length bytes → new.took ≡ mid.took ++ []
+    → new.took ≢ old.took ++ bytes
+not_all old mid new bytes at h lt e all =
+    short_front bytes at lt (append_cancel_left old.took (take at bytes) bytes (sym (e ∙ append-nil mid.took ∙ h.took) ∙ all))

@@ -1,5 +1,6 @@
 // What a board over memory keeps: where it stands in its turns, what it took, which connections were closed.
-ghost use Rattle.std.specs.Prelude.{◌≡◌, ℕ, ◌<◌, ◌≤◌, ◌++◌, ◌∷◌, [], true, false, IfOk, OnErr, OnOk, None, Some, if◌then◌else◌, ◌==◌, ◌+◌, length, map, min, take, drop};
+ghost use Rattle.std.specs.Prelude.{◌≡◌, ℕ, ◌<◌, ◌≤◌, ◌++◌, ◌∷◌, [], true, false, IfOk, OnErr, OnOk, None, vec_len, vec_capacity};
+ghost use Rattle.std.specs.Prelude.{Some, if◌then◌else◌, ◌==◌, ◌+◌, length, map, min, take, drop};
 ghost use Rattle.std.specs.List.{flat_map};
 ghost use Rattle.maple_base.specs.Counts.{HasRisen};
 ghost use Rattle.maple_io.specs.Turns.{IsBreak, broken_turns, given_acts};
@@ -132,6 +133,7 @@ pub fn keep(
 pub fn append_taken(taken: &[Taken], connection: u32, out: &mut Vec<u8>) -> Result<(), NoMemory>
     ensures all { OnOk result (out.new.items ≡ out.old.items ++ flat_map (taken_for connection) taken.now) }
     ensures kept { OnErr result (out.new.items ≡ out.old.items) }
+    ensures room { OnErr result (vec_capacity out.old < vec_len out.old + length (flat_map (taken_for connection) taken.now)) }
 {
     let before = out.len();
     for part in taken {

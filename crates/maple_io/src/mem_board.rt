@@ -1,11 +1,13 @@
 // A board over memory, whose turns and failures are chosen ahead.
-ghost use Rattle.std.specs.Prelude.{◌≡◌, ◌≢◌, ◌<◌, ◌≤◌, ◌↔◌, ◌++◌, ◌∷◌, [], IfOk, OnErr, OnOk, length, true};
+ghost use Rattle.std.specs.Prelude.{◌≡◌, ◌≢◌, ◌<◌, ◌≤◌, ◌↔◌, ◌++◌, ◌+◌, ◌∷◌, [], IfOk, OnErr, OnOk, length, vec_len, vec_capacity, true};
 ghost use Rattle.std.specs.List.{Contains};
 ghost use Rattle.maple_base.specs.Counts.{next_count};
 ghost use Rattle.maple_io.specs.declared.act.Act.TheVariants as acts;
 ghost use Rattle.maple_io.specs.Boards.{BoardFailed, LinkBroke, MayBeFull, MayRest, NoBoardFailed, NoLinkBroke, sent, was_closed, was_opened};
-ghost use Rattle.maple_io.specs.Turns.{IsBreak, OpensAnew, SendsWithin, TurnsWithin, broken_sends, broken_turns, failed_starts, failed_turns, given_acts, sent_acts, started_acts};
-ghost use Rattle.maple_io.specs.Schedules.{TakesWhole, are_pieces, begun, calls_sent, has_bytes, is_opened_in, left_behind, next_bytes, next_turn, open_once, opens, opens_in, told};
+ghost use Rattle.maple_io.specs.Turns.{IsBreak, OpensAnew, SendsWithin, TurnsWithin, broken_sends, broken_turns};
+ghost use Rattle.maple_io.specs.Turns.{failed_starts, failed_turns, given_acts, sent_acts, started_acts};
+ghost use Rattle.maple_io.specs.Schedules.{TakesWhole, are_pieces, begun, calls_sent, has_bytes, is_opened_in, left_behind};
+ghost use Rattle.maple_io.specs.Schedules.{next_bytes, next_turn, open_once, opens, opens_in, told};
 
 use crate::act::{Act, closing, giving, starting, taking};
 use crate::kept::{
@@ -101,10 +103,11 @@ impl MemBoard {
     ///
     /// # Errors
     ///
-    /// `NoMemory`. None of them is appended.
+    /// `NoMemory`, where there is no room for all of them. None of them is appended.
     pub fn sent(&self, connection: u32, out: &mut Vec<u8>) -> Result<(), NoMemory>
         ensures all { OnOk result (out.new.items ≡ out.old.items ++ sent connection self.now.log) }
         ensures kept { OnErr result (out.new.items ≡ out.old.items) }
+        ensures room { OnErr result (vec_capacity out.old < vec_len out.old + length (sent connection self.now.log)) }
     {
         append_taken(&self.taken, connection, out)
     }

@@ -1,5 +1,5 @@
 // All of some bytes are written.
-ghost use Rattle.std.specs.Prelude.{◌≡◌, ◌≢◌, ℕ, ◌≤◌, List, OnOk, OnErr};
+ghost use Rattle.std.specs.Prelude.{◌≡◌, ◌≢◌, ℕ, ◌≤◌, ◌++◌, List, OnOk, OnErr};
 ghost use Rattle.maple_io.specs.Views.{NoWriteFailed, WriteFailed, Wrote};
 ghost use Rattle.maple_io.specs.Fronts.{IsFront};
 
@@ -15,7 +15,7 @@ pub enum PutStop {
 }
 
 /// Writes all of these bytes, with as many writes as that takes. After an error a front of them was
-/// written.
+/// written, and not all.
 ///
 /// # Errors
 ///
@@ -23,6 +23,7 @@ pub enum PutStop {
 pub fn put_all<O: Sink>(output: &mut O, bytes: &[u8]) -> Result<(), PutStop>
     ensures ok { OnOk result (Wrote (O.tells output.old) (O.tells output.new) bytes.now) }
     ensures front { OnErr result ((front : List ℕ) × IsFront front bytes.now × Wrote (O.tells output.old) (O.tells output.new) front) }
+    ensures short { OnErr result ((O.tells output.new).took ≢ (O.tells output.old).took ++ bytes.now) }
     ensures cause { result ≡ Err PutStop.Failed → WriteFailed (O.tells output.old) (O.tells output.new) }
     ensures count { (O.tells output.old).failed ≤ (O.tells output.new).failed }
     ensures spared { result ≢ Err PutStop.Failed → NoWriteFailed (O.tells output.old) (O.tells output.new) }

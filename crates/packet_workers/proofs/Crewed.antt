@@ -33,3 +33,6 @@ work_stays item budget old new worked d = (d.adds.opening, d.adds.parts)
 
 pub work_leads : (item : Waiting) (budget : ℕ) (old new : PassView) (worked : Worked) → Works item budget old new worked → new.leads ≡ old.leads
 work_leads item budget old new worked d = d.adds.leads
+
+-- what `work` of a crew says, by what `work` does
+pub ruleset of_work = (work_made, work_worn, work_stays, work_leads, budget_suits)

@@ -27,7 +27,7 @@ impl<'a, G: Gate> Works<Core, JobItem> for PacketWorks<'a, G> {
 
     ghost makes = { λ w item told calls. Makes w.budget item told calls };
 
-    #[tactic(auto, using(crate::proofs::Crewed::work_made, crate::proofs::Crewed::work_worn, crate::proofs::Crewed::work_stays, crate::proofs::Crewed::work_leads, crate::proofs::Crewed::budget_suits))]
+    #[tactic(auto, using(crate::proofs::Crewed::of_work))]
     fn work<R: Wait>(
         &self,
         rt: &R,

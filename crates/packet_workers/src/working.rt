@@ -8,7 +8,8 @@ ghost use Rattle.policy_eval.specs.Answers.{IsBudget};
 ghost use Rattle.machine_sharing.specs.Longer.{IsTold, Lends};
 ghost use Rattle.machine_sharing.specs.Sharing.{stale_count};
 ghost use Rattle.packet_workers.specs.Rounds.{Does, IsBudgetOf, Works, worked_by};
-ghost use Rattle.packet_workers.specs.Pieces.{CommitsBack, CommitsLast, Ends, EndsWork, GoesBack, IsLending, IsStaleCommit, LendsIt, LendsNot, Records, RecordsNot, unrecorded_by};
+ghost use Rattle.packet_workers.specs.Pieces.{CommitsBack, CommitsLast, Ends, EndsWork, GoesBack, IsLending, IsStaleCommit};
+ghost use Rattle.packet_workers.specs.Pieces.{LendsIt, LendsNot, Records, RecordsNot, unrecorded_by};
 
 use crate::gate::Gate;
 use crate::view::{Back, HallView, Start};

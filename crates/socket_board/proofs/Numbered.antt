@@ -1,7 +1,10 @@
 -- Each connection gets a number that none had before.
-use Rattle.std.proofs.Common.{◌≡◌, ℕ, ◌<◌, ◌≤◌, false, List, [], ◌∷◌, ◌++◌, refl, ap, ◌∙◌, arith}
+use Rattle.std.proofs.Common.{◌≡◌, ℕ, ◌+◌, ◌<◌, ◌≤◌, false, List, [], ◌∷◌, ◌++◌, refl, ap, ◌∙◌, arith}
 use Rattle.std.proofs.lemmas.Bool.Decides.{nat_tests}
-use Rattle.std.specs.Prelude.{◌==◌, ◌||◌}
+use Rattle.std.proofs.lemmas.List.{length-append}
+use Rattle.std.proofs.lemmas.List.Elements.{filter-append}
+use Rattle.std.specs.Prelude.{◌==◌, ◌||◌, length}
+use Rattle.std.specs.List.{filter}
 use Rattle.maple_io.specs.declared.act.Act.{Act}
 use Rattle.maple_io.specs.declared.act.Act.TheVariants as acts
 use Rattle.maple_io.specs.declared.board.Turn.{Turn}
@@ -9,6 +12,7 @@ use Rattle.maple_io.specs.declared.board.Turn.TheVariants as turns
 use Rattle.maple_io.specs.Boards.{is_opening, was_opened}
 use Rattle.maple_io.specs.Turns.{OpensAnew, given_acts}
 use Rattle.socket_board.specs.Numbers.{AreBelow, IsBelow, next_number}
+use Rattle.socket_board.specs.Openings.{OpensNext, opened, opens}
 
 pub below_more : (n : ℕ) (log more : List Act) → AreBelow n log → AreBelow n more → AreBelow n (log ++ more)
 below_more n [] more h k = k
@@ -91,3 +95,30 @@ opens_anew m n turns.Idle log same h = tt
 opens_anew m n turns.End log never h = absurd never
 opens_anew m n turns.Failed log same h = tt
 opens_anew m n turns.NoMemory log same h = tt
+
+-- ---- how many were opened
+
+pub opened_more : (log more : List Act) → opened (log ++ more) ≡ opened log + opened more
+opened_more log more = ap (λ (l : List Act). length l) (filter-append opens log more) ∙ length-append (filter opens log) (filter opens more)
+
+pub counted_turn : (m n : ℕ) (t : Turn) (into : List ℕ) → next_number m n t → n ≡ m + opened (given_acts t into)
+counted_turn m n (turns.Opened c) into (is, more) = more
+counted_turn m n (turns.Bytes c k) into same = same
+counted_turn m n (turns.Closed c) into same = same
+counted_turn m n (turns.Broken c) into same = same
+counted_turn m n (turns.Control k) into same = same
+counted_turn m n turns.Idle into same = same
+counted_turn m n turns.End into never = absurd never
+counted_turn m n turns.Failed into same = same
+counted_turn m n turns.NoMemory into same = same
+
+pub opens_next : (m n : ℕ) (t : Turn) (log : List Act) → next_number m n t → m ≡ opened log + 1 → OpensNext t log
+opens_next m n (turns.Opened c) log (is, more) e = is ∙ e
+opens_next m n (turns.Bytes c k) log same e = tt
+opens_next m n (turns.Closed c) log same e = tt
+opens_next m n (turns.Broken c) log same e = tt
+opens_next m n (turns.Control k) log same e = tt
+opens_next m n turns.Idle log same e = tt
+opens_next m n turns.End log never e = tt
+opens_next m n turns.Failed log same e = tt
+opens_next m n turns.NoMemory log same e = tt

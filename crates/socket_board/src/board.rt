@@ -2,7 +2,9 @@
 ghost use Rattle.std.specs.Prelude.{◌≡◌, ◌≢◌, ◌<◌, ◌≤◌, ◌++◌, ◌∷◌, [], ℕ, true, false, length};
 ghost use Rattle.maple_io.specs.declared.act.Act.TheVariants as acts;
 ghost use Rattle.maple_io.specs.Boards.{BoardFailed, LinkBroke, MayBeFull, MayRest, NoBoardFailed, NoLinkBroke, was_opened};
-ghost use Rattle.maple_io.specs.Turns.{IsBreak, OpensAnew, SendsWithin, TurnsWithin, broken_sends, broken_turns, failed_starts, failed_turns, given_acts, sent_acts, started_acts};
+ghost use Rattle.maple_io.specs.Turns.{IsBreak, OpensAnew, SendsWithin, TurnsWithin, broken_sends, broken_turns};
+ghost use Rattle.maple_io.specs.Turns.{failed_starts, failed_turns, given_acts, sent_acts, started_acts};
+ghost use Rattle.socket_board.specs.Openings.{OpensNext};
 ghost use Rattle.socket_board.specs.Starts.{was_started};
 ghost use Rattle.socket_board.specs.Views.{told};
 
@@ -84,7 +86,7 @@ impl<'a, R: Net> Board for SocketBoard<'a, R> {
         started
     }
 
-    #[tactic(auto, using(crate::proofs::Numbered::opens_anew))]
+    #[tactic(auto, using(crate::proofs::Numbered::opens_anew, crate::proofs::Numbered::opens_next))]
     fn next(&mut self, into: &mut [u8]) -> Turn
         requires { 0 < length into.old }
         ensures log { self.new.log ≡ self.old.log ++ given_acts result into.new }
@@ -99,7 +101,9 @@ impl<'a, R: Net> Board for SocketBoard<'a, R> {
         ensures whole { (IsBreak result → ⊥) → NoLinkBroke (told self.old) (told self.new) }
         ensures kept { result ≡ Turn.NoMemory → told self.new ≡ told self.old }
 
-        // A failure and a break count as one. It fails before it was started, and never ends.
+        // The numbers are 1, 2, 3 and so on. A failure and a break count as one. It fails before it was
+        // started, and never ends.
+        ensures numbers { OpensNext result self.old.log }
         ensures faults { self.new.failed ≡ failed_turns self.old.failed result }
         ensures links { self.new.broken ≡ broken_turns self.old.broken result }
         ensures unstarted { was_started self.old.log ≡ false → result ≡ Turn.Failed }
