@@ -19,5 +19,5 @@ pub no_room : (c : ℕ) (taken : List Taken) (i : ℕ) (t : Taken) (bytes : List
     → room < before + length (flat_map (taken_for c) taken)
 no_room c taken i t bytes before room len cap h at own same is le full =
     let part : length (taken_for c (get_or taken i t)) ≡ length bytes =
-      ap (λ u. length (taken_for c u)) (sym at) ∙ ap (λ (l : List ℕ). length l) (own_bytes c t own ∙ sym same) in
+    ap (λ u. length (taken_for c u)) (sym at) ∙ ap (λ (l : List ℕ). length l) (own_bytes c t own ∙ sym same) in
     omega (arith, length-flat_map-take (taken_for c) taken i t h, part, is, le, full)
