@@ -22,8 +22,8 @@ use std::sync::Wait;
 #[derive(Clone, Copy, Debug, PartialEq, Eq)]
 pub struct Worn;
 
-/// The desk at which the machine of a hall is driven, by the pass that leads. Others may share the machine by other
-/// passes: between two entries of the desk they do what they may, and nothing else.
+/// The desk at which the machine of a hall is driven, by the pass that leads, which is lent to it. Others may share the
+/// machine by other passes: between two entries of the desk they do what they may, and nothing else.
 #[derive(Drop)]
 pub struct Desk<'h> {
     hall: &'h Hall<Core>,
