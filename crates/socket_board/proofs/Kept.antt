@@ -93,7 +93,7 @@ kept_send old new c s piece log all kept next same is =
 pub kept_close : (old new : Option Sockets) (c : ℕ) (log all : List Act) → IsKept old log → next_of new ≡ next_of old → is_some new ≡ is_some old
     → all ≡ log ++ acts.Closes c ∷ [] → IsKept new all
 kept_close old new c log all kept next same is =
-    subst (λ acts. IsKept new acts) (sym is) (kept_quietly old new log (acts.Closes c ∷ []) kept (omega (arith, next)) (tt, tt) next refl same)
+    subst (λ acts. IsKept new acts) (sym is) (kept_quietly old new log (acts.Closes c ∷ []) kept (omega (arith, next)) (tt, tt) (omega (arith, next)) refl same)
 
 -- ---- a start
 
@@ -105,11 +105,11 @@ begun : (old new : Option Sockets) (listen control : ℕ) (s : Started) (log : L
 begun old new listen control started.Ready log kept next ready failed = record {
   numbers = below_more (next_of new) log (acts.Starts listen control ∷ [])
       (all_raised (next_of old) (next_of new) log (omega (arith, next)) kept.numbers) (tt, tt);
-  counted = counted_more old new log (acts.Starts listen control ∷ []) kept.counted next;
+  counted = counted_more old new log (acts.Starts listen control ∷ []) kept.counted (omega (arith, next));
   started = ready refl ∙ sym (loudly log listen control);
 }
 begun old new listen control started.Failed log kept next ready failed =
-    kept_quietly old new log [] kept (omega (arith, next)) tt next refl (ap is_some (failed refl))
+    kept_quietly old new log [] kept (omega (arith, next)) tt (omega (arith, next)) refl (ap is_some (failed refl))
 
 pub kept_start : (old new : Option Sockets) (listen control : ℕ) (s : Started) (log all : List Act) → IsKept old log → next_of new ≡ next_of old
     → (s ≡ started.Ready → is_some new ≡ true) → (s ≡ started.Failed → new ≡ old) → all ≡ log ++ started_acts listen control s → IsKept new all

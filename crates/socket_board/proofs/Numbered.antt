@@ -103,14 +103,14 @@ opened_more log more = ap (λ (l : List Act). length l) (filter-append opens log
 
 pub counted_turn : (m n : ℕ) (t : Turn) (into : List ℕ) → next_number m n t → n ≡ m + opened (given_acts t into)
 counted_turn m n (turns.Opened c) into (is, more) = more
-counted_turn m n (turns.Bytes c k) into same = same
-counted_turn m n (turns.Closed c) into same = same
-counted_turn m n (turns.Broken c) into same = same
-counted_turn m n (turns.Control k) into same = same
-counted_turn m n turns.Idle into same = same
+counted_turn m n (turns.Bytes c k) into same = omega (arith, same)
+counted_turn m n (turns.Closed c) into same = omega (arith, same)
+counted_turn m n (turns.Broken c) into same = omega (arith, same)
+counted_turn m n (turns.Control k) into same = omega (arith, same)
+counted_turn m n turns.Idle into same = omega (arith, same)
 counted_turn m n turns.End into never = absurd never
-counted_turn m n turns.Failed into same = same
-counted_turn m n turns.NoMemory into same = same
+counted_turn m n turns.Failed into same = omega (arith, same)
+counted_turn m n turns.NoMemory into same = omega (arith, same)
 
 pub opens_next : (m n : ℕ) (t : Turn) (log : List Act) → next_number m n t → m ≡ opened log + 1 → OpensNext t log
 opens_next m n (turns.Opened c) log (is, more) e = is ∙ e
