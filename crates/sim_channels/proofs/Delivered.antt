@@ -71,7 +71,7 @@ delivers_next laws at old before mid ds new es h fits carried taken offered hear
   through = record {
     jobs = jobs h.through.jobs;
     offered = λ n. ⊎_elim (λ e. subst (λ m. IsOffered m new) (sym e) offered) (λ o. stays_so at mid new others n o (λ k. k.to ≡ []) (h.through.offered n)) (cases_eq n at);
-    heard = λ n. ⊎_elim (λ e. subst (λ m. IsHeard m new) (sym e) (heard (h.through.heard at))) (λ o. stays_so at mid new others n o (λ k. IsHeardOut k.from.stream) (h.through.heard n)) (cases_eq n at);
+    heard = λ n. ⊎_elim (λ e. subst (λ m. IsHeard m new) (sym e) (heard (h.through.heard at))) (λ o. stays_so at mid new others n o (λ k. IsHeardOut k.inbound.from.stream) (h.through.heard n)) (cases_eq n at);
   };
   footing = footing ∙ h.footing;
   taken = λ n below. ⊎_elim (λ e. subst (λ m. IsTaken m new) (sym e) taken) (λ o. taken_stays at mid new others n o laws ds es h.fits fits (h.taken n (omega (arith, below, o)))) (cases_eq n at);

@@ -16,7 +16,7 @@ use Rattle.sim_steps.specs.Deeds.{GetsMessages}
 use Rattle.sim_steps.specs.Stretches.{Carried}
 use Rattle.sim_steps.proofs.Moments.{carried_entry}
 use Rattle.sim_channels.specs.declared.channel.Channel.{Channel}
-use Rattle.sim_channels.specs.declared.channel.Plugging.TheVariants.{Plugged}
+use Rattle.machine_desk.specs.declared.inbound.Stage.TheVariants.{Live}
 use Rattle.sim_channels.specs.declared.driver.Driver.{Driver}
 use Rattle.sim_channels.specs.Channels.{EntersAlone, IsKept, bench, slot_by, slots_of}
 use Rattle.sim_channels.specs.Delivering.{TakesOut}
@@ -38,7 +38,7 @@ device_at ks ds at k long there = go ds at (let within = slice_get_within ks at 
     go (e ∷ es) zero within = (e, refl)
     go (e ∷ es) (suc n) within = go es n (omega (arith, within))
 
-module _ (laws : DrivingLaws) (at : ℕ) (old new : Driver) (bytes : List ℕ) (k l : Channel) (kept : IsKept old) (h : ChannelAt at k l old new) (plugged : k.stage ≡ Plugged)
+module _ (laws : DrivingLaws) (at : ℕ) (old new : Driver) (bytes : List ℕ) (k l : Channel) (kept : IsKept old) (h : ChannelAt at k l old new) (plugged : k.inbound.stage ≡ Live)
     (offered : k.to ≡ []) (is : l ≡ record k { to = messages_for (at + 1) old.desk.now }) (enters : EntersAlone (entries.TakeOut (at + 1)) (Out bytes) old.desk new.desk) where
   is_open : is_plugged (at + 1) old.desk.now ≡ true
   is_open = plugged_at old at k kept h.there plugged
@@ -46,11 +46,11 @@ module _ (laws : DrivingLaws) (at : ℕ) (old new : Driver) (bytes : List ℕ) (
   to_is : l.to ≡ k.to ++ messages_for (at + 1) old.desk.now
   to_is = ap (λ (x : Channel). x.to) is ∙ ap (λ ms. ms ++ messages_for (at + 1) old.desk.now) (sym offered)
 
-  from_same : l.from.stream ≡ k.from.stream
-  from_same = ap (λ (x : Channel). x.from.stream) is
+  from_same : l.inbound.from.stream ≡ k.inbound.from.stream
+  from_same = ap (λ (x : Channel). x.inbound.from.stream) is
 
-  stage_same : l.stage ≡ k.stage
-  stage_same = ap (λ (x : Channel). x.stage) is
+  stage_same : l.inbound.stage ≡ k.inbound.stage
+  stage_same = ap (λ (x : Channel). x.inbound.stage) is
 
   gets : (d : Meaning) → GetsMessages (messages_for (at + 1) old.desk.now) (slot_by k d) (slot_by l d)
   gets d = λ i. record { device = d; to = to_is i; from = from_same i }

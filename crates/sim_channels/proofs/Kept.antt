@@ -17,8 +17,8 @@ use Rattle.machine_steps.specs.Steps.{Steps}
 use Rattle.sim_steps.specs.Benches.{is_plugged}
 use Rattle.sim_steps.specs.Parts.{IsHeardOut}
 use Rattle.sim_channels.specs.declared.channel.Channel.{Channel}
-use Rattle.sim_channels.specs.declared.channel.Plugging.{Plugging}
-use Rattle.sim_channels.specs.declared.channel.Plugging.TheVariants.{Left, Plugged, Unplugged}
+use Rattle.machine_desk.specs.declared.inbound.Stage.{Stage}
+use Rattle.machine_desk.specs.declared.inbound.Stage.TheVariants.{Over, Live, Unopened}
 use Rattle.sim_channels.specs.declared.driver.Driver.{Driver}
 use Rattle.sim_channels.specs.Channels.{Fits, IsAlone, IsFresh, IsKept, IsStaged, is_plugged_in, was_plugged_in}
 use Rattle.sim_channels.specs.Delivering.{Spares}
@@ -66,48 +66,48 @@ alone_still old new footing alone = ap (λ (f : Footing). f.parts) footing ∙ a
 
 -- ---- stages
 
-pub plugged_at : (driver : Driver) (at : ℕ) (k : Channel) → IsKept driver → slice_get driver.channels.items at ≡ Some k → k.stage ≡ Plugged → is_plugged (at + 1) driver.desk.now ≡ true
+pub plugged_at : (driver : Driver) (at : ℕ) (k : Channel) → IsKept driver → slice_get driver.channels.items at ≡ Some k → k.inbound.stage ≡ Live → is_plugged (at + 1) driver.desk.now ≡ true
 plugged_at driver at k kept there plugged = (kept.stages at k there).plugged ∙ ap is_plugged_in plugged
 
-pub staged : (c : ℕ) (m n : State) (stage : Plugging) → is_plugged c n ≡ is_plugged c m → was_opened c n ≡ was_opened c m → IsStaged c m stage → IsStaged c n stage
+pub staged : (c : ℕ) (m n : State) (stage : Stage) → is_plugged c n ≡ is_plugged c m → was_opened c n ≡ was_opened c m → IsStaged c m stage → IsStaged c n stage
 staged c m n stage p o h = record { plugged = p ∙ h.plugged; opened = o ∙ h.opened }
 
 -- where one channel became another, by the stage of that one and of those beside it
-pub stages_but : (m : State) (at : ℕ) (k l : Channel) (old new : Driver) → ChannelAt at k l old new → IsStaged (at + 1) m l.stage
-    → ((n : ℕ) (x : Channel) → (n + 1 ≡ at + 1 → ⊥) → slice_get old.channels.items n ≡ Some x → IsStaged (n + 1) m x.stage)
-    → (n : ℕ) (x : Channel) → slice_get new.channels.items n ≡ Some x → IsStaged (n + 1) m x.stage
+pub stages_but : (m : State) (at : ℕ) (k l : Channel) (old new : Driver) → ChannelAt at k l old new → IsStaged (at + 1) m l.inbound.stage
+    → ((n : ℕ) (x : Channel) → (n + 1 ≡ at + 1 → ⊥) → slice_get old.channels.items n ≡ Some x → IsStaged (n + 1) m x.inbound.stage)
+    → (n : ℕ) (x : Channel) → slice_get new.channels.items n ≡ Some x → IsStaged (n + 1) m x.inbound.stage
 stages_but m at k l old new h here beside n x there =
     ⊎_elim (λ e. (let is : l ≡ x = same_Some l x (sym (is_there at k l old new h) ∙ ap (slice_get new.channels.items) (sym e) ∙ there) in
-    subst (λ i. IsStaged (i + 1) m x.stage) (sym e) (subst (IsStaged (at + 1) m) (ap (λ (y : Channel). y.stage) is) here)))
+    subst (λ i. IsStaged (i + 1) m x.inbound.stage) (sym e) (subst (IsStaged (at + 1) m) (ap (λ (y : Channel). y.inbound.stage) is) here)))
     (λ o. beside n x (λ e. o (omega (arith, e))) (sym (is_beside at k l old new h n o) ∙ there)) (cases_eq n at)
 
 -- it holds of what is not plugged in, whatever it says
-pub none_plugged : (P : Channel → Type 0) (at : ℕ) (driver : Driver) (k : Channel) → slice_get driver.channels.items at ≡ Some k → (k.stage ≡ Plugged → ⊥) → WhilePlugged P at driver
-none_plugged P at driver k there other = λ l e plugged. absurd (other (ap (λ (x : Channel). x.stage) (same_Some k l (sym there ∙ e)) ∙ plugged))
+pub none_plugged : (P : Channel → Type 0) (at : ℕ) (driver : Driver) (k : Channel) → slice_get driver.channels.items at ≡ Some k → (k.inbound.stage ≡ Live → ⊥) → WhilePlugged P at driver
+none_plugged P at driver k there other = λ l e plugged. absurd (other (ap (λ (x : Channel). x.inbound.stage) (same_Some k l (sym there ∙ e)) ∙ plugged))
 
-pub all_left : (P : Channel → Type 0) (at : ℕ) (driver : Driver) → ((k : Channel) → slice_get driver.channels.items at ≡ Some k → k.stage ≡ Left) → WhilePlugged P at driver
-all_left P at driver left = λ k e plugged. (let other : Left ≡ Plugged = sym (left k e) ∙ plugged in absurd (cc))
+pub all_left : (P : Channel → Type 0) (at : ℕ) (driver : Driver) → ((k : Channel) → slice_get driver.channels.items at ≡ Some k → k.inbound.stage ≡ Over) → WhilePlugged P at driver
+all_left P at driver left = λ k e plugged. (let other : Over ≡ Live = sym (left k e) ∙ plugged in absurd (cc))
 
 -- it holds of what stands there
 pub plugged_has : (P : Channel → Type 0) (at : ℕ) (driver : Driver) (k : Channel) → slice_get driver.channels.items at ≡ Some k → P k → WhilePlugged P at driver
 plugged_has P at driver k there p = λ l e plugged. subst P (same_Some k l (sym there ∙ e)) p
 
 -- who never was plugged in has a fresh channel still, where that holds of the one channel that changes
-pub fresh_but : (old new : Driver) → IsKept old → (at : ℕ) (k l : Channel) → ChannelAt at k l old new → (l.stage ≡ Unplugged → IsFresh l) → (n : ℕ) (x : Channel)
-    → slice_get new.channels.items n ≡ Some x → x.stage ≡ Unplugged → IsFresh x
+pub fresh_but : (old new : Driver) → IsKept old → (at : ℕ) (k l : Channel) → ChannelAt at k l old new → (l.inbound.stage ≡ Unopened → IsFresh l) → (n : ℕ) (x : Channel)
+    → slice_get new.channels.items n ≡ Some x → x.inbound.stage ≡ Unopened → IsFresh x
 fresh_but old new kept at k l h fresh n x there unplugged =
     ⊎_elim (λ e. (let is : l ≡ x = same_Some l x (sym (is_there at k l old new h) ∙ ap (slice_get new.channels.items) (sym e) ∙ there) in
-    subst IsFresh is (fresh (ap (λ (y : Channel). y.stage) is ∙ unplugged))))
+    subst IsFresh is (fresh (ap (λ (y : Channel). y.inbound.stage) is ∙ unplugged))))
     (λ o. kept.fresh n x (sym (is_beside at k l old new h n o) ∙ there) unplugged) (cases_eq n at)
 
-pub not_fresh : (k : Channel) → k.stage ≡ Plugged → k.stage ≡ Unplugged → IsFresh k
-not_fresh k plugged unplugged = (let f : Plugged ≡ Unplugged = sym plugged ∙ unplugged in absurd (cc))
+pub not_fresh : (k : Channel) → k.inbound.stage ≡ Live → k.inbound.stage ≡ Unopened → IsFresh k
+not_fresh k plugged unplugged = (let f : Live ≡ Unopened = sym plugged ∙ unplugged in absurd (cc))
 
 module _ (laws : DrivingLaws) (old new : Driver) (entry : Entry) (reply : Reply) (kept : IsKept old) (admitted : Admits old.desk.now entry) (steps : Steps old.desk.now entry reply new.desk.now)
     (opens : is_opening entry ≡ false) (policy : is_policy entry ≡ false) where
   pub kept_with : length new.channels.items ≡ length old.channels.items → new.desk.footing ≡ old.desk.footing
-      → ((n : ℕ) (k : Channel) → slice_get new.channels.items n ≡ Some k → IsStaged (n + 1) new.desk.now k.stage) → ((c : ℕ) → is_plugged c new.desk.now ≡ true → is_plugged c old.desk.now ≡ true)
-      → ((n : ℕ) (k : Channel) → slice_get new.channels.items n ≡ Some k → k.stage ≡ Unplugged → IsFresh k) → IsKept new
+      → ((n : ℕ) (k : Channel) → slice_get new.channels.items n ≡ Some k → IsStaged (n + 1) new.desk.now k.inbound.stage) → ((c : ℕ) → is_plugged c new.desk.now ≡ true → is_plugged c old.desk.now ≡ true)
+      → ((n : ℕ) (k : Channel) → slice_get new.channels.items n ≡ Some k → k.inbound.stage ≡ Unopened → IsFresh k) → IsKept new
   kept_with long footing stages plugs fresh = record {
     alone = alone_still old new footing kept.alone;
     reached = reached_on old.desk.now entry reply new.desk.now kept.reached admitted steps;
@@ -123,29 +123,29 @@ module _ (laws : DrivingLaws) (old new : Driver) (entry : Entry) (reply : Reply)
     still_plugged : (c : ℕ) → is_plugged c new.desk.now ≡ is_plugged c old.desk.now
     still_plugged c = plugged_same laws old.desk.now entry reply new.desk.now kept.reached steps opens c (no_end c)
 
-    still_staged : (c : ℕ) (stage : Plugging) → IsStaged c old.desk.now stage → IsStaged c new.desk.now stage
+    still_staged : (c : ℕ) (stage : Stage) → IsStaged c old.desk.now stage → IsStaged c new.desk.now stage
     still_staged c stage h = staged c old.desk.now new.desk.now stage (still_plugged c) (opened_same laws old.desk.now entry reply new.desk.now kept.reached steps opens c) h
 
     -- and no channel changes
     pub kept_entry : new ≡ record old { desk = new.desk } → new.desk.footing ≡ old.desk.footing → IsKept new
     kept_entry e footing =
         kept_with (ap (λ (x : Driver). length x.channels.items) e) footing
-        (λ n k there. still_staged (n + 1) k.stage (kept.stages n k (sym (ap (λ (x : Driver). slice_get x.channels.items n) e) ∙ there)))
+        (λ n k there. still_staged (n + 1) k.inbound.stage (kept.stages n k (sym (ap (λ (x : Driver). slice_get x.channels.items n) e) ∙ there)))
         (λ c plugged. sym (still_plugged c) ∙ plugged)
         (λ n k there unplugged. kept.fresh n k (sym (ap (λ (x : Driver). slice_get x.channels.items n) e) ∙ there) unplugged)
 
     -- and of one channel no stage
-    pub kept_channel : (at : ℕ) (k l : Channel) → ChannelAt at k l old new → l.stage ≡ k.stage → (l.stage ≡ Unplugged → IsFresh l) → IsKept new
+    pub kept_channel : (at : ℕ) (k l : Channel) → ChannelAt at k l old new → l.inbound.stage ≡ k.inbound.stage → (l.inbound.stage ≡ Unopened → IsFresh l) → IsKept new
     kept_channel at k l h same fresh =
-        kept_with (is_as_long at k l old new h) h.footing (λ n x there. still_staged (n + 1) x.stage (was n x there)) (λ c open_now. sym (still_plugged c) ∙ open_now)
+        kept_with (is_as_long at k l old new h) h.footing (λ n x there. still_staged (n + 1) x.inbound.stage (was n x there)) (λ c open_now. sym (still_plugged c) ∙ open_now)
         (fresh_but old new kept at k l h fresh)
       where
-        was : (n : ℕ) (x : Channel) → slice_get new.channels.items n ≡ Some x → IsStaged (n + 1) old.desk.now x.stage
+        was : (n : ℕ) (x : Channel) → slice_get new.channels.items n ≡ Some x → IsStaged (n + 1) old.desk.now x.inbound.stage
         was = stages_but old.desk.now at k l old new h (subst (IsStaged (at + 1) old.desk.now) (sym same) (kept.stages at k h.there)) (λ n x o there. kept.stages n x there)
 
   -- ---- the session at a place ends
 
-  module _ (at : ℕ) (k l : Channel) (h : ChannelAt at k l old new) (plugged : k.stage ≡ Plugged) (left : l.stage ≡ Left) (may : may_end (at + 1) entry ≡ true) (end : is_end reply ≡ true)
+  module _ (at : ℕ) (k l : Channel) (h : ChannelAt at k l old new) (plugged : k.inbound.stage ≡ Live) (left : l.inbound.stage ≡ Over) (may : may_end (at + 1) entry ≡ true) (end : is_end reply ≡ true)
       (others : (c : ℕ) → (c ≡ at + 1 → ⊥) → may_end c entry ≡ false) where
     beside_plugged : (c : ℕ) → (c ≡ at + 1 → ⊥) → is_plugged c new.desk.now ≡ is_plugged c old.desk.now
     beside_plugged c o = plugged_same laws old.desk.now entry reply new.desk.now kept.reached steps opens c (ap (λ b. b && is_end reply) (others c o))
@@ -154,18 +154,18 @@ module _ (laws : DrivingLaws) (old new : Driver) (entry : Entry) (reply : Reply)
     shut = plugged_ends laws old.desk.now entry reply new.desk.now kept.reached steps (at + 1) (plugged_at old at k kept h.there plugged) may end
 
     pub kept_left : IsKept new
-    kept_left = kept_with (is_as_long at k l old new h) h.footing stages plugs (fresh_but old new kept at k l h (λ unplugged. (let f : Left ≡ Unplugged = sym left ∙ unplugged in absurd (cc))))
+    kept_left = kept_with (is_as_long at k l old new h) h.footing stages plugs (fresh_but old new kept at k l h (λ unplugged. (let f : Over ≡ Unopened = sym left ∙ unplugged in absurd (cc))))
       where
         opened : (c : ℕ) → was_opened c new.desk.now ≡ was_opened c old.desk.now
         opened c = opened_same laws old.desk.now entry reply new.desk.now kept.reached steps opens c
 
-        here : IsStaged (at + 1) new.desk.now Left
+        here : IsStaged (at + 1) new.desk.now Over
         here = record { plugged = shut; opened = opened (at + 1) ∙ (kept.stages at k h.there).opened ∙ ap was_plugged_in plugged }
 
-        stages : (n : ℕ) (x : Channel) → slice_get new.channels.items n ≡ Some x → IsStaged (n + 1) new.desk.now x.stage
+        stages : (n : ℕ) (x : Channel) → slice_get new.channels.items n ≡ Some x → IsStaged (n + 1) new.desk.now x.inbound.stage
         stages =
             stages_but new.desk.now at k l old new h (subst (IsStaged (at + 1) new.desk.now) (sym left) here)
-            (λ n x o there. staged (n + 1) old.desk.now new.desk.now x.stage (beside_plugged (n + 1) o) (opened (n + 1)) (kept.stages n x there))
+            (λ n x o there. staged (n + 1) old.desk.now new.desk.now x.inbound.stage (beside_plugged (n + 1) o) (opened (n + 1)) (kept.stages n x there))
 
         plugs : (c : ℕ) → is_plugged c new.desk.now ≡ true → is_plugged c old.desk.now ≡ true
         plugs c open_now =
@@ -180,13 +180,13 @@ unheard entry f = refl
 
 -- an entry that makes no state, and is of this place alone
 pub spares : DrivingLaws → (old new : Driver) (entry : Entry) (reply : Reply) → IsKept old → Steps old.desk.now entry reply new.desk.now → may_make entry ≡ false → (at : ℕ) (k l : Channel)
-    → ChannelAt at k l old new → ((c : ℕ) → (c ≡ at + 1 → ⊥) → concerns c entry old.desk.now ≡ false) → l.from.stream ≡ k.from.stream → (l.stage ≡ Plugged → k.stage ≡ Plugged) → Spares at old new
+    → ChannelAt at k l old new → ((c : ℕ) → (c ≡ at + 1 → ⊥) → concerns c entry old.desk.now ≡ false) → l.inbound.from.stream ≡ k.inbound.from.stream → (l.inbound.stage ≡ Live → k.inbound.stage ≡ Live) → Spares at old new
 spares laws old new entry reply kept steps none at k l h others from stage = record {
   others = record { sessions = λ c o. session_same laws old.desk.now entry reply new.desk.now kept.reached steps none c (others c o); channels = λ n o. is_beside at k l old new h n o };
   heard = λ was x there plugged.
       (let is : l ≡ x = same_Some l x (sym (is_there at k l old new h) ∙ there) in
-      subst (λ (y : Channel). IsHeardOut y.from.stream) is
-      (subst IsHeardOut (sym from) (was k h.there (stage (ap (λ (y : Channel). y.stage) is ∙ plugged)))));
+      subst (λ (y : Channel). IsHeardOut y.inbound.from.stream) is
+      (subst IsHeardOut (sym from) (was k h.there (stage (ap (λ (y : Channel). y.inbound.stage) is ∙ plugged)))));
   jobs = λ jobs. laws.none old.desk.now entry reply new.desk.now jobs (unheard entry none) steps;
 }
 

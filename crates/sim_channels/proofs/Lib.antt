@@ -1,7 +1,8 @@
--- Slots: the slots of a bench by their channels and devices. Making: which entries make no state. Keeping: what entries leave of the machine. Kept: what the driver keeps behind an
+-- Alone: who has all parts has nobody beside. Slots: the slots of a bench by their channels and devices. Making: which entries make no state. Keeping: what entries leave of the machine. Kept: what the driver keeps behind an
 -- entry; Plugged: behind one that opens a place or brings another policy; Places: where at most one place changed. Emptied, Ended, Offered: what a delivery is made of; Delivered: how
 -- it is put together. Opening: the driver ahead of its first entry. Resting: a driver at rest has a still bench. Bytes: a message has some. Answering: turns that
--- answer a packet. Passing: what is known behind one message. Waits: whether a message waits by a channel. Looking: a frame comes to a device.
+-- answer a packet. Staged: a session is opened, or ends. Passing: what is known behind one message. Waits: whether a message waits by a channel. Looking: a frame comes to a device.
+pub mod Alone
 pub mod Answering
 pub mod Bytes
 pub mod Delivered
@@ -18,4 +19,5 @@ pub mod Places
 pub mod Plugged
 pub mod Resting
 pub mod Slots
+pub mod Staged
 pub mod Waits

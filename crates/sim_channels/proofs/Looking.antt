@@ -16,13 +16,13 @@ use Rattle.machine_steps.specs.declared.reply.Reply.TheVariants.{Done}
 use Rattle.sim_steps.specs.Benches.{MovesAt}
 use Rattle.sim_steps.specs.Deeds.{CallsSlot, has_failed}
 use Rattle.sim_channels.specs.declared.channel.Channel.{Channel}
-use Rattle.sim_channels.specs.declared.channel.Plugging.TheVariants.{Unplugged, Plugged}
+use Rattle.machine_desk.specs.declared.inbound.Stage.TheVariants.{Unopened, Live}
 use Rattle.sim_channels.specs.declared.driver.Driver.{Driver}
 use Rattle.sim_channels.specs.Channels.{EntersAlone, Fits, IsKept, slots_of}
 use Rattle.sim_channels.specs.Delivering.{IsPluggedIn}
 use Rattle.sim_channels.specs.Driving.{DrivingLaws}
-use Rattle.sim_channels.specs.Waiting.{IsAtRest, IsAtRestBut, IsOffered}
-use Rattle.sim_channels.proofs.Keeping.{session_same}
+use Rattle.sim_channels.specs.Waiting.{IsAtRest, IsAtRestBut, IsOffered, IsTaken}
+use Rattle.sim_channels.proofs.Keeping.{messages_same, session_same}
 use Rattle.sim_channels.proofs.Kept.{ChannelAt, is_as_long, is_beside, is_there, kept_channel, plugged_at, plugged_has, waiting_but}
 use Rattle.sim_channels.proofs.Slots.{set_beside, set_there, slots_move}
 use Rattle.sim_channels.specs.Looking.{IsCalled, LooksUpBy, is_failure}
@@ -38,7 +38,7 @@ failing port frame seen bytes = refl
 
 -- of the channel with one index the device was called and the machine told
 module _ (laws : DrivingLaws) (d e : Driver) (before after : List Meaning) (at port : ℕ) (frame : List ℕ) (seen : Seen) (k l : Channel) (m n : Meaning) (fits : Fits d before) (rest : IsAtRest d)
-    (channel : ChannelAt at k l d e) (device : slice_get before at ≡ Some m) (plugged : k.stage ≡ Plugged) (looks : LooksUpBy port frame seen k m l n) (devices : after ≡ set before at n)
+    (channel : ChannelAt at k l d e) (device : slice_get before at ≡ Some m) (plugged : k.inbound.stage ≡ Live) (looks : LooksUpBy port frame seen k m l n) (devices : after ≡ set before at n)
     (enters : EntersAlone (entries.Note (notes.Seen (at + 1) port frame seen)) Done d.desk e.desk) where
   abbrev Telling : Entry
   Telling = entries.Note (notes.Seen (at + 1) port frame seen)
@@ -49,11 +49,11 @@ module _ (laws : DrivingLaws) (d e : Driver) (before after : List Meaning) (at p
   here : slice_get e.channels.items at ≡ Some l
   here = is_there at k l d e channel
 
-  stage : l.stage ≡ Plugged
+  stage : l.inbound.stage ≡ Live
   stage = looks.stage ∙ plugged
 
   kept_called : IsKept e
-  kept_called = kept_channel laws d e Telling Done fits.kept tt enters.steps refl refl (λ c. refl) at k l channel looks.stage (λ f. (let no : Unplugged ≡ Plugged = sym f ∙ stage in absurd (cc)))
+  kept_called = kept_channel laws d e Telling Done fits.kept tt enters.steps refl refl (λ c. refl) at k l channel looks.stage (λ f. (let no : Unopened ≡ Live = sym f ∙ stage in absurd (cc)))
 
   pub fits_called : Fits e after
   fits_called = record {
@@ -65,10 +65,19 @@ module _ (laws : DrivingLaws) (d e : Driver) (before after : List Meaning) (at p
         sym (ap (λ (z : Channel). z.waiting) chan) ∙ looks.waiting ∙ fits.waiting at k m channel.there device ∙ sym looks.pending ∙ ap (λ (z : Meaning). length z.pending) dev));
   }
 
+  -- a note gives the machine no message for a device
+  taken_here : IsTaken at e
+  taken_here x there open_now =
+      messages_same laws (at + 1) d.desk.now e.desk.now fits.kept.reached kept_called.reached (plugged_at d at k fits.kept channel.there plugged)
+      (session_same laws d.desk.now Telling Done e.desk.now fits.kept.reached enters.steps refl (at + 1) refl)
+      ∙ rest.taken at k channel.there plugged
+
   pub rest_called : IsAtRestBut at e
   rest_called = record {
     jobs = laws.none d.desk.now Telling Done e.desk.now rest.jobs refl enters.steps;
-    taken = λ i other. taken_still laws d e i fits.kept kept_called (session_same laws d.desk.now Telling Done e.desk.now fits.kept.reached enters.steps refl (i + 1) refl) (others i other) (rest.taken i);
+    taken = λ i. by_index i at
+        (λ same. subst (λ j. IsTaken j e) (sym same) taken_here)
+        (λ other. taken_still laws d e i fits.kept kept_called (session_same laws d.desk.now Telling Done e.desk.now fits.kept.reached enters.steps refl (i + 1) refl) (others i other) (rest.taken i));
     offered = λ i. by_index i at
         (λ same. subst (λ j. IsOffered j e) (sym same) (plugged_has _ at e l here (looks.to ∙ rest.offered at k channel.there plugged)))
         (λ other. while_still _ i d e (others i other) (rest.offered i));
@@ -106,7 +115,7 @@ is_called {B} f laws d e xs at port frame given seen number k l x y failed fits 
     let few : at < length d.channels.items = (let many = fits.places ∙ length-map xs f in omega arith) in
     let there : slice_get d.channels.items at ≡ Some k = slice_get-get_or d.channels.items at k few ∙ ap Some (sym channel_is) in
     let device : slice_get (map f xs) at ≡ Some (f x) = slice_get-map f xs at ∙ ap (option_map f) (slice_get-get_or xs at x within ∙ ap Some (sym device_is)) in
-    let plugged : k.stage ≡ Plugged = ap (λ (z : Channel). z.stage) (same_Some k open_now.channel (sym there ∙ open_now.there)) ∙ open_now.plugged in
+    let plugged : k.inbound.stage ≡ Live = ap (λ (z : Channel). z.inbound.stage) (same_Some k open_now.channel (sym there ∙ open_now.there)) ∙ open_now.plugged in
     let looked : LooksUpBy port frame seen k (f x) l (f y) =
     subst (λ bytes. LooksUpBy port bytes seen k (f x) l (f y)) same (subst (λ (z : B). LooksUpBy port given seen k (f z) l (f y)) (sym device_is) looks) in
     let told : EntersAlone (entries.Note (notes.Seen (at + 1) port frame seen)) Done d.desk e.desk = subst (λ n. EntersAlone (entries.Note (notes.Seen n port frame seen)) Done d.desk e.desk) place enters in

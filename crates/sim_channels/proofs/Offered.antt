@@ -17,7 +17,7 @@ use Rattle.sim_steps.specs.Benches.{MovesAt, is_plugged}
 use Rattle.sim_steps.specs.Deeds.{CallsAt, CallsSlot}
 use Rattle.sim_steps.proofs.Moments.{carried_call, carried_failed}
 use Rattle.sim_channels.specs.declared.channel.Channel.{Channel}
-use Rattle.sim_channels.specs.declared.channel.Plugging.TheVariants.{Plugged}
+use Rattle.machine_desk.specs.declared.inbound.Stage.TheVariants.{Live}
 use Rattle.sim_channels.specs.declared.driver.Driver.{Driver}
 use Rattle.sim_channels.specs.Channels.{EntersAlone, Fits, IsKept, bench, slots_of}
 use Rattle.sim_channels.specs.Delivering.{CanOffer, Delivers, GoesOn, IsPluggedIn, Leaves, OffersFirst, Spares, left_in, offers_left, took_by}
@@ -40,7 +40,7 @@ pub record Reads (at : ℕ) (driver : Driver) (r : Channel) (d : Meaning) : Type
   pub some : 0 < length r.to
   pub can : AllByRecursion CanBeOffered r.to
   pub waiting : r.waiting ≡ length d.pending
-  pub stage : r.stage ≡ Plugged
+  pub stage : r.inbound.stage ≡ Live
   pub there : slice_get driver.channels.items at ≡ Some r
 
 pub reads : {B : Type 0} (f : B → Meaning) (xs : List B) (at : ℕ) (x : B) (driver : Driver) (r : Channel) → Fits driver (map f xs) → IsPluggedIn at driver → CanOffer at driver
@@ -57,7 +57,7 @@ reads f xs at x driver r fits plugged can some within value =
     })
 
 module _ (laws : DrivingLaws) (at : ℕ) (old mid : Driver) (k l : Channel) (d e : Meaning) (ds es : List Meaning) (fits : Fits old ds) (h : ChannelAt at k l old mid)
-    (g : DeviceAt at d e ds es) (plugged : k.stage ≡ Plugged) where
+    (g : DeviceAt at d e ds es) (plugged : k.inbound.stage ≡ Live) where
   kept : IsKept old
   kept = fits.kept
 

@@ -12,7 +12,7 @@ use Rattle.sim_steps.specs.Benches.{is_plugged, slot_of}
 use Rattle.sim_steps.specs.Parts.{IsHeardOut}
 use Rattle.sim_steps.specs.Showing.{AllIdle}
 use Rattle.sim_channels.specs.declared.channel.Channel.{Channel}
-use Rattle.sim_channels.specs.declared.channel.Plugging.TheVariants.{Plugged, Unplugged}
+use Rattle.machine_desk.specs.declared.inbound.Stage.TheVariants.{Live, Unopened}
 use Rattle.sim_channels.specs.declared.driver.Driver.{Driver}
 use Rattle.sim_channels.specs.Channels.{Fits, IsAtStart, IsKept, IsStaged, bench, bench_at_start, slot_by, slots_of}
 use Rattle.sim_channels.specs.Delivering.{IsUnused}
@@ -75,12 +75,12 @@ module _ (driver : Driver) (ds : List Meaning) (h : IsNewDriver driver (length d
 
   none_waits : (P : Channel → Type 0) (n : ℕ) → WhilePlugged P n driver
   none_waits P n k there plugged =
-      (let other : Unplugged ≡ Plugged = sym (unused_at driver.channels.items n k h.unused there).stage ∙ plugged in absurd (cc))
+      (let other : Unopened ≡ Live = sym (unused_at driver.channels.items n k h.unused there).stage ∙ plugged in absurd (cc))
 
   pub new_rest : IsAtRest driver
   new_rest = record {
     jobs = ap (λ (m : State). m.jobs) h.start.opening;
     taken = λ n. none_waits (λ k. messages_for (n + 1) driver.desk.now ≡ []) n;
     offered = λ n. none_waits (λ (k : Channel). k.to ≡ []) n;
-    heard = λ n. none_waits (λ (k : Channel). IsHeardOut k.from.stream) n;
+    heard = λ n. none_waits (λ (k : Channel). IsHeardOut k.inbound.from.stream) n;
   }

@@ -1,16 +1,21 @@
 -- What is known behind one message.
-use Rattle.std.proofs.Common.{◌≡◌, ℕ, ◌+◌, ◌<◌, Bool, true, false, List, [], ◌∷◌, ◌++◌, append-nil, length, get_or, set, refl, sym, ap, ◌∙◌, subst, inl, inr, arith}
-use Rattle.std.specs.Prelude.{Option, Some, Result, Ok, Err, OnOk, IfOk, is_some}
+use Rattle.std.proofs.Common.{◌≡◌, ℕ, ◌+◌, ◌<◌, Bool, true, false, List, [], ◌∷◌, ◌++◌, length, get_or, set, refl, sym, ap, ◌∙◌, subst, inl, inr, arith}
+use Rattle.std.specs.Prelude.{Option, Some, None, Result, Ok, Err, OnOk, IfOk, is_some}
 use Rattle.std.specs.List.{AllByRecursion, slice_get}
 use Rattle.std.proofs.lemmas.Bool.{and_right, eq-eqb, ne_eqb}
 use Rattle.std.proofs.lemmas.List.{set-set}
 use Rattle.std.proofs.lemmas.Option.{same_Some, slice_get_read}
 use Rattle.policy_lang.specs.declared.Policy.{Policy}
-use Rattle.of10_stream.specs.Steps.{Stream}
+use Rattle.of10_codec.specs.declared.fault.Bad.{Bad as Fault}
+use Rattle.of10_stream.specs.declared.reassembly.Next.TheVariants.{More}
+use Rattle.of10_stream.specs.Steps.{AnswersBehind, Held, Stream, Tells}
 use Rattle.device_port.specs.Devices.{Meaning}
-use Rattle.machine_desk.specs.Desks.{DeskView, Enters, calls_of, turn}
-use Rattle.machine_desk.specs.Hearing.{Hears, heard_by}
+use Rattle.machine_desk.specs.Desks.{DeskView, Enters, calls_of}
+use Rattle.machine_desk.specs.Hearing.{Comes, ComesAt, heard_by, stage_heard, told_as}
 use Rattle.machine_desk.specs.declared.hearing.Heard.{Heard}
+use Rattle.machine_desk.specs.declared.inbound.Inbound.{Inbound}
+use Rattle.machine_desk.specs.declared.inbound.Stage.{Stage}
+use Rattle.machine_desk.specs.declared.inbound.Stage.TheVariants.{Live, Over, Unopened}
 use Rattle.machine_moves.specs.Told.{WaitsAs, is_end, is_new_state, may_end}
 use Rattle.machine_steps.specs.declared.entry.Entry.{Entry}
 use Rattle.machine_steps.specs.declared.entry.Entry.TheVariants as entries
@@ -19,7 +24,8 @@ use Rattle.machine_steps.specs.declared.entry.Input.TheVariants.{Message as Whol
 use Rattle.machine_steps.specs.declared.job.Job.{Job}
 use Rattle.machine_steps.specs.declared.reply.Reply.{Reply}
 use Rattle.machine_steps.specs.declared.reply.Reply.TheVariants.{NoMemory, Count, Ended, NewState, Job as JobOpened, Overload}
-use Rattle.machine_steps.specs.Histories.{Leads, Turn}
+use Rattle.machine_steps.specs.Admitting.{IsHeard as CanBeHeard}
+use Rattle.machine_steps.specs.Histories.{Turn}
 use Rattle.machine_steps.specs.Machine.{State, session_at}
 use Rattle.machine_steps.specs.Steps.{HearsInput, Steps}
 use Rattle.world_steps.specs.Worlds.{lacks_memory}
@@ -31,22 +37,23 @@ use Rattle.sim_steps.proofs.Joining.{carried_none, carried_then}
 use Rattle.sim_steps.proofs.Moments.{carried_heard}
 use Rattle.sim_steps.proofs.Silent.{IsEasy, carried_along}
 use Rattle.sim_channels.specs.declared.channel.Channel.{Channel}
-use Rattle.sim_channels.specs.declared.channel.Plugging.TheVariants.{Left}
 use Rattle.sim_channels.specs.declared.driver.Driver.{Driver}
+use Rattle.sim_channels.specs.declared.hear.Came.{Came}
+use Rattle.sim_channels.specs.declared.hear.Came.TheVariants.{Nothing}
 use Rattle.sim_channels.specs.declared.stopped.Stopped.{Stopped}
 use Rattle.sim_channels.specs.Answering.{Answers, IsPlain}
 use Rattle.sim_channels.specs.Channels.{CarriedOver, EntersAlone, IsKept, bench, slot_by, slots_of}
 use Rattle.sim_channels.specs.Driving.{DrivingLaws}
+use Rattle.sim_channels.specs.Passes.{Follows, HasHeard, HearsAt, Passed, WaitsBy, came_of, rest_at, rest_in}
 use Rattle.sim_channels.specs.Waiting.{IsHeard, IsOffered}
+use Rattle.sim_channels.proofs.Alone.{enters_alone, had_memory}
+use Rattle.sim_channels.proofs.Answering.{AllBy, behind_along, kept_at_desk}
+use Rattle.sim_channels.proofs.Bytes.{gets_shorter}
 use Rattle.sim_channels.proofs.Emptied.{device_at}
 use Rattle.sim_channels.proofs.Keeping.{policy_same, reached_sound}
 use Rattle.sim_channels.proofs.Kept.{ChannelAt, all_left, is_as_long, is_beside, is_there, kept_channel, kept_left, not_fresh, plugged_at, plugged_has}
 use Rattle.sim_channels.proofs.Resting.{hears_in_order}
 use Rattle.sim_channels.proofs.Slots.{slot_next, slots_alike, slots_channel, slots_get}
-use Rattle.sim_channels.specs.Passes.{ComesNext, Follows, GoesOn, HasHeard, IsDone, IsLeft, Passed, Takes, WaitsBy, came_of, rest_at, rest_in}
-use Rattle.sim_channels.specs.declared.hear.Came.{Came}
-use Rattle.sim_channels.proofs.Answering.{AllBy, behind_along, kept_at_desk}
-use Rattle.sim_channels.proofs.Bytes.{gets_shorter}
 
 -- ---- what is carried
 
@@ -60,13 +67,9 @@ smooth : (reply : Reply) → (reply ≡ Overload → ⊥) → IsSmooth reply
 smooth Overload few = absurd (few refl)
 smooth reply few = tt
 
-enough : (reply : Reply) → (reply ≡ NoMemory → ⊥) → lacks_memory reply ≡ false
-enough NoMemory memory = absurd (memory refl)
-enough reply memory = refl
-
 easy : (ts : List Turn) → AllByRecursion IsPlain ts → AllByRecursion IsEasy ts
 easy [] all = tt
-easy (t ∷ ts) all = (record { smooth = smooth t.reply all.0.few; memory = enough t.reply all.0.memory }, easy ts all.1)
+easy (t ∷ ts) all = (record { smooth = smooth t.reply all.0.few; memory = had_memory t.reply all.0.memory }, easy ts all.1)
 
 -- a packet is answered
 over_answers : (old new : Driver) → Answers old.desk new.desk → new ≡ record old { desk = new.desk } → CarriedOver old new
@@ -79,6 +82,64 @@ over_answers old new h e = λ ds long. subst (Carried (bench old ds)) (bench_is 
     bench_is ds = λ i. record { past = sym h.past i; machine = new.desk.now; slots = slots_of (sym channels_same i) ds }
 
 -- ---- what is known of one channel
+
+-- its stream alone goes on, and its session may end
+pub record GoesOn (k l : Channel) : Type 0 where
+  pub to : l.to ≡ k.to
+  pub waiting : l.waiting ≡ k.waiting
+
+-- nothing that could be heard came, or the session isn't open
+record IsDone (k l : Channel) : Type 0 where
+  pub goes : GoesOn k l
+  pub stage : l.inbound.stage ≡ k.inbound.stage
+  pub same : l.inbound.from.stream ≡ k.inbound.from.stream
+  pub heard : k.inbound.stage ≡ Live → IsHeardOut k.inbound.from.stream
+
+-- this came next, is taken from the stream, and heard
+pub record ComesNext (input : Input) (heard : Heard) (k l : Channel) : Type 0 where
+  pub goes : GoesOn k l
+  pub plugged : k.inbound.stage ≡ Live
+  pub stage : l.inbound.stage ≡ stage_heard heard Live
+  pub next : NextIs input k.inbound.from.stream l.inbound.from.stream
+  pub can : CanBeHeard input
+
+-- its channel with another inbound
+abbrev pub with_inbound : Inbound → Channel → Channel
+with_inbound j k = record k { inbound = j }
+
+-- nothing comes of a stream
+heard_out : (s t : Stream) → Tells More s t → (t ≡ s) × IsHeardOut s
+heard_out s t h = go s.broken refl h
+  where
+    go : (broken : Option (ℕ × Fault)) → s.broken ≡ broken → AnswersBehind broken More s t → (t ≡ s) × IsHeardOut s
+    go None whole a = (a.1, record { unbroken = whole; open_end = a.0 })
+    go (Some fault) e a = (let f = a.0 in absurd (cc))
+
+done_by : (k : Channel) (j : Inbound) → Comes None k.inbound j → IsDone k (with_inbound j k)
+done_by k j comes = go k.inbound.stage refl comes.0
+  where
+    goes : GoesOn k (with_inbound j k)
+    goes = record { to = refl; waiting = refl }
+
+    go : (stage : Stage) → k.inbound.stage ≡ stage → ComesAt stage None k.inbound.from j.from → IsDone k (with_inbound j k)
+    go Live e tells =
+        let h = heard_out k.inbound.from.stream j.from.stream tells in
+        record { goes = goes; stage = comes.1; same = h.0; heard = λ _. h.1 }
+    go Unopened e h = record { goes = goes; stage = comes.1; same = ap (λ (x : Held). x.stream) h.1; heard = λ open_now. (let f : Unopened ≡ Live = sym e ∙ open_now in absurd (cc)) }
+    go Over e h = record { goes = goes; stage = comes.1; same = ap (λ (x : Held). x.stream) h.1; heard = λ open_now. (let f : Over ≡ Live = sym e ∙ open_now in absurd (cc)) }
+
+next_is : (input : Input) (s t : Stream) → Tells (told_as (Some input)) s t → NextIs input s t
+next_is (Whole x) s t h = h
+next_is (Bad place bad) s t h = h
+
+-- of what comes next: the session is open
+comes_live : (input : Input) (i j : Inbound) → Comes (Some input) i j → (i.stage ≡ Live) × NextIs input i.from.stream j.from.stream
+comes_live input i j comes = go i.stage refl comes.0
+  where
+    go : (stage : Stage) → i.stage ≡ stage → ComesAt stage (Some input) i.from j.from → (i.stage ≡ Live) × NextIs input i.from.stream j.from.stream
+    go Live e tells = (e, next_is input i.from.stream j.from.stream tells)
+    go Unopened e h = (let f = h.0 in absurd (cc))
+    go Over e h = (let f = h.0 in absurd (cc))
 
 pub written : (here : ℕ) (k l : Channel) (old new : Driver) → here < length old.channels.items → k ≡ get_or old.channels.items here k → new.channels.items ≡ set old.channels.items here l
     → new.desk.footing ≡ old.desk.footing → ChannelAt here k l old new
@@ -107,10 +168,10 @@ module _ (here : ℕ) (k l : Channel) (old new : Driver) (at : ChannelAt here k 
   offers : GoesOn k l → k.to ≡ [] → IsOffered here new
   offers goes empty = plugged_has (λ (x : Channel). x.to ≡ []) here new l (is_there here k l old new at) (goes.to ∙ empty)
 
-  fewer : length l.from.stream.rest < length k.from.stream.rest → rest_at here new < rest_at here old
+  fewer : length l.inbound.from.stream.rest < length k.inbound.from.stream.rest → rest_at here new < rest_at here old
   fewer h =
-      let before : rest_at here old ≡ length k.from.stream.rest = ap rest_in at.there in
-      let behind : rest_at here new ≡ length l.from.stream.rest = ap rest_in (is_there here k l old new at) in
+      let before : rest_at here old ≡ length k.inbound.from.stream.rest = ap rest_in at.there in
+      let behind : rest_at here new ≡ length l.inbound.from.stream.rest = ap rest_in (is_there here k l old new at) in
       omega (arith, h, before, behind)
 
 -- ---- nothing came
@@ -126,20 +187,26 @@ module _ (laws : DrivingLaws) (here : ℕ) (k l : Channel) (old new : Driver) (a
 
   -- as behind a question that changes nothing
   kept_same : IsKept old → IsKept new
-  kept_same kept = kept_channel laws old new entries.OpenJobs (Count (length old.desk.now.jobs)) kept tt (refl, core) refl refl (λ c. refl) here k l at done.goes.stage
-      (λ unplugged. (let f = kept.fresh here k at.there (sym done.goes.stage ∙ unplugged) in record { to = done.goes.to ∙ f.to; from = done.same ∙ f.from }))
+  kept_same kept = kept_channel laws old new entries.OpenJobs (Count (length old.desk.now.jobs)) kept tt (refl, core) refl refl (λ c. refl) here k l at done.stage
+      (λ unplugged. (let f = kept.fresh here k at.there (sym done.stage ∙ unplugged) in record { to = done.goes.to ∙ f.to; from = done.same ∙ f.from }))
 
-  pub heard_nothing : IsKept old → old.desk.now.jobs ≡ [] → IsOffered here old → HasHeard here false old new
+  heard_nothing : IsKept old → old.desk.now.jobs ≡ [] → IsOffered here old → HasHeard here false old new
   heard_nothing kept none offered =
       passed here k l old new at false done.goes.waiting (kept_same kept) (over_none old new bench_same) (ap (λ (m : State). m.jobs) core ∙ none)
       (λ x there plugged. (let is = same_Some l x (sym (is_there here k l old new at) ∙ there) in
-      sym (ap (λ (y : Channel). y.to) is) ∙ done.goes.to ∙ offered k at.there (sym done.goes.stage ∙ ap (λ (y : Channel). y.stage) is ∙ plugged)))
+      sym (ap (λ (y : Channel). y.to) is) ∙ done.goes.to ∙ offered k at.there (sym done.stage ∙ ap (λ (y : Channel). y.inbound.stage) is ∙ plugged)))
       (λ untold no_hosts c other. ap (session_at c) core) (ap (λ (m : State). m.policy.learning) core)
 
-  pub all_heard : IsHeard here new
+  all_heard : IsHeard here new
   all_heard = λ x there plugged.
       (let is = same_Some l x (sym (is_there here k l old new at) ∙ there) in
-      subst (λ (y : Channel). IsHeardOut y.from.stream) is (subst IsHeardOut (sym done.same) (done.heard (sym done.goes.stage ∙ ap (λ (y : Channel). y.stage) is ∙ plugged))))
+      subst (λ (y : Channel). IsHeardOut y.inbound.from.stream) is (subst IsHeardOut (sym done.same) (done.heard (sym done.stage ∙ ap (λ (y : Channel). y.inbound.stage) is ∙ plugged))))
+
+pub passed_nothing : (laws : DrivingLaws) (here : ℕ) (k : Channel) (j : Inbound) (old new : Driver) → ChannelAt here k (with_inbound j k) old new → Comes None k.inbound j → new.desk ≡ old.desk → IsKept old
+    → old.desk.now.jobs ≡ [] → IsOffered here old → Passed here old new Nothing
+passed_nothing laws here k j old new at comes desk kept none offered =
+    let done = done_by k j comes in
+    (heard_nothing laws here k (with_inbound j k) old new at done desk kept none offered, (all_heard laws here k (with_inbound j k) old new at done desk, desk))
 
 -- ---- a message, or the fault that ends the session
 
@@ -150,6 +217,15 @@ shorter c (Whole x) s t m reply n next h plugged goes_on = gets_shorter x s t ne
 shorter c (Bad place bad) s t m reply n next (inl (none, passes)) plugged goes_on = (let f : true ≡ false = sym plugged ∙ ap is_some none in absurd (cc))
 shorter c (Bad place bad) s t m reply n next (inr (session, found, r, e)) plugged goes_on = (let f : false ≡ true = sym goes_on ∙ ap is_end r in absurd (cc))
 
+-- what becomes of an open session
+still_live : (reply : Reply) → is_end reply ≡ false → stage_heard (heard_by reply) Live ≡ Live
+still_live (Ended end) goes_on = absurd (cc)
+still_live reply goes_on = refl
+
+over_now : (reply : Reply) → is_end reply ≡ true → stage_heard (heard_by reply) Live ≡ Over
+over_now (Ended end) ends = refl
+over_now reply ends = absurd (cc)
+
 -- what is known behind its reply
 pub record Replied (here : ℕ) (old mid : Driver) (reply : Reply) : Type 0 where
   pub laws : DrivingLaws
@@ -159,7 +235,7 @@ pub record Replied (here : ℕ) (old mid : Driver) (reply : Reply) : Type 0 wher
   pub input : Input
   pub k : Channel
   pub l : Channel
-  pub next : ComesNext input k l
+  pub next : ComesNext input (heard_by reply) k l
   pub at : ChannelAt here k l old mid
   pub entered : EntersAlone (entries.Heard (here + 1) input) reply old.desk mid.desk
   pub memory : lacks_memory reply ≡ false
@@ -187,7 +263,7 @@ module _ (here : ℕ) (old mid : Driver) (reply : Reply) (h : Replied here old m
     found = slot_next here (slots_of old.channels.items ds) ∙ slots_get old.channels.items ds here k d at.there its
 
     hears : HearsNext input (slot_by k d) (slot_by l d)
-    hears = (l.from.stream, next.next, λ i. record { device = d; to = next.goes.to i; from = l.from.stream })
+    hears = (l.inbound.from.stream, next.next, λ i. record { device = d; to = next.goes.to i; from = l.inbound.from.stream })
 
     moves : MovesAt (here + 1) (HearsNext input) (slots_of old.channels.items ds) (slots_of mid.channels.items ds)
     moves =
@@ -196,7 +272,7 @@ module _ (here : ℕ) (old mid : Driver) (reply : Reply) (h : Replied here old m
 
     enters : EntersAt (entries.Heard (here + 1) input) reply (bench old ds) (bench mid ds)
     enters = record {
-      may = (is_open, (slot_by k d, l.from.stream, found, next.next));
+      may = (is_open, (slot_by k d, l.inbound.from.stream, found, next.next));
       admitted = next.can;
       steps = steps;
       smooth = smooth reply (λ e. subst (λ r. WaitsAs (here + 1) r mid.desk.now.jobs) e waits);
@@ -223,86 +299,68 @@ module _ (here : ℕ) (old mid : Driver) (reply : Reply) (h : Replied here old m
 
   -- ---- what the reply brings about
 
-  kept_open : is_end reply ≡ false → IsKept mid
-  kept_open goes_on = kept_channel laws old mid Hearing reply kept next.can steps refl refl (λ c. and_right (may_end c Hearing) (is_end reply) goes_on) here k l at next.goes.stage (not_fresh l (next.goes.stage ∙ next.plugged))
+  -- the session goes on
+  module _ (goes_on : is_end reply ≡ false) where
+    kept_open : IsKept mid
+    kept_open =
+        (let stage = next.stage ∙ still_live reply goes_on ∙ sym next.plugged in
+        kept_channel laws old mid Hearing reply kept next.can steps refl refl (λ c. and_right (may_end c Hearing) (is_end reply) goes_on) here k l at stage (not_fresh l (stage ∙ next.plugged)))
 
-  shorter_now : is_end reply ≡ false → length l.from.stream.rest < length k.from.stream.rest
-  shorter_now goes_on = shorter (here + 1) input k.from.stream l.from.stream old.desk.now reply mid.desk.now next.next steps is_open goes_on
+    shorter_now : length l.inbound.from.stream.rest < length k.inbound.from.stream.rest
+    shorter_now = shorter (here + 1) input k.inbound.from.stream l.inbound.from.stream old.desk.now reply mid.desk.now next.next steps is_open goes_on
 
-  fewer_now : is_end reply ≡ false → rest_at here mid < rest_at here old
-  fewer_now goes_on = fewer here k l old mid at (shorter_now goes_on)
+    fewer_now : rest_at here mid < rest_at here old
+    fewer_now = fewer here k l old mid at shorter_now
 
-  -- nothing
-  plain : is_end reply ≡ false → mid.desk.now.jobs ≡ [] → HasHeard here (is_new_state reply) old mid
-  plain goes_on jobs = passed here k l old mid at (is_new_state reply) next.goes.waiting (kept_open goes_on) over jobs (offers here k l old mid at next.goes empty) sessions learning
+    -- nothing else
+    plain : mid.desk.now.jobs ≡ [] → HasHeard here (is_new_state reply) old mid
+    plain jobs = passed here k l old mid at (is_new_state reply) next.goes.waiting kept_open over jobs (offers here k l old mid at next.goes empty) sessions learning
 
-  -- the packet is answered
-  module _ (new : Driver) (footing : new.desk.footing ≡ mid.desk.footing) (f : Answers mid.desk new.desk) (e : new ≡ record mid { desk = new.desk }) where
-    at_new : ChannelAt here k l old new
-    at_new = record { there = at.there; channels = ap (λ (x : Driver). x.channels.items) e ∙ at.channels; footing = footing ∙ at.footing }
+    -- the packet is answered
+    module _ (new : Driver) (footing : new.desk.footing ≡ mid.desk.footing) (f : Answers mid.desk new.desk) (e : new ≡ record mid { desk = new.desk }) where
+      at_new : ChannelAt here k l old new
+      at_new = record { there = at.there; channels = ap (λ (x : Driver). x.channels.items) e ∙ at.channels; footing = footing ∙ at.footing }
 
-    fewer_answered : is_end reply ≡ false → rest_at here new < rest_at here old
-    fewer_answered goes_on = fewer here k l old new at_new (shorter_now goes_on)
+      fewer_answered : rest_at here new < rest_at here old
+      fewer_answered = fewer here k l old new at_new shorter_now
 
-    answered : is_end reply ≡ false → is_new_state reply ≡ false → AllBy (here + 1) mid.desk.now → HasHeard here false old new
-    answered goes_on untold by =
-        let b = behind_along laws (here + 1) mid (calls_of mid.desk.past) f.turns new.desk.now (kept_open goes_on) by f.leads f.allowed in
-        passed here k l old new at_new false next.goes.waiting (subst IsKept (sym e) (kept_at_desk mid new.desk footing b.kept))
-        (over_then old mid new (is_as_long here k l old mid at) over (over_answers mid new f e)) f.none (offers here k l old new at_new next.goes empty)
-        (λ none_made no_hosts c other. b.others c other ∙ sessions untold no_hosts c other) (ap (λ (p : Policy). p.learning) b.policy ∙ learning)
+      answered : is_new_state reply ≡ false → AllBy (here + 1) mid.desk.now → HasHeard here false old new
+      answered untold by =
+          let b = behind_along laws (here + 1) mid (calls_of mid.desk.past) f.turns new.desk.now kept_open by f.leads f.allowed in
+          passed here k l old new at_new false next.goes.waiting (subst IsKept (sym e) (kept_at_desk mid new.desk footing b.kept))
+          (over_then old mid new (is_as_long here k l old mid at) over (over_answers mid new f e)) f.none (offers here k l old new at_new next.goes empty)
+          (λ none_made no_hosts c other. b.others c other ∙ sessions untold no_hosts c other) (ap (λ (p : Policy). p.learning) b.policy ∙ learning)
 
-  -- the channel is left
-  module _ (new : Driver) (left : IsLeft here mid new) where
-    machine_same : new.desk.now ≡ mid.desk.now
-    machine_same = ap (λ (d : DeskView). d.now) left.desk
+  -- it ends
+  module _ (end : is_end reply ≡ true) where
+    left : l.inbound.stage ≡ Over
+    left = next.stage ∙ over_now reply end
 
-    abbrev Gone : Channel
-    Gone = record l { stage = Left }
+    is_left : (x : Channel) → slice_get mid.channels.items here ≡ Some x → x.inbound.stage ≡ Over
+    is_left x there = ap (λ (y : Channel). y.inbound.stage) (same_Some x l (sym there ∙ is_there here k l old mid at)) ∙ left
 
-    its_channel : left.channel ≡ l
-    its_channel = same_Some left.channel l (sym left.there ∙ is_there here k l old mid at)
+    kept_gone : IsKept mid
+    kept_gone = kept_left laws old mid Hearing reply kept next.can steps refl refl here k l at next.plugged left (eq-eqb (here + 1) (here + 1) refl) end beside
 
-    at_left : ChannelAt here k (record l { stage = Left }) old new
-    at_left = record {
-      there = at.there;
-      channels =
-          left.channels ∙ ap (λ (x : Channel). set mid.channels.items here (record x { stage = Left })) its_channel ∙ ap (λ ks. set ks here Gone) at.channels
-          ∙ set-set old.channels.items here l Gone;
-      footing = ap (λ (d : DeskView). d.footing) left.desk ∙ at.footing;
-    }
-
-    is_left : (x : Channel) → slice_get new.channels.items here ≡ Some x → x.stage ≡ Left
-    is_left x there = sym (ap (λ (y : Channel). y.stage) (same_Some Gone x (sym (is_there here k Gone old new at_left) ∙ there)))
-
-    over_left : CarriedOver mid new
-    over_left = over_none mid new (λ ds. (let slots =
-        ap (λ ks. slots_of ks ds) left.channels ∙ slots_alike mid.channels.items ds here left.channel (record left.channel { stage = Left }) left.there refl refl in
-        λ i. record { past = (left.desk i).past; machine = (left.desk i).now; slots = slots i }))
-
-    kept_gone : is_end reply ≡ true → IsKept new
-    kept_gone end =
-        kept_left laws old new Hearing reply kept next.can (subst (λ (m : State). Steps old.desk.now Hearing reply m) (sym machine_same) steps) refl refl here k Gone at_left next.plugged refl
-        (eq-eqb (here + 1) (here + 1) refl) end beside
-
-    closed : is_end reply ≡ true → is_new_state reply ≡ false → mid.desk.now.jobs ≡ [] → HasHeard here false old new
-    closed end untold jobs =
-        passed here k Gone old new at_left false next.goes.waiting (kept_gone end) (over_then old mid new (is_as_long here k l old mid at) over over_left)
-        (ap (λ (m : State). m.jobs) machine_same ∙ jobs) (all_left (λ (x : Channel). x.to ≡ []) here new is_left)
-        (λ none_made no_hosts c other. ap (session_at c) machine_same ∙ sessions untold no_hosts c other)
-        (ap (λ (m : State). m.policy.learning) machine_same ∙ learning)
+    closed : is_new_state reply ≡ false → mid.desk.now.jobs ≡ [] → HasHeard here false old mid
+    closed untold jobs =
+        passed here k l old mid at false next.goes.waiting kept_gone over jobs (offers here k l old mid at next.goes empty)
+        (λ none_made no_hosts c other. sessions untold no_hosts c other) learning
 
 -- by what the machine made of the input
-follows : (here : ℕ) (old mid : Driver) (reply : Reply) → Replied here old mid reply → (new : Driver) → new.desk.footing ≡ mid.desk.footing → Follows here (heard_by reply) mid new
+follows : (here : ℕ) (old mid : Driver) (reply : Reply) → Replied here old mid reply → (new : Driver) → new.desk.footing ≡ mid.desk.footing → Follows (heard_by reply) mid new
     → Passed here old new (came_of (heard_by reply))
 follows here old mid NoMemory h new footing f = (let e : true ≡ false = h.memory in absurd (cc))
 follows here old mid (JobOpened item) h new footing (f, e) =
     let (one, alone, is, its) = waits here old mid (JobOpened item) h in
     let by : AllBy (here + 1) mid.desk.now = subst (AllByRecursion (λ (j : Job). j.connection ≡ here + 1)) (sym alone) (its, tt) in
-    (answered here old mid (JobOpened item) h new footing f e refl refl by, fewer_answered here old mid (JobOpened item) h new footing f e refl)
-follows here old mid (Ended end) h new footing left = (
-  closed here old mid (Ended end) h new left refl refl (waits here old mid (Ended end) h),
-  all_left (λ (x : Channel). IsHeardOut x.from.stream) here new (is_left here old mid (Ended end) h new left),
-)
+    (answered here old mid (JobOpened item) h refl new footing f e refl by, fewer_answered here old mid (JobOpened item) h refl new footing f e)
+follows here old mid (Ended end) h new footing e =
+    let reply = Ended end in
+    subst (λ x. Passed here old x (came_of (heard_by reply))) (sym e) (
+      closed here old mid reply h refl refl (waits here old mid reply h),
+      all_left (λ (x : Channel). IsHeardOut x.inbound.from.stream) here mid (is_left here old mid reply h refl),
+    )
 follows here old mid (NewState state pruned) h new footing e =
     let reply = NewState state pruned in
     subst (λ x. Passed here old x (came_of (heard_by reply))) (sym e) (plain here old mid reply h refl (waits here old mid reply h), fewer_now here old mid reply h refl)
@@ -311,20 +369,6 @@ follows here old mid other h new footing e =
     subst (λ x. Passed here old x (came_of (heard_by other))) (sym e) (plain here old mid other h refl (waits here old mid other h), fewer_now here old mid other h refl)
 
 -- ---- how it is heard at the desk
-
--- nobody came between
-alone_at : (a : DeskView) (entry : Entry) (reply : Reply) (b : DeskView) → a.footing.parts ≡ 1024 → Enters a entry reply b → EntersAlone entry reply a b
-alone_at a entry reply b alone h = record {
-  steps = subst (λ (m : State). Steps m entry reply b.now) same h.made.steps;
-  past = h.past ∙ ap (λ ts. (a.past ++ ts) ++ turn h.between entry reply b.now ∷ []) none ∙ ap (λ ts. ts ++ turn h.between entry reply b.now ∷ []) (append-nil a.past)
-      ∙ ap (λ (m : State). a.past ++ turn m entry reply b.now ∷ []) same;
-}
-  where
-    none : h.others ≡ []
-    none = h.alone alone
-
-    same : h.between ≡ a.now
-    same = subst (λ ts. Leads a.now ts h.between) none h.meanwhile
 
 -- a packet that was heard waits
 waits_by : (c : ℕ) (reply : Reply) (jobs : List Job) → WaitsAs c reply jobs → WaitsBy (heard_by reply) jobs
@@ -339,25 +383,61 @@ pub record HasCome (here : ℕ) (old mid : Driver) (heard : Heard) : Type 0 wher
   pub replied : Replied here old mid reply
   pub heard_is : heard ≡ heard_by reply
 
-pub has_come : (here : ℕ) (old mid : Driver) → DrivingLaws → IsKept old → old.desk.now.jobs ≡ [] → IsOffered here old → (k l : Channel) → ChannelAt here k l old mid → (taken : Option Input)
-    → Takes taken k l → (input : Input) → taken ≡ Some input → (c : ℕ) → c ≡ here + 1 → (heard : Heard) → Hears c input heard old.desk mid.desk → HasCome here old mid heard
-has_come here old mid laws kept none offered k l at taken takes input is c place heard h = record {
-  reply = h.reply;
-  replied = record {
-    laws = laws;
-    kept = kept;
-    none = none;
-    offered = offered;
-    input = input;
-    k = k;
-    l = l;
-    next = subst (λ o. Takes o k l) is takes;
-    at = at;
-    entered = subst (λ n. EntersAlone (entries.Heard n input) h.reply old.desk mid.desk) place (alone_at old.desk (entries.Heard c input) h.reply mid.desk kept.alone h.asks.enters);
-    memory = enough h.reply h.asks.memory;
-  };
-  heard_is = h.heard_is;
-}
+-- first is the driver whose channel gave the input
+module _ (here : ℕ) (old first mid : Driver) (k : Channel) (j : Inbound) (input : Input) (heard : Heard) (at : ChannelAt here k (with_inbound j k) old first) (desk : first.desk ≡ old.desk)
+    (comes : Comes (Some input) k.inbound j) (can : CanBeHeard input) (h : HearsAt here input heard first mid) (footing : mid.desk.footing ≡ old.desk.footing) where
+  was : h.channel ≡ with_inbound j k
+  was = same_Some h.channel (with_inbound j k) (sym h.there ∙ is_there here k (with_inbound j k) old first at)
+
+  abbrev Behind : Channel
+  Behind = with_inbound h.behind h.channel
+
+  live : k.inbound.stage ≡ Live
+  live = (comes_live input k.inbound j comes).0
+
+  stage_now : h.behind.stage ≡ stage_heard (heard_by h.hears.reply) Live
+  stage_now =
+      ap (λ (i : Inbound). i.stage) h.hears.stage ∙ ap (λ (x : Channel). stage_heard heard x.inbound.stage) was ∙ ap (stage_heard heard) (comes.1 ∙ live)
+      ∙ ap (λ x. stage_heard x Live) h.hears.heard_is
+
+  stream_now : h.behind.from.stream ≡ j.from.stream
+  stream_now = ap (λ (i : Inbound). i.from.stream) h.hears.stage ∙ ap (λ (x : Channel). x.inbound.from.stream) was
+
+  next_now : ComesNext input (heard_by h.hears.reply) k Behind
+  next_now = record {
+    goes = record { to = ap (λ (x : Channel). x.to) was; waiting = ap (λ (x : Channel). x.waiting) was };
+    plugged = live;
+    stage = stage_now;
+    next = subst (NextIs input k.inbound.from.stream) (sym stream_now) (comes_live input k.inbound j comes).1;
+    can = can;
+  }
+
+  at_mid : ChannelAt here k Behind old mid
+  at_mid = record {
+    there = at.there;
+    channels = h.channels ∙ ap (λ xs. set xs here Behind) at.channels ∙ set-set old.channels.items here (with_inbound j k) Behind;
+    footing = footing;
+  }
+
+  pub has_come : DrivingLaws → IsKept old → old.desk.now.jobs ≡ [] → IsOffered here old → HasCome here old mid heard
+  has_come laws kept none offered = record {
+    reply = h.hears.reply;
+    replied = record {
+      laws = laws;
+      kept = kept;
+      none = none;
+      offered = offered;
+      input = input;
+      k = k;
+      l = Behind;
+      next = next_now;
+      at = at_mid;
+      entered = enters_alone old.desk mid.desk (entries.Heard (here + 1) input) h.hears.reply kept.alone
+          (subst (λ (d : DeskView). Enters d (entries.Heard (here + 1) input) h.hears.reply mid.desk) desk h.hears.asks.enters);
+      memory = had_memory h.hears.reply h.hears.asks.memory;
+    };
+    heard_is = h.hears.heard_is;
+  }
 
 pub come_waits : (here : ℕ) (old mid : Driver) (heard : Heard) → HasCome here old mid heard → WaitsBy heard mid.desk.now.jobs
 come_waits here old mid heard h =
@@ -365,8 +445,8 @@ come_waits here old mid heard h =
 
 -- by what the call that does so tells
 pub told : (here : ℕ) (old mid new : Driver) (heard : Heard) (result : Result Came Stopped) → HasCome here old mid heard → new.desk.footing ≡ mid.desk.footing → IfOk result (λ came. came ≡ came_of heard)
-    → OnOk result (Follows here heard mid new) → IfOk result (Passed here old new)
+    → OnOk result (Follows heard mid new) → IfOk result (Passed here old new)
 told here old mid new heard (Err stopped) h footing is f = tt
 told here old mid new heard (Ok came) h footing is f =
-    let passed_so = follows here old mid h.reply h.replied new footing (subst (λ x. Follows here x mid new) h.heard_is f) in
+    let passed_so = follows here old mid h.reply h.replied new footing (subst (λ x. Follows x mid new) h.heard_is f) in
     subst (Passed here old new) (sym (is ∙ ap came_of h.heard_is)) passed_so

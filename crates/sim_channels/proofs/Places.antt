@@ -1,15 +1,15 @@
 -- What is kept, and what is left to do, where at most one place changed.
-use Rattle.std.proofs.Common.{◌≡◌, ℕ, zero, suc, ◌+◌, ◌<◌, List, [], ◌∷◌, length, set, get_or, refl, sym, ap, ◌∙◌, subst, ⊎_elim, arith}
+use Rattle.std.proofs.Common.{◌≡◌, ℕ, zero, suc, ◌+◌, ◌<◌, List, [], ◌∷◌, length, set, refl, sym, ap, ◌∙◌, subst, ⊎_elim, arith}
 use Rattle.std.specs.Prelude.{Some}
 use Rattle.std.specs.List.{slice_get}
 use Rattle.std.proofs.lemmas.Bool.{cases_eq}
-use Rattle.std.proofs.lemmas.Option.{slice_get_within, slice_get-get_or}
+use Rattle.std.proofs.lemmas.Option.{slice_get_within}
 use Rattle.device_port.specs.Devices.{Meaning}
 use Rattle.machine_steps.specs.Machine.{session_at}
 use Rattle.sim_channels.specs.declared.channel.Channel.{Channel}
-use Rattle.sim_channels.specs.declared.channel.Plugging.{Plugging}
+use Rattle.machine_desk.specs.declared.inbound.Stage.{Stage}
 use Rattle.sim_channels.specs.declared.driver.Driver.{Driver}
-use Rattle.sim_channels.specs.Channels.{Fits, IsKept, bench, slots_of}
+use Rattle.sim_channels.specs.Channels.{Fits, IsKept, bench, slots_of, with_stage}
 use Rattle.sim_channels.specs.Driving.{DrivingLaws}
 use Rattle.sim_channels.specs.Waiting.{IsAtRest, IsHeard, IsOffered, IsTaken, StaysBut, WhilePlugged}
 use Rattle.sim_channels.proofs.Keeping.{messages_same}
@@ -32,18 +32,16 @@ there_too {X} {Y} xs ys at y same e = within xs at (let h = slice_get_within ys 
     within (z ∷ zs) (suc n) h = within zs n (omega (arith, h))
 
 -- a channel's stage is written
-pub restaged : (d : Driver) (at : ℕ) (stage : Plugging) (k : Channel) → at < length d.channels.items → k ≡ get_or d.channels.items at k → (e : Driver) → e ≡ record d { channels = e.channels }
-    → e.channels.items ≡ set d.channels.items at (record k { stage = stage }) → Restages at stage d e
-restaged d at stage k within is e rest sets =
-    let there : slice_get d.channels.items at ≡ Some k = slice_get-get_or d.channels.items at k within ∙ ap Some (sym is) in
-    record {
-      rest = rest;
-      channel = k;
-      there = there;
-      channels = sets;
-      slots = λ devices. ap (λ (x : Driver). bench x devices) rest ∙ ap (λ xs. record { past = d.desk.past; machine = d.desk.now; slots = slots_of xs devices }) sets
-          ∙ ap (λ xs. record { past = d.desk.past; machine = d.desk.now; slots = xs }) (slots_alike d.channels.items devices at k (record k { stage = stage }) there refl refl);
-    }
+pub restaged : (d : Driver) (at : ℕ) (stage : Stage) (k : Channel) → slice_get d.channels.items at ≡ Some k → (e : Driver) → e ≡ record d { channels = e.channels }
+    → e.channels.items ≡ set d.channels.items at (with_stage stage k) → Restages at stage d e
+restaged d at stage k there e rest sets = record {
+  rest = rest;
+  channel = k;
+  there = there;
+  channels = sets;
+  slots = λ devices. ap (λ (x : Driver). bench x devices) rest ∙ ap (λ xs. record { past = d.desk.past; machine = d.desk.now; slots = slots_of xs devices }) sets
+      ∙ ap (λ xs. record { past = d.desk.past; machine = d.desk.now; slots = xs }) (slots_alike d.channels.items devices at k (with_stage stage k) there refl refl);
+}
 
 -- ---- the devices
 

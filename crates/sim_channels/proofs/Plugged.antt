@@ -14,25 +14,20 @@ use Rattle.machine_steps.specs.Steps.{Steps}
 use Rattle.world_steps.specs.Worlds.{lacks_memory}
 use Rattle.sim_steps.specs.Benches.{is_plugged}
 use Rattle.sim_channels.specs.declared.channel.Channel.{Channel}
-use Rattle.sim_channels.specs.declared.channel.Plugging.{Plugging}
-use Rattle.sim_channels.specs.declared.channel.Plugging.TheVariants.{Left, Plugged, Unplugged}
+use Rattle.machine_desk.specs.Hearing.{stage_opened}
+use Rattle.machine_desk.specs.declared.inbound.Stage.TheVariants.{Unopened}
 use Rattle.sim_channels.specs.declared.driver.Driver.{Driver}
 use Rattle.sim_channels.specs.Channels.{IsKept, IsStaged, was_plugged_in}
 use Rattle.sim_channels.specs.Driving.{DrivingLaws}
 use Rattle.sim_channels.proofs.Keeping.{opened_same, plugged_same, reached_on, reached_sound, session_same}
 use Rattle.sim_channels.proofs.Kept.{ChannelAt, alone_still, fresh_but, is_as_long, staged, stages_but}
 
--- the stage of a place that was opened now, in vain or not
-abbrev pub stage_by : Bool → Plugging
-stage_by true = Left
-stage_by false = Plugged
-
-never_unplugged : (b : Bool) → stage_by b ≡ Unplugged → ⊥
+never_unplugged : (b : Bool) → stage_opened b ≡ Unopened → ⊥
 never_unplugged true e = absurd (cc)
 never_unplugged false e = absurd (cc)
 
 module _ (laws : DrivingLaws) (old new : Driver) (reply : Reply) (kept : IsKept old) where
-  pub kept_opened : (at : ℕ) (k l : Channel) → ChannelAt at k l old new → k.stage ≡ Unplugged → l.stage ≡ stage_by (is_end reply) → lacks_memory reply ≡ false
+  pub kept_opened : (at : ℕ) (k l : Channel) → ChannelAt at k l old new → k.inbound.stage ≡ Unopened → l.inbound.stage ≡ stage_opened (is_end reply) → lacks_memory reply ≡ false
       → Steps old.desk.now (entries.Open (at + 1)) reply new.desk.now → IsKept new
   kept_opened at k l h unplugged stage memory steps = record {
     alone = alone_still old new h.footing kept.alone;
@@ -53,14 +48,14 @@ module _ (laws : DrivingLaws) (old new : Driver) (reply : Reply) (kept : IsKept 
       new_one : was_opened (at + 1) old.desk.now ≡ false
       new_one = (kept.stages at k h.there).opened ∙ ap was_plugged_in unplugged
 
-      here : IsStaged (at + 1) new.desk.now (stage_by (is_end reply))
+      here : IsStaged (at + 1) new.desk.now (stage_opened (is_end reply))
       here = staged_now (laws.opens old.desk.now (at + 1) reply new.desk.now (reached_sound laws old.desk.now kept.reached) new_one steps)
         where
-          by : (b : Bool) → is_end reply ≡ b → is_plugged (at + 1) new.desk.now ≡ not b → was_opened (at + 1) new.desk.now ≡ true → IsStaged (at + 1) new.desk.now (stage_by b)
+          by : (b : Bool) → is_end reply ≡ b → is_plugged (at + 1) new.desk.now ≡ not b → was_opened (at + 1) new.desk.now ≡ true → IsStaged (at + 1) new.desk.now (stage_opened b)
           by true e p o = record { plugged = p; opened = o }
           by false e p o = record { plugged = p; opened = o }
 
-          staged_now : IsOpenedNow (at + 1) reply new.desk.now ⊎ ((reply ≡ NoMemory) × (new.desk.now ≡ old.desk.now)) → IsStaged (at + 1) new.desk.now (stage_by (is_end reply))
+          staged_now : IsOpenedNow (at + 1) reply new.desk.now ⊎ ((reply ≡ NoMemory) × (new.desk.now ≡ old.desk.now)) → IsStaged (at + 1) new.desk.now (stage_opened (is_end reply))
           staged_now (inl now) = by (is_end reply) refl now.session now.opened
           staged_now (inr (r, e)) = (let f : true ≡ false = sym (ap lacks_memory r) ∙ memory in absurd (cc))
 
@@ -77,10 +72,10 @@ module _ (laws : DrivingLaws) (old new : Driver) (reply : Reply) (kept : IsKept 
       beside_plugged c o =
           ap is_some (session_same laws old.desk.now (entries.Open (at + 1)) reply new.desk.now kept.reached steps refl c (ne_eqb (at + 1) c (λ e. o (sym e))))
 
-      stages : (n : ℕ) (x : Channel) → slice_get new.channels.items n ≡ Some x → IsStaged (n + 1) new.desk.now x.stage
+      stages : (n : ℕ) (x : Channel) → slice_get new.channels.items n ≡ Some x → IsStaged (n + 1) new.desk.now x.inbound.stage
       stages =
           stages_but new.desk.now at k l old new h (subst (IsStaged (at + 1) new.desk.now) (sym stage) here)
-          (λ n x o there. staged (n + 1) old.desk.now new.desk.now x.stage (beside_plugged (n + 1) o) (beside_opened (n + 1) o) (kept.stages n x there))
+          (λ n x o there. staged (n + 1) old.desk.now new.desk.now x.inbound.stage (beside_plugged (n + 1) o) (beside_opened (n + 1) o) (kept.stages n x there))
 
   -- another policy is in force
   pub kept_policy : (policy : Policy) → Steps old.desk.now (entries.NewPolicy policy) reply new.desk.now → new.channels.items ≡ old.channels.items
@@ -89,7 +84,7 @@ module _ (laws : DrivingLaws) (old new : Driver) (reply : Reply) (kept : IsKept 
     alone = alone_still old new footing kept.alone;
     reached = reached_on old.desk.now (entries.NewPolicy policy) reply new.desk.now kept.reached tt steps;
     numbers = subst (λ ks. length ks < 2 ^ 32) (sym channels) kept.numbers;
-    stages = λ n x there. staged (n + 1) old.desk.now new.desk.now x.stage (plugged (n + 1)) (opened (n + 1)) (kept.stages n x (sym (ap (λ ks. slice_get ks n) channels) ∙ there));
+    stages = λ n x there. staged (n + 1) old.desk.now new.desk.now x.inbound.stage (plugged (n + 1)) (opened (n + 1)) (kept.stages n x (sym (ap (λ ks. slice_get ks n) channels) ∙ there));
     places_alone = λ c open_now. (let place = kept.places_alone c (sym (plugged c) ∙ open_now) in (place.0, subst (λ ks. c ≤ length ks) (sym channels) place.1));
     fresh = λ n x there unplugged. kept.fresh n x (sym (ap (λ ks. slice_get ks n) channels) ∙ there) unplugged;
   }

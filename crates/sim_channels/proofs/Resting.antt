@@ -11,17 +11,17 @@ use Rattle.sim_steps.specs.Benches.{IsPluggedAt, Slot, is_plugged}
 use Rattle.sim_steps.specs.Deeds.Deed.{Enters}
 use Rattle.sim_steps.specs.Parts.{HearsInOrder, IsHeardOut, IsStill}
 use Rattle.sim_channels.specs.declared.channel.Channel.{Channel}
-use Rattle.sim_channels.specs.declared.channel.Plugging.{Plugging}
-use Rattle.sim_channels.specs.declared.channel.Plugging.TheVariants.{Left, Plugged, Unplugged}
+use Rattle.machine_desk.specs.declared.inbound.Stage.{Stage}
+use Rattle.machine_desk.specs.declared.inbound.Stage.TheVariants.{Over, Live, Unopened}
 use Rattle.sim_channels.specs.declared.driver.Driver.{Driver}
 use Rattle.sim_channels.specs.Channels.{Fits, IsKept, bench, is_plugged_in}
 use Rattle.sim_channels.specs.Waiting.{IsAtRest, IsOffered}
 use Rattle.sim_channels.proofs.Slots.{SlotBy, slots_found}
 
-pub plugged_in : (stage : Plugging) → is_plugged_in stage ≡ true → stage ≡ Plugged
-plugged_in Unplugged e = absurd (cc)
-plugged_in Plugged e = refl
-plugged_in Left e = absurd (cc)
+pub plugged_in : (stage : Stage) → is_plugged_in stage ≡ true → stage ≡ Live
+plugged_in Unopened e = absurd (cc)
+plugged_in Live e = refl
+plugged_in Over e = absurd (cc)
 
 -- the channel of an open session
 pub record PluggedBy (c : ℕ) (driver : Driver) : Type 0 where
@@ -29,10 +29,10 @@ pub record PluggedBy (c : ℕ) (driver : Driver) : Type 0 where
   pub place : c ≡ at + 1
   pub channel : Channel
   pub there : slice_get driver.channels.items at ≡ Some channel
-  pub plugged : channel.stage ≡ Plugged
+  pub plugged : channel.inbound.stage ≡ Live
 
-pub stage_plugged : (driver : Driver) (at : ℕ) (k : Channel) → IsKept driver → slice_get driver.channels.items at ≡ Some k → is_plugged (at + 1) driver.desk.now ≡ true → k.stage ≡ Plugged
-stage_plugged driver at k kept there open_now = plugged_in k.stage (sym (kept.stages at k there).plugged ∙ open_now)
+pub stage_plugged : (driver : Driver) (at : ℕ) (k : Channel) → IsKept driver → slice_get driver.channels.items at ≡ Some k → is_plugged (at + 1) driver.desk.now ≡ true → k.inbound.stage ≡ Live
+stage_plugged driver at k kept there open_now = plugged_in k.inbound.stage (sym (kept.stages at k there).plugged ∙ open_now)
 
 pub plugged_by : (driver : Driver) (c : ℕ) → IsKept driver → is_plugged c driver.desk.now ≡ true → PluggedBy c driver
 plugged_by driver c kept open_now =
@@ -49,7 +49,7 @@ plugged_by driver c kept open_now =
 -- the slot of an open session, by its channel and its device
 pub record SlotPlugged (c : ℕ) (driver : Driver) (devices : List Meaning) (s : Slot) : Type 0 where
   pub slot : SlotBy driver.channels.items devices c s
-  pub plugged : slot.channel.stage ≡ Plugged
+  pub plugged : slot.channel.inbound.stage ≡ Live
 
 pub slot_plugged : (driver : Driver) (devices : List Meaning) (c : ℕ) (s : Slot) → IsKept driver → IsPluggedAt c (bench driver devices) s → SlotPlugged c driver devices s
 slot_plugged driver devices c s kept is =

@@ -99,7 +99,7 @@ slots_channel ks ds at k l d Moves is are moves =
     subst (λ es. MovesAt (at + 1) Moves (slots_of ks ds) (slots_of (set ks at l) es)) (set_same ds at d are) (slots_move ks ds at k l d d Moves is are moves)
 
 -- and only its stage, or how many messages wait
-pub slots_alike : (ks : List Channel) (ds : List Meaning) (at : ℕ) (k l : Channel) → slice_get ks at ≡ Some k → l.to ≡ k.to → l.from.stream ≡ k.from.stream
+pub slots_alike : (ks : List Channel) (ds : List Meaning) (at : ℕ) (k l : Channel) → slice_get ks at ≡ Some k → l.to ≡ k.to → l.inbound.from.stream ≡ k.inbound.from.stream
     → slots_of (set ks at l) ds ≡ slots_of ks ds
 slots_alike [] ds at k l is to from = refl
 slots_alike (x ∷ ks) [] zero k l is to from = refl

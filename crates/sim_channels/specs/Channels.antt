@@ -16,14 +16,14 @@ use Rattle.sim_steps.specs.Benches.{Slot, Bench, is_plugged, opening_bench}
 use Rattle.sim_steps.specs.Deeds.{turn_by}
 use Rattle.sim_steps.specs.Stretches.{Carried}
 use Rattle.sim_channels.specs.declared.channel.Channel.{Channel}
-use Rattle.sim_channels.specs.declared.channel.Plugging.{Plugging}
-use Rattle.sim_channels.specs.declared.channel.Plugging.TheVariants.{Unplugged, Plugged}
+use Rattle.machine_desk.specs.declared.inbound.Stage.{Stage}
+use Rattle.machine_desk.specs.declared.inbound.Stage.TheVariants.{Unopened, Live}
 use Rattle.sim_channels.specs.declared.driver.Driver.{Driver}
 
 -- ---- the bench
 
 abbrev pub slot_by : Channel → Meaning → Slot
-slot_by k d = record { device = d; to = k.to; from = k.from.stream }
+slot_by k d = record { device = d; to = k.to; from = k.inbound.from.stream }
 
 -- each device with the channel to it
 abbrev pub slots_of : List Channel → List Meaning → List Slot
@@ -34,19 +34,22 @@ slots_of (k ∷ ks) (d ∷ ds) = slot_by k d ∷ slots_of ks ds
 abbrev pub bench : Driver → List Meaning → Bench
 bench driver devices = record { past = driver.desk.past; machine = driver.desk.now; slots = slots_of driver.channels.items devices }
 
+abbrev pub with_stage : Stage → Channel → Channel
+with_stage stage k = record k { inbound = record k.inbound { stage = stage } }
+
 -- ---- what is kept
 
 -- the session of a connection is open; it was opened
-abbrev pub is_plugged_in : Plugging → Bool
-is_plugged_in Plugged = true
+abbrev pub is_plugged_in : Stage → Bool
+is_plugged_in Live = true
 is_plugged_in stage = false
 
-abbrev pub was_plugged_in : Plugging → Bool
-was_plugged_in Unplugged = false
+abbrev pub was_plugged_in : Stage → Bool
+was_plugged_in Unopened = false
 was_plugged_in stage = true
 
 -- the stage of the channel with this number is that of the session
-pub record IsStaged (c : ℕ) (m : State) (stage : Plugging) : Type 0 where
+pub record IsStaged (c : ℕ) (m : State) (stage : Stage) : Type 0 where
   pub plugged : is_plugged c m ≡ is_plugged_in stage
   pub opened : was_opened c m ≡ was_plugged_in stage
 
@@ -61,7 +64,7 @@ pub record IsReached (m : State) : Type 0 where
 -- nothing was taken out for the device, and nothing came from it
 pub record IsFresh (k : Channel) : Type 0 where
   pub to : k.to ≡ []
-  pub from : k.from.stream ≡ beginning
+  pub from : k.inbound.from.stream ≡ beginning
 
 -- nobody else has a part of the machine
 abbrev pub IsAlone : Driver → Type 0
@@ -72,9 +75,9 @@ pub record IsKept (driver : Driver) : Type 0 where
   pub alone : IsAlone driver
   pub reached : IsReached driver.desk.now
   pub numbers : length driver.channels.items < 2 ^ 32
-  pub stages : (at : ℕ) (k : Channel) → slice_get driver.channels.items at ≡ Some k → IsStaged (at + 1) driver.desk.now k.stage
+  pub stages : (at : ℕ) (k : Channel) → slice_get driver.channels.items at ≡ Some k → IsStaged (at + 1) driver.desk.now k.inbound.stage
   pub places_alone : (c : ℕ) → is_plugged c driver.desk.now ≡ true → (1 ≤ c) × (c ≤ length driver.channels.items)
-  pub fresh : (at : ℕ) (k : Channel) → slice_get driver.channels.items at ≡ Some k → k.stage ≡ Unplugged → IsFresh k
+  pub fresh : (at : ℕ) (k : Channel) → slice_get driver.channels.items at ≡ Some k → k.inbound.stage ≡ Unopened → IsFresh k
 
 -- the channels are those of these devices, and count the messages that wait in them
 pub record Fits (driver : Driver) (devices : List Meaning) : Type 0 where

@@ -12,16 +12,16 @@ use Rattle.world_steps.specs.Worlds.{lacks_memory}
 use Rattle.sim_steps.specs.Deeds.{EntersAt, OffersNext}
 use Rattle.sim_steps.specs.Stretches.{Carried}
 use Rattle.sim_channels.specs.declared.channel.Channel.{Channel}
-use Rattle.sim_channels.specs.declared.channel.Plugging.TheVariants.{Left, Plugged, Unplugged}
+use Rattle.machine_desk.specs.declared.inbound.Stage.TheVariants.{Over, Live, Unopened}
 use Rattle.sim_channels.specs.declared.driver.Driver.{Driver}
 use Rattle.sim_channels.specs.Channels.{CarriedOver, Fits, IsKept, bench, slot_by}
-use Rattle.sim_channels.specs.Waiting.{IsHeard, IsTaken, StaysBut, WhilePlugged}
+use Rattle.sim_channels.specs.Waiting.{IsHeard, IsTaken, NoneWaits, StaysBut, WhilePlugged}
 
 -- a device is plugged in at this place
 pub record IsPluggedIn (at : ℕ) (driver : Driver) : Type 0 where
   pub channel : Channel
   pub there : slice_get driver.channels.items at ≡ Some channel
-  pub plugged : channel.stage ≡ Plugged
+  pub plugged : channel.inbound.stage ≡ Live
 
 -- what was taken out for the device can be offered
 abbrev pub CanOffer : ℕ → Driver → Type 0
@@ -31,7 +31,7 @@ CanOffer at driver = WhilePlugged (λ k. AllByRecursion CanBeOffered k.to) at dr
 pub record Spares (at : ℕ) (old new : Driver) : Type 0 where
   pub others : StaysBut at old new
   pub heard : IsHeard at old → IsHeard at new
-  pub jobs : old.desk.now.jobs ≡ [] → new.desk.now.jobs ≡ []
+  pub jobs : NoneWaits old.desk → NoneWaits new.desk
 
 -- ---- the messages are taken out
 
@@ -55,10 +55,10 @@ took_by false = Taken
 pub record OffersFirst (failed : Bool) (k : Channel) (d : Meaning) (l : Channel) (e : Meaning) : Type 0 where
   pub bytes : List ℕ
   pub offers : OffersNext bytes (took_by failed) (slot_by k d) (slot_by l e)
-  pub stage : l.stage ≡ k.stage
+  pub stage : l.inbound.stage ≡ k.inbound.stage
   pub waiting : l.waiting ≡ length e.pending
   pub can : AllByRecursion CanBeOffered l.to
-  pub from : l.from ≡ k.from
+  pub from : l.inbound.from ≡ k.inbound.from
   pub fewer : failed ≡ false → length l.to < length k.to
 
 -- the device failed, and its session ends
@@ -70,7 +70,7 @@ pub record Leaves (at : ℕ) (old new : Driver) : Type 0 where
       (devices : List Meaning) → length devices ≡ length old.channels.items → EntersAt (Gone (at + 1) true) reply (bench old devices) (bench new devices)
   pub places : length new.channels.items ≡ length old.channels.items
   pub spares : Spares at old new
-  pub left : (k : Channel) → slice_get new.channels.items at ≡ Some k → k.stage ≡ Left
+  pub left : (k : Channel) → slice_get new.channels.items at ≡ Some k → k.inbound.stage ≡ Over
   pub waiting : (k l : Channel) → slice_get old.channels.items at ≡ Some k → slice_get new.channels.items at ≡ Some l → l.waiting ≡ k.waiting
 
 -- ---- all of it
@@ -99,12 +99,12 @@ pub record MayGoOn (at : ℕ) (old new : Driver) : Type 0 where
 -- by whether the device took a message in; else it was left
 abbrev pub GoesOn : Bool → ℕ → Driver → Driver → Type 0
 GoesOn true at old new = MayGoOn at old new
-GoesOn false at old new = (k : Channel) → slice_get new.channels.items at ≡ Some k → k.stage ≡ Left
+GoesOn false at old new = (k : Channel) → slice_get new.channels.items at ≡ Some k → k.inbound.stage ≡ Over
 
 -- ---- at first
 
 pub record IsUnused (k : Channel) : Type 0 where
-  pub stage : k.stage ≡ Unplugged
+  pub stage : k.inbound.stage ≡ Unopened
   pub to : k.to ≡ []
-  pub from : k.from.stream ≡ beginning
+  pub from : k.inbound.from.stream ≡ beginning
   pub waiting : k.waiting ≡ 0

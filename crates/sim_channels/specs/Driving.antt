@@ -1,6 +1,6 @@
 -- The laws of the machine that who drives it rests on.
 use Rattle.machine_moves.specs.MoveLaws.{ConnectionsOpen, OpenIsKept, SessionsMove, SessionsOpen, StatesGrow}
-use Rattle.machine_moves.specs.Told.{EndsAreTold, FreshRunsAnswer, JobsAreTold, NoneElseWaits, OpensAreTold, OthersStay, PolicyIsTold, StatesAreTold}
+use Rattle.machine_moves.specs.Told.{EndsAreTold, JobsAreTold, NoneElseWaits, OpensAreTold, OthersStay, PolicyIsTold, StatesAreTold}
 use Rattle.machine_moves.specs.Sends.{SendsLaw}
 use Rattle.machine_steps.specs.Laws.{KeepsSound, OpensSound}
 
@@ -14,7 +14,6 @@ pub record DrivingLaws : Type 0 where
   pub policy : PolicyIsTold
   pub jobs : JobsAreTold
   pub none : NoneElseWaits
-  pub fresh : FreshRunsAnswer
   pub moves : SessionsMove
   pub sessions : SessionsOpen
   pub kept : OpenIsKept

@@ -19,7 +19,7 @@ pub record LooksUpBy (port : ℕ) (frame : List ℕ) (seen : Seen) (k : Channel)
   pub bytes : List ℕ
   pub looks : LooksUp port frame seen bytes (slot_by k d) (slot_by l e)
   pub pending : length e.pending ≡ length d.pending
-  pub stage : l.stage ≡ k.stage
+  pub stage : l.inbound.stage ≡ k.inbound.stage
   pub to : l.to ≡ k.to
   pub waiting : l.waiting ≡ k.waiting
 

@@ -1,22 +1,43 @@
--- The stage of a channel, read and written.
-use Rattle.std.specs.Prelude.{◌≡◌, ℕ, List, set, Some}
+-- How the session of a device stands, and what opens and ends it.
+use Rattle.std.specs.Prelude.{◌≡◌, ℕ, ◌+◌, Bool, false, List, set, Some}
 use Rattle.std.specs.List.{slice_get}
 use Rattle.device_port.specs.Devices.{Meaning}
+use Rattle.machine_steps.specs.declared.entry.Entry.{Entry}
+use Rattle.machine_steps.specs.declared.entry.Entry.TheVariants as entries
+use Rattle.machine_steps.specs.declared.reply.Reply.{Reply}
+use Rattle.machine_moves.specs.Told.{is_end}
+use Rattle.world_steps.specs.Worlds.{lacks_memory}
+use Rattle.machine_desk.specs.declared.inbound.Stage.TheVariants.{Over}
+use Rattle.machine_desk.specs.Hearing.{stage_opened}
 use Rattle.sim_channels.specs.declared.channel.Channel.{Channel}
-use Rattle.sim_channels.specs.declared.channel.Plugging.{Plugging}
+use Rattle.machine_desk.specs.declared.inbound.Stage.{Stage}
 use Rattle.sim_channels.specs.declared.driver.Driver.{Driver}
-use Rattle.sim_channels.specs.Channels.{bench}
+use Rattle.sim_channels.specs.Channels.{EntersAlone, bench, with_stage}
 
 -- the channel with this index has this stage
-pub record HasStage (at : ℕ) (stage : Plugging) (driver : Driver) : Type 0 where
+pub record HasStage (at : ℕ) (stage : Stage) (driver : Driver) : Type 0 where
   pub channel : Channel
   pub there : slice_get driver.channels.items at ≡ Some channel
-  pub is : channel.stage ≡ stage
+  pub is : channel.inbound.stage ≡ stage
 
 -- the channel with this index has this stage from now on, which no bench shows
-pub record Restages (at : ℕ) (stage : Plugging) (old new : Driver) : Type 0 where
+pub record Restages (at : ℕ) (stage : Stage) (old new : Driver) : Type 0 where
   pub rest : new ≡ record old { channels = new.channels }
   pub channel : Channel
   pub there : slice_get old.channels.items at ≡ Some channel
-  pub channels : new.channels.items ≡ set old.channels.items at (record channel { stage = stage })
+  pub channels : new.channels.items ≡ set old.channels.items at (with_stage stage channel)
   pub slots : (devices : List Meaning) → bench new devices ≡ bench old devices
+
+-- the machine was given an entry, with memory enough, and the channel with this index has this stage behind it
+pub record EntersAndStages (at : ℕ) (entry : Entry) (reply : Reply) (stage : Stage) (old new : Driver) : Type 0 where
+  pub enters : EntersAlone entry reply old.desk new.desk
+  pub memory : lacks_memory reply ≡ false
+  pub stages : Restages at stage (record old { desk = new.desk }) new
+
+-- a session was opened for the device with this index, or the device is left as the machine had no place for it
+abbrev pub OpensAt : ℕ → Driver → Driver → Type 0
+OpensAt at old new = (reply : Reply) × EntersAndStages at (entries.Open (at + 1)) reply (stage_opened (is_end reply)) old new
+
+-- the session of the device with this index was ended, as its link failed or not
+abbrev pub ClosesAt : ℕ → Bool → Driver → Driver → Type 0
+ClosesAt at fault old new = (reply : Reply) × EntersAndStages at (entries.Gone (at + 1) fault) reply Over old new

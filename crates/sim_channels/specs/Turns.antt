@@ -4,18 +4,18 @@ use Rattle.std.specs.List.{slice_get}
 use Rattle.of10_stream.specs.Steps.{fed}
 use Rattle.sim_channels.specs.Channels.{is_plugged_in}
 use Rattle.sim_channels.specs.declared.channel.Channel.{Channel}
-use Rattle.sim_channels.specs.declared.channel.Plugging.TheVariants.{Plugged}
+use Rattle.machine_desk.specs.declared.inbound.Stage.TheVariants.{Live}
 use Rattle.sim_channels.specs.declared.driver.Driver.{Driver}
 
 -- a message waits in the device with this index, whose session is open
 pub record Waits (at : ℕ) (driver : Driver) : Type 0 where
   pub channel : Channel
   pub there : slice_get driver.channels.items at ≡ Some channel
-  pub plugged : channel.stage ≡ Plugged
+  pub plugged : channel.inbound.stage ≡ Live
   pub some : 0 < channel.waiting
 
 abbrev pub waits_in : Channel → Bool
-waits_in k = is_plugged_in k.stage && nat_lt 0 k.waiting
+waits_in k = is_plugged_in k.inbound.stage && nat_lt 0 k.waiting
 
 -- no message waits in any device ahead of the one with this index
 abbrev pub NoneBefore : ℕ → Driver → Type 0
@@ -36,7 +36,7 @@ pub record ChannelMoves (at : ℕ) (Moves : Channel → Channel → Type 0) (old
 
 -- these bytes came from the device, and one message less waits in it
 pub record Appends (bytes : List ℕ) (k l : Channel) : Type 0 where
-  pub stage : l.stage ≡ k.stage
+  pub stage : l.inbound.stage ≡ k.inbound.stage
   pub to : l.to ≡ k.to
-  pub from : l.from.stream ≡ fed bytes k.from.stream
+  pub from : l.inbound.from.stream ≡ fed bytes k.inbound.from.stream
   pub waiting : k.waiting ≡ l.waiting + 1

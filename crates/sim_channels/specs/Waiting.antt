@@ -1,16 +1,21 @@
 -- What is left to do at a place, of those whose session is open: what the machine has for the device, what was taken out for it, what came from it.
 use Rattle.std.specs.Prelude.{◌≡◌, ℕ, ◌+◌, [], Some}
 use Rattle.std.specs.List.{slice_get}
+use Rattle.machine_desk.specs.Desks.{DeskView}
 use Rattle.machine_steps.specs.Machine.{session_at}
 use Rattle.world_steps.specs.Worlds.{messages_for}
 use Rattle.sim_steps.specs.Parts.{IsHeardOut}
 use Rattle.sim_channels.specs.declared.channel.Channel.{Channel}
-use Rattle.sim_channels.specs.declared.channel.Plugging.TheVariants.{Plugged}
+use Rattle.machine_desk.specs.declared.inbound.Stage.TheVariants.{Live}
 use Rattle.sim_channels.specs.declared.driver.Driver.{Driver}
+
+-- no packet waits for an answer
+abbrev pub NoneWaits : DeskView → Type 0
+NoneWaits desk = desk.now.jobs ≡ []
 
 -- it holds of the channel with this index, where its session is open
 abbrev pub WhilePlugged : (Channel → Type 0) → ℕ → Driver → Type 0
-WhilePlugged P at driver = (k : Channel) → slice_get driver.channels.items at ≡ Some k → k.stage ≡ Plugged → P k
+WhilePlugged P at driver = (k : Channel) → slice_get driver.channels.items at ≡ Some k → k.inbound.stage ≡ Live → P k
 
 -- all that the machine has for the device was taken out
 abbrev pub IsTaken : ℕ → Driver → Type 0
@@ -22,25 +27,25 @@ IsOffered at driver = WhilePlugged (λ k. k.to ≡ []) at driver
 
 -- all that came was heard
 abbrev pub IsHeard : ℕ → Driver → Type 0
-IsHeard at driver = WhilePlugged (λ k. IsHeardOut k.from.stream) at driver
+IsHeard at driver = WhilePlugged (λ k. IsHeardOut k.inbound.from.stream) at driver
 
 -- nothing is left to do
 pub record IsAtRest (driver : Driver) : Type 0 where
-  pub jobs : driver.desk.now.jobs ≡ []
+  pub jobs : NoneWaits driver.desk
   pub taken : (at : ℕ) → IsTaken at driver
   pub offered : (at : ℕ) → IsOffered at driver
   pub heard : (at : ℕ) → IsHeard at driver
 
 -- nothing is left to do but to take out and offer
 pub record IsHeardThrough (driver : Driver) : Type 0 where
-  pub jobs : driver.desk.now.jobs ≡ []
+  pub jobs : NoneWaits driver.desk
   pub offered : (at : ℕ) → IsOffered at driver
   pub heard : (at : ℕ) → IsHeard at driver
 
--- nothing is left to do but at this place, where all was offered
+-- nothing is left to do but to hear what came from this place
 pub record IsAtRestBut (here : ℕ) (driver : Driver) : Type 0 where
-  pub jobs : driver.desk.now.jobs ≡ []
-  pub taken : (at : ℕ) → (at ≡ here → ⊥) → IsTaken at driver
+  pub jobs : NoneWaits driver.desk
+  pub taken : (at : ℕ) → IsTaken at driver
   pub offered : (at : ℕ) → IsOffered at driver
   pub heard : (at : ℕ) → (at ≡ here → ⊥) → IsHeard at driver
 

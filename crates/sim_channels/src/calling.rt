@@ -99,7 +99,7 @@ fn look_up<D: Device>(
     match device.packet(port, frame, &mut bytes) {
         Seen::NoMemory => Err(NoMemory),
         seen => {
-            channel.from.feed(&bytes)?;
+            channel.inbound.feed(&bytes)?;
             Ok(seen)
         }
     }

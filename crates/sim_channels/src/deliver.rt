@@ -1,13 +1,14 @@
 // What the machine has for devices is taken out and offered to them.
-ghost use Rattle.std.specs.Prelude.{◌≡◌, ◌<◌, [], map, length, OnOk};
+ghost use Rattle.std.specs.Prelude.{◌≡◌, ◌<◌, map, length, OnOk};
 ghost use Rattle.sim_steps.specs.Stretches.{Carried};
 ghost use Rattle.sim_channels.specs.Channels.{Fits, bench};
 ghost use Rattle.sim_channels.specs.Delivering.{Delivers, IsPluggedIn};
-ghost use Rattle.sim_channels.specs.Waiting.{IsAtRest, IsHeard, IsHeardThrough, IsOffered, IsTaken, StaysBut};
+ghost use Rattle.sim_channels.specs.Waiting.{IsAtRest, IsHeard, IsHeardThrough, IsOffered, IsTaken, NoneWaits, StaysBut};
 
 use crate::laws::driving_laws;
-use crate::{Driver, Plugging, Stopped};
+use crate::{Driver, Stopped};
 use device_port::Device;
+use machine_desk::Stage;
 use std::sync::Wait;
 
 impl<'h> Driver<'h> {
@@ -32,12 +33,12 @@ impl<'h> Driver<'h> {
         ensures offered { OnOk result (IsOffered at self.new) }
         ensures heard { OnOk result (IsHeard at self.old → IsHeard at self.new) }
         ensures others { OnOk result (StaysBut at self.old self.new) }
-        ensures jobs { OnOk result (self.old.desk.now.jobs ≡ [] → self.new.desk.now.jobs ≡ []) }
+        ensures jobs { OnOk result (NoneWaits self.old.desk → NoneWaits self.new.desk) }
         ensures footing { self.new.desk.footing ≡ self.old.desk.footing }
     {
-        match self.channels[at].stage {
-            Plugging::Plugged => self.deliver_plugged(rt, devices, at),
-            Plugging::Unplugged | Plugging::Left => Ok(()),
+        match self.channels[at].inbound.stage() {
+            Stage::Live => self.deliver_plugged(rt, devices, at),
+            Stage::Unopened | Stage::Over => Ok(()),
         }
     }
 

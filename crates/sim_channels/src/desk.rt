@@ -1,16 +1,16 @@
 // What the driver's desk tells and does, for who runs a script.
-ghost use Rattle.std.specs.Prelude.{◌≡◌, ◌≢◌, Err, IfOk, OnOk};
+ghost use Rattle.std.specs.Prelude.{◌≡◌, ◌≢◌, Err, IfErr, IfOk, OnOk};
 ghost use Rattle.machine_steps.specs.Admitting.{IsOperators};
 ghost use Rattle.machine_steps.specs.declared.entry.Entry.TheVariants as entries;
 ghost use Rattle.maple_io.specs.Views.{NoWriteFailed};
 ghost use Rattle.machine_desk.specs.Desks.{DeskLaw};
-ghost use Rattle.machine_desk.specs.Orders.{Asked, Changes, Renews};
+ghost use Rattle.machine_desk.specs.Orders.{Asked, Changes, Renews, Stops, StopsRenewing};
 ghost use Rattle.machine_desk.specs.Reports.{ReportsBy};
 ghost use Rattle.machine_desk.specs.declared.report.ReportStop.TheVariants as stops;
 
-use crate::{Driver, Stopped};
+use crate::Driver;
 use env_cells::Update;
-use machine_desk::{Desk, ReportStop};
+use machine_desk::{Desk, DeskStop, ReportStop};
 use maple_io::Sink;
 use std::alloc::Global;
 use std::sync::Wait;
@@ -55,40 +55,43 @@ impl<'h> Driver<'h> {
     ///
     /// # Errors
     ///
-    /// `Stopped`.
-    pub fn change<R: Wait>(&mut self, rt: &R, update: Update) -> Result<bool, Stopped>
+    /// As the desk's.
+    pub fn change<R: Wait>(&mut self, rt: &R, update: Update) -> Result<bool, DeskStop>
         requires operators { IsOperators update }
         ensures changes { IfOk result (λ made. Changes update made self.old.desk self.new.desk) }
+        ensures stops { IfErr result (λ stop. Stops stop (entries.Change update) self.old.desk self.new.desk) }
         ensures rest { self.new ≡ record self.old { desk = self.new.desk } }
         ensures footing { self.new.desk.footing ≡ self.old.desk.footing }
     {
-        Ok(self.desk.change(rt, update)?)
+        self.desk.change(rt, update)
     }
 
     /// Puts the policy of a text in force, as the desk does.
     ///
     /// # Errors
     ///
-    /// `Stopped`.
-    pub fn renew<R: Wait>(&mut self, rt: &R, text: &[u8]) -> Result<bool, Stopped>
+    /// As the desk's.
+    pub fn renew<R: Wait>(&mut self, rt: &R, text: &[u8]) -> Result<bool, DeskStop>
         ensures renews { IfOk result (λ accepted. Renews accepted text.now self.old.desk self.new.desk) }
+        ensures stops { IfErr result (λ stop. StopsRenewing stop self.old.desk self.new.desk) }
         ensures rest { self.new ≡ record self.old { desk = self.new.desk } }
         ensures footing { self.new.desk.footing ≡ self.old.desk.footing }
     {
-        Ok(self.desk.renew(rt, self.alloc, text)?)
+        self.desk.renew(rt, self.alloc, text)
     }
 
     /// Lists the rules of a switch in the report, as the desk does.
     ///
     /// # Errors
     ///
-    /// `Stopped`.
-    pub fn list_rules<R: Wait>(&mut self, rt: &R, switch: u64) -> Result<(), Stopped>
+    /// As the desk's.
+    pub fn list_rules<R: Wait>(&mut self, rt: &R, switch: u64) -> Result<(), DeskStop>
         ensures asked { OnOk result (Asked (entries.ReadRules switch) self.old.desk self.new.desk) }
+        ensures stops { IfErr result (λ stop. Stops stop (entries.ReadRules switch) self.old.desk self.new.desk) }
         ensures rest { self.new ≡ record self.old { desk = self.new.desk } }
         ensures footing { self.new.desk.footing ≡ self.old.desk.footing }
     {
-        Ok(self.desk.list_rules(rt, switch)?)
+        self.desk.list_rules(rt, switch)
     }
 
     /// The lines that the report gained are taken from the machine and written.

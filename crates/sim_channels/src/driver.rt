@@ -7,13 +7,12 @@ ghost use Rattle.sim_channels.specs.Channels.{Fits, IsAtStart, bench, bench_at_s
 ghost use Rattle.sim_channels.specs.Delivering.{IsUnused};
 ghost use Rattle.sim_channels.specs.Waiting.{IsAtRest};
 
+use crate::Channel;
 use crate::outbox::{connection_of, messages_for};
-use crate::{Channel, Plugging};
 use device_port::Device;
-use machine_desk::Desk;
+use machine_desk::{Desk, Inbound};
 use maple_base::{Bytes, NoMemory};
 use message_blocks::Block;
-use of10_stream::Reassembly;
 use std::alloc::Global;
 
 /// Who drives the machine at its desk, and the devices, which stand at places from 1 on.
@@ -68,12 +67,11 @@ fn unplugged<'h>(alloc: Global, desk: &Desk<'h>, count: usize) -> Result<Vec<Cha
     let mut channels = Vec::new(alloc);
     for at in 0..count {
         channels.push(Channel {
-            stage: Plugging::Unplugged,
+            inbound: Inbound::new(alloc),
             to: Block::new(
                 Bytes::new(Vec::new(alloc)),
                 messages_for(desk, &connection_of(at)),
             ),
-            from: Reassembly::new(alloc),
             waiting: 0,
         })?;
     }

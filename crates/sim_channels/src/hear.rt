@@ -1,24 +1,26 @@
 // What a device appended is heard.
-ghost use Rattle.std.specs.Prelude.{◌≡◌, ◌<◌, [], length, OnOk, IfOk};
+ghost use Rattle.std.specs.Prelude.{◌≡◌, ◌^◌, ◌<◌, length, OnOk, IfOk};
 ghost use Rattle.machine_desk.specs.declared.hearing.Heard.TheVariants.{Packet};
+ghost use Rattle.machine_steps.specs.Admitting.{IsHeard};
 ghost use Rattle.sim_channels.specs.Answering.{Answers};
 ghost use Rattle.sim_channels.specs.Channels.{IsAlone, IsKept};
-ghost use Rattle.sim_channels.specs.Waiting.{IsOffered};
-ghost use Rattle.sim_channels.specs.Passes.{Follows, Passed, Takes, WaitsBy, came_of};
+ghost use Rattle.sim_channels.specs.Waiting.{IsOffered, NoneWaits};
+ghost use Rattle.sim_channels.specs.Passes.{Follows, HearsAt, Passed, WaitsBy, came_of};
 
 use crate::laws::driving_laws;
 use crate::outbox::connection_of;
-use crate::{Channel, Driver, Plugging, Stopped};
+use crate::{Driver, Stopped};
 use core_machine::{Input, JobItem};
-use machine_desk::{Heard, next_input, working_laws};
-use maple_base::NoMemory;
+use machine_desk::{Heard, working_laws};
 use packet_workers::{Open, Worked};
 use std::sync::Wait;
 
 /// What came from a device.
 pub enum Came {
-    /// Nothing that could be heard, or what ended the session.
-    NoMore,
+    /// Nothing that could be heard.
+    Nothing,
+    /// What ended the session.
+    Ended,
     /// A message, and the machine told of no new state.
     Message,
     /// A message that made a state, as the machine told.
@@ -34,26 +36,41 @@ impl<'h> Driver<'h> {
     pub fn hear_next<R: Wait>(&mut self, rt: &R, at: usize) -> Result<Came, Stopped>
         requires kept { IsKept self.old }
         requires within { at < length self.old.channels.items }
-        requires jobs { self.old.desk.now.jobs ≡ [] }
+        requires jobs { NoneWaits self.old.desk }
         requires offered { IsOffered at self.old }
         ensures passed { IfOk result (λ came. Passed at self.old self.new came) }
         ensures footing { self.new.desk.footing ≡ self.old.desk.footing }
     {
         driving_laws();
-        let Some(input) = next_of(&mut self.channels[at])? else {
-            return Ok(Came::NoMore);
+        let Some(input) = self.channels[at].inbound.next()? else {
+            return Ok(Came::Nothing);
         };
-        let heard = self.desk.hear(rt, connection_of(at), input)?;
-        self.follow(rt, at, heard)
+        let heard = self.hear(rt, at, input)?;
+        self.follow(rt, heard)
     }
 
-    // What an input brings about is done.
-    fn follow<R: Wait>(&mut self, rt: &R, at: usize, heard: Heard) -> Result<Came, Stopped>
+    // An input from the device with this index is heard, whose session may end by it.
+    fn hear<R: Wait>(&mut self, rt: &R, at: usize, input: Input) -> Result<Heard, Stopped>
         requires within { at < length self.old.channels.items }
+        requires few { length self.old.channels.items < 2 ^ 32 }
+        requires heard { IsHeard input }
+        requires alone { IsAlone self.old }
+        ensures hears { IfOk result (λ heard. HearsAt at input heard self.old self.new) }
+        ensures footing { self.new.desk.footing ≡ self.old.desk.footing }
+    {
+        let connection = connection_of(at);
+        Ok(
+            self.desk
+                .hear(rt, connection, &mut self.channels[at].inbound, input)?,
+        )
+    }
+
+    // The packet that was heard is answered.
+    fn follow<R: Wait>(&mut self, rt: &R, heard: Heard) -> Result<Came, Stopped>
         requires waits { WaitsBy heard self.old.desk.now.jobs }
         requires alone { IsAlone self.old }
         ensures came { IfOk result (λ came. came ≡ came_of heard) }
-        ensures follows { OnOk result (Follows at heard self.old self.new) }
+        ensures follows { OnOk result (Follows heard self.old self.new) }
         ensures footing { self.new.desk.footing ≡ self.old.desk.footing }
     {
         match heard {
@@ -61,10 +78,7 @@ impl<'h> Driver<'h> {
                 self.answer(rt, item)?;
                 Ok(Came::Message)
             }
-            Heard::Ended => {
-                self.channels[at].stage = Plugging::Left;
-                Ok(Came::NoMore)
-            }
+            Heard::Ended => Ok(Came::Ended),
             Heard::State => Ok(Came::State),
             Heard::Other => Ok(Came::Message),
         }
@@ -84,14 +98,4 @@ impl<'h> Driver<'h> {
             Worked::Answered | Worked::Spent | Worked::NotOpen => Ok(()),
         }
     }
-}
-
-// What comes next on a channel whose session is open, if anything does.
-fn next_of(channel: &mut Channel) -> Result<Option<Input>, NoMemory>
-    ensures { IfOk result (λ found. Takes found channel.old channel.new) }
-{
-    if channel.stage != Plugging::Plugged {
-        return Ok(None);
-    }
-    next_input(&mut channel.from)
 }

@@ -9,15 +9,15 @@ pub mod driver;
 mod entering;
 pub mod hear;
 pub mod laws;
-mod leaving;
 mod offering;
 mod outbox;
+mod sessions;
 mod staging;
 mod stopped;
 mod taking;
 mod waiting;
 
-pub use channel::{Channel, Plugging};
+pub use channel::Channel;
 pub use driver::Driver;
 pub use hear::Came;
 pub use laws::driving_laws;

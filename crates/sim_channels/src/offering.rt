@@ -2,7 +2,7 @@
 ghost use Rattle.std.specs.Prelude.{◌≡◌, ◌<◌, IfOk, OnOk, length, map};
 ghost use Rattle.std.specs.List.{AllByRecursion};
 ghost use Rattle.machine_moves.specs.Sends.{CanBeOffered};
-ghost use Rattle.sim_channels.specs.Channels.{Fits, bench};
+ghost use Rattle.sim_channels.specs.Channels.{Fits};
 ghost use Rattle.sim_channels.specs.Delivering.{CanOffer, Delivers, GoesOn, IsPluggedIn, OffersFirst, offers_left};
 ghost use Rattle.sim_channels.specs.Waiting.{IsTaken};
 

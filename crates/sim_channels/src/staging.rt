@@ -1,23 +1,16 @@
-// The stages of channels.
+// How sessions stand.
 ghost use Rattle.std.specs.Prelude.{◌<◌, length};
-ghost use Rattle.sim_channels.specs.Staging.{HasStage, Restages};
+ghost use Rattle.sim_channels.specs.Staging.{HasStage};
 
-use crate::{Driver, Plugging};
+use crate::Driver;
+use machine_desk::Stage;
 
 impl<'h> Driver<'h> {
     /// The stage of the channel with this index.
-    pub fn stage(&self, at: usize) -> Plugging
+    pub fn stage(&self, at: usize) -> Stage
         requires { at < length self.now.channels.items }
         ensures { HasStage at result self.now }
     {
-        self.channels[at].stage
-    }
-
-    /// The channel with this index has this stage from now on.
-    pub fn set_stage(&mut self, at: usize, stage: Plugging)
-        requires { at < length self.old.channels.items }
-        ensures { Restages at stage self.old self.new }
-    {
-        self.channels[at].stage = stage;
+        self.channels[at].inbound.stage()
     }
 }

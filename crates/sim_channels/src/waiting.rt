@@ -4,7 +4,8 @@ ghost use Rattle.sim_steps.specs.Benches.{is_plugged as is_plugged_place};
 ghost use Rattle.sim_channels.specs.Channels.{IsKept, is_plugged_in};
 ghost use Rattle.sim_channels.specs.Turns.{Appends, ChannelMoves, IsLowest, Waits, waits_in};
 
-use crate::{Channel, Driver, Plugging};
+use crate::{Channel, Driver};
+use machine_desk::Stage;
 use maple_base::NoMemory;
 
 impl<'h> Driver<'h> {
@@ -49,16 +50,16 @@ impl<'h> Driver<'h> {
         ensures moves { OnOk result (ChannelMoves at (Appends bytes.now) self.old self.new) }
     {
         let channel = &mut self.channels[at];
-        channel.from.feed(bytes)?;
+        channel.inbound.feed(bytes)?;
         channel.waiting -= 1;
         Ok(())
     }
 }
 
 fn is_plugged(channel: &Channel) -> bool
-    ensures { result ≡ is_plugged_in channel.now.stage }
+    ensures { result ≡ is_plugged_in channel.now.inbound.stage }
 {
-    channel.stage == Plugging::Plugged
+    channel.inbound.stage() == Stage::Live
 }
 
 // Whether a message waits in the device, and its session is open.

@@ -24,24 +24,19 @@ use Rattle.sim_steps.specs.Benches.{Bench}
 use Rattle.sim_steps.specs.Deeds.{Event, Runs, turn_of, turns_of}
 use Rattle.sim_steps.specs.Parts.{IsStill}
 use Rattle.sim_steps.specs.Showing.{AllIdle}
-use Rattle.sim_laws.specs.Laws.{AgreeLaw, HistoryLaw, PastLaw, ReportLaw, WorldLaw}
 use Rattle.sim_steps.proofs.Joining.{report_then}
 use Rattle.sim_channels.specs.declared.driver.Driver.{Driver}
 use Rattle.sim_channels.specs.Channels.{Fits, bench}
 use Rattle.sim_driver.specs.declared.drive.SimEnd.{SimEnd}
 use Rattle.sim_driver.specs.declared.drive.SimEnd.TheVariants as ends
-use Rattle.sim_driver.specs.Passes.{EndsAt, IsMarked, IsReported, IsUnreported, Passed, SameHall, end_of}
+use Rattle.sim_driver.specs.Passes.{DeedLaws, EndsAt, IsMarked, IsReported, IsUnreported, Passed, SameHall, end_of}
 use Rattle.sim_driver.specs.Runs.{Ends, EndsOver, Given, GoesOnFrom, IsBrokenOff, IsFollowed, IsRunOf, IsUnwritten, opened, orders, report}
 use Rattle.sim_driver.proofs.Parting.{Parts, parts_follow, parts_run, parts_then}
 use Rattle.sim_driver.proofs.Taking.{bench_devices}
 
 -- what holds of all deeds, and of what is given
 pub record Known (g : Given) : Type 0 where
-  pub history : HistoryLaw
-  pub told : ReportLaw
-  pub agree : AgreeLaw
-  pub world : WorldLaw
-  pub past : PastLaw
+  pub laws : DeedLaws
   pub ranges : AreInRange g.settings
   pub idle : AllIdle g.devices
 
@@ -78,6 +73,7 @@ went_none g places old driver devices known n e = record {
 pub marked_hall : (f : Footing) (a b : DeskView) → SameHall f a.footing → IsMarked a b → SameHall f b.footing
 marked_hall f a b same marked = record {
   place = ap (λ (x : Footing). x.place) marked ∙ same.place;
+  name = ap (λ (x : Footing). x.name) marked ∙ same.name;
   start = ap (λ (x : Footing). x.start) marked ∙ same.start;
   parts = ap (λ (x : Footing). x.parts) marked ∙ same.parts;
 }
@@ -108,9 +104,9 @@ went_further {g} {places} {old} {now} {driver} {devices} {line} {left} new next 
 run_of : (g : Given) → Known g → (es : List Event) (b : Bench) → Runs (opened g) es b → IsRunOf g es b
 run_of g known es b runs = record {
   runs = runs;
-  history = known.history g.policy g.settings g.devices es b runs;
-  agree = known.agree g.policy g.settings g.devices es b known.ranges runs;
-  world = λ keep. known.world g.policy g.settings g.devices es b known.ranges keep known.idle runs;
+  history = known.laws.history g.policy g.settings g.devices es b runs;
+  agree = known.laws.agree g.policy g.settings g.devices es b known.ranges runs;
+  world = λ keep. known.laws.world g.policy g.settings g.devices es b known.ranges keep known.idle runs;
 }
 
 report_append : (es fs : List Event) → report (es ++ fs) ≡ report es ++ report fs
@@ -133,7 +129,7 @@ module _ {g : Given} {places : ℕ} {old now : SinkView} {driver : Driver} {devi
 
   whole : report h.events ≡ taken_report h.events
   whole =
-      h.known.told g.policy g.settings g.devices h.events (bench driver devices) runs
+      h.known.laws.report g.policy g.settings g.devices h.events (bench driver devices) runs
       ∙ ap (λ (ls : List Line). taken_report h.events ++ flat_map spelled ls) h.none_waits
       ∙ append-nil (taken_report h.events)
 
@@ -142,7 +138,7 @@ module _ {g : Given} {places : ℕ} {old now : SinkView} {driver : Driver} {devi
 
   -- the desk knows of no other turns
   past_is : driver.desk.past ≡ turns_of h.events
-  past_is = h.known.past (opened g) h.events (bench driver devices) runs
+  past_is = h.known.laws.past (opened g) h.events (bench driver devices) runs
 
   pub followed : orders_of places left ≡ [] → Fits driver devices → (text : List ℕ) × IsFollowed g devices driver.desk.past text × Wrote old now text
   followed none fits = (report h.events, of_all, written)
@@ -182,7 +178,7 @@ module _ {g : Given} {places : ℕ} {old now : SinkView} {driver : Driver} {devi
     last = driver.desk.now;
     leads =
         subst (λ (ts : List Turn). Steady (opening g.policy g.settings) ts driver.desk.now) (sym past_is)
-        (h.known.history g.policy g.settings g.devices h.events (bench driver devices) runs);
+        (h.known.laws.history g.policy g.settings g.devices h.events (bench driver devices) runs);
     begins = ([], past_is ∙ sym (append-nil (turns_of h.events)));
   }
 
@@ -204,7 +200,7 @@ module _ {g : Given} {places : ℕ} {old now : SinkView} {driver : Driver} {devi
         append_cancel_left t (report u.events) (taken_report u.events ++ w) (
         ap (λ (bs : List ℕ). bs ++ report u.events) (sym whole)
         ∙ sym (report_append h.events u.events)
-        ∙ h.known.told g.policy g.settings g.devices (h.events ++ u.events) last all_runs
+        ∙ h.known.laws.report g.policy g.settings g.devices (h.events ++ u.events) last all_runs
         ∙ ap (λ (bs : List ℕ). bs ++ w) (report_then h.events u.events)
         ∙ append_assoc t (taken_report u.events) w
         )
@@ -225,7 +221,7 @@ module _ {g : Given} {places : ℕ} {old now : SinkView} {driver : Driver} {devi
         orders_are = orders_on g places left behind h.done o passed h.orders_are leads;
         follows = parts_follow (h.done ++ o ∷ []) (opened g) (h.events ++ u.events) last parts;
       };
-      history_is = h.known.past (opened g) (h.events ++ u.events) last all_runs;
+      history_is = h.known.laws.past (opened g) (h.events ++ u.events) last all_runs;
       front = u.front;
       rest = u.is_front.0 ++ flat_map spelled last.machine.lines;
       report_is =

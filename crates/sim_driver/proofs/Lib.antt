@@ -1,6 +1,5 @@
--- Alone: nobody came between. Taking: the report is taken. Parting: the parts of orders, one behind the other. Reporting: one order is followed.
+-- Taking: the report is taken. Parting: the parts of orders, one behind the other. Reporting: one order is followed.
 -- Going: how far a run has come, and how it ends.
-pub mod Alone
 pub mod Going
 pub mod Halls
 pub mod Parting

@@ -1,27 +1,22 @@
 -- The report is taken: nothing else changes.
-use Rattle.std.proofs.Common.{◌≡◌, ℕ, List, [], ◌∷◌, ◌++◌, length, map, refl, sym, ap, ◌∙◌, subst, inl, inr}
+use Rattle.std.proofs.Common.{◌≡◌, List, [], ◌∷◌, ◌++◌, length, map, refl, sym, ap, ◌∙◌, subst, inl, inr}
 use Rattle.device_port.specs.Devices.{Meaning}
 use Rattle.machine_steps.specs.declared.entry.Entry.TheVariants as entries
 use Rattle.machine_steps.specs.declared.reply.Reply.TheVariants.{Lines}
-use Rattle.machine_steps.specs.Histories.{IsTurn, Leads, Turn}
 use Rattle.machine_desk.specs.Desks.{DeskView, Footing}
 use Rattle.machine_steps.specs.Machine.{State}
 use Rattle.machine_steps.specs.Steps.{Steps}
-use Rattle.sim_steps.specs.Benches.{IsPluggedAt, Slot}
+use Rattle.sim_steps.specs.Benches.{Slot}
 use Rattle.sim_steps.specs.Deeds.{turn_by}
-use Rattle.sim_steps.specs.Parts.{IsStill}
 use Rattle.sim_steps.specs.Stretches.{Stretch}
 use Rattle.sim_steps.proofs.Moments.{report_taken}
 use Rattle.sim_channels.specs.declared.channel.Channel.{Channel}
 use Rattle.sim_channels.specs.declared.driver.Driver.{Driver}
-use Rattle.sim_channels.specs.Channels.{Fits, IsReached, bench, slots_of}
+use Rattle.sim_channels.specs.Channels.{Fits, bench, slots_of}
 use Rattle.sim_channels.specs.Waiting.{IsAtRest}
+use Rattle.sim_channels.proofs.Keeping.{reached_on}
 use Rattle.sim_driver.specs.Passes.{TakesReport, waiting}
 use Rattle.sim_driver.specs.Runs.{devices_of}
-
-leads_on : (m : State) (ts : List Turn) (b : State) (t : Turn) → Leads m ts b → t.before ≡ b → IsTurn t → Leads m (ts ++ t ∷ []) t.behind
-leads_on m [] b t same before is = (before ∙ same, is, refl)
-leads_on m (u ∷ ts) b t (first, turn, rest) before is = (first, turn, leads_on u.behind ts b t rest before is)
 
 -- the machine with its lines taken
 abbrev cleared : State → State
@@ -32,22 +27,11 @@ module _ (d : Driver) (to : DeskView) where
   abbrev behind : Driver
   behind = record d { desk = record to { now = cleared d.desk.now } }
 
-  reached_on : IsReached d.desk.now → IsReached behind.desk.now
-  reached_on h =
-      let t : Turn = turn_by d.desk.now entries.TakeReport (Lines (waiting d)) behind.desk.now in
-      record {
-        policy = h.policy;
-        settings = h.settings;
-        ranges = h.ranges;
-        turns = h.turns ++ t ∷ [];
-        leads = leads_on _ h.turns d.desk.now t h.leads refl (record { admitted = tt; steps = inl (refl, refl) });
-      }
-
   fits_on : (ds : List Meaning) → to.footing ≡ d.desk.footing → Fits d ds → Fits behind ds
   fits_on ds footing h = record {
     kept = record {
       alone = ap (λ (f : Footing). f.parts) footing ∙ h.kept.alone;
-      reached = reached_on h.kept.reached;
+      reached = reached_on d.desk.now entries.TakeReport (Lines (waiting d)) behind.desk.now h.kept.reached tt (inl (refl, refl));
       numbers = h.kept.numbers;
       stages = λ at k there. let s = h.kept.stages at k there in record { plugged = s.plugged; opened = s.opened };
       places_alone = h.kept.places_alone;
@@ -59,12 +43,6 @@ module _ (d : Driver) (to : DeskView) where
 
   rests_on : IsAtRest d → IsAtRest behind
   rests_on h = record { jobs = h.jobs; taken = h.taken; offered = h.offered; heard = h.heard }
-
-  still_on : (ds : List Meaning) → IsStill (bench d ds) → IsStill (bench behind ds)
-  still_on ds h = record { jobs = h.jobs; taken = h.taken; offered = λ c s p. h.offered c s (as_before c s p); heard = λ c s p. h.heard c s (as_before c s p) }
-    where
-      as_before : (c : ℕ) (s : Slot) → IsPluggedAt c (bench behind ds) s → IsPluggedAt c (bench d ds) s
-      as_before c s p = record { plugged = p.plugged; there = p.there }
 
   -- the deed
   taking_on : (ds : List Meaning) → to.past ≡ d.desk.past ++ turn_by d.desk.now entries.TakeReport (Lines (waiting d)) behind.desk.now ∷ []
@@ -92,9 +70,6 @@ module _ (d next : Driver) (h : TakesReport d next) where
 
   pub taken_rests : IsAtRest d → IsAtRest next
   taken_rests rest = subst IsAtRest (sym next_is) (rests_on d next.desk rest)
-
-  pub taken_still : (ds : List Meaning) → IsStill (bench d ds) → IsStill (bench next ds)
-  taken_still ds still = subst (λ (x : Driver). IsStill (bench x ds)) (sym next_is) (still_on d next.desk ds still)
 
   pub taken_lines : next.desk.now.lines ≡ []
   taken_lines = ap (λ (m : State). m.lines) now_is

@@ -13,6 +13,7 @@ use Rattle.sim_steps.specs.Benches.{Bench, opening_bench}
 use Rattle.sim_steps.specs.Deeds.{Event}
 use Rattle.sim_steps.specs.Parts.{IsPart}
 use Rattle.sim_steps.specs.Showing.{AllIdle}
+use Rattle.sim_laws.specs.Laws.{AgreeLaw, HistoryLaw, PastLaw, ReportLaw, WorldLaw}
 use Rattle.sim_channels.specs.declared.driver.Driver.{Driver}
 use Rattle.sim_channels.specs.Channels.{EntersAlone, Fits, bench}
 use Rattle.sim_channels.specs.Waiting.{IsAtRest}
@@ -22,17 +23,22 @@ use Rattle.machine_desk.specs.Desks.{DeskView, Footing}
 use Rattle.machine_steps.specs.declared.entry.Entry.TheVariants.{TakeReport}
 use Rattle.machine_steps.specs.declared.reply.Reply.TheVariants.{Lines}
 use Rattle.maple_io.specs.Fronts.{IsFront}
-use Rattle.history_lock.specs.declared.view.Known.{Known}
-use Rattle.history_lock.specs.Passes.{parts}
+use Rattle.packet_workers.specs.Adding.{PassView}
 use Rattle.machine_desk.specs.declared.opening.Opening.{Opening}
 use Rattle.machine_desk.specs.Openings.{IsAhead, IsMachineOf}
-use Rattle.machine_steps.specs.declared.entry.Entry.{Entry}
-use Rattle.machine_steps.specs.declared.reply.Reply.{Reply}
 use Rattle.machine_steps.specs.Machine.{State}
 use Rattle.machine_sharing.specs.Legal.{turns_of}
 use Rattle.sim_driver.specs.declared.drive.SimEnd.{SimEnd}
 use Rattle.sim_driver.specs.declared.drive.SimEnd.TheVariants as ends
 use Rattle.sim_driver.specs.Runs.{EndsOver, Given, devices_of, given}
+
+-- what holds of all deeds
+pub record DeedLaws : Type 0 where
+  pub history : HistoryLaw
+  pub report : ReportLaw
+  pub agree : AgreeLaw
+  pub world : WorldLaw
+  pub past : PastLaw
 
 -- the lines of the report that weren't taken yet
 abbrev pub waiting : Driver → List ℕ
@@ -44,9 +50,10 @@ pub record TakesReport (old new : Driver) : Type 0 where
   pub enters : EntersAlone TakeReport (Lines (waiting old)) old.desk new.desk
   pub footing : new.desk.footing ≡ old.desk.footing
 
--- what a desk keeps through a run: which hall it is, the machine at first, and the parts
+-- what a desk keeps through a run: which hall it is, by which reference its pass was lent, the machine at first, and the parts
 pub record SameHall (a b : Footing) : Type 0 where
   pub place : b.place ≡ a.place
+  pub name : b.name ≡ a.name
   pub start : b.start ≡ a.start
   pub parts : b.parts ≡ a.parts
 
@@ -71,9 +78,9 @@ pub record IsOpened (driver : Driver) (devices : List Meaning) : Type 0 where
   pub idle : AllIdle devices
 
 -- so it is of a hall that was just opened
-pub record IsOpening (o : Opening) (devices : List Meaning) : Type 0 where
-  pub ahead : IsAhead o
-  pub alone : parts o.pass ≡ 1024
+pub record IsOpening (k : PassView) (o : Opening) (devices : List Meaning) : Type 0 where
+  pub ahead : IsAhead k o
+  pub alone : k.parts ≡ 1024
   pub machine : IsMachineOf o.start.value.policy o.start.value.settings o
   pub ranges : AreInRange o.start.value.settings
   pub idle : AllIdle devices
@@ -95,7 +102,7 @@ abbrev pub EndsAt : SimEnd → Given → DeskView → List Meaning → SinkView 
 EndsAt end g desk after old new = EndsOver end g after desk.number desk.past old new
 
 -- by what its pass has seen of the hall
-abbrev pub EndsByPass : SimEnd → Given → State → List Meaning → Known State Entry Reply → SinkView → SinkView → Type 0
+abbrev pub EndsByPass : SimEnd → Given → State → List Meaning → PassView → SinkView → SinkView → Type 0
 EndsByPass end g start after k old new = EndsOver end g after k.number (turns_of start k.seen) old new
 
 abbrev pub end_of : ReportStop → SimEnd

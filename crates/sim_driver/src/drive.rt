@@ -5,7 +5,7 @@ ghost use Rattle.machine_steps.specs.Sound.{AreInRange};
 ghost use Rattle.sim_steps.specs.Showing.{AllIdle};
 ghost use Rattle.history_lock.specs.Passes.{IsPassOf, hall as place_of, known, parts};
 ghost use Rattle.sim_channels.specs.Channels.{IsAtStart};
-ghost use Rattle.sim_driver.specs.Passes.{EndsAt, EndsByPass, IsOpened, IsOpening, SameHall, end_of, given_at, given_over};
+ghost use Rattle.sim_driver.specs.Passes.{DeedLaws, EndsAt, EndsByPass, IsOpened, IsOpening, SameHall, end_of, given_at, given_over};
 ghost use Rattle.sim_driver.specs.Runs.{Ends, IsAtRefused, given, over, refused_line};
 
 use crate::following::follow;
@@ -84,11 +84,11 @@ pub fn drive<R: Wait, D: Device, O: Sink>(
     ensures fault { result ≡ SimEnd.WriteFault → WriteFailed (O.tells to.old) (O.tells to.new) }
     ensures spared { result ≢ SimEnd.WriteFault → NoWriteFailed (O.tells to.old) (O.tells to.new) }
 {
-    agreeing_laws();
-    world_law();
-    past_law();
+    deed_laws();
     match open_hall(alloc, policy, settings) {
-        Ok((hall, opening)) => in_hall(rt, alloc, hall, opening, script, first, devices, to),
+        Ok((hall, pass, opening)) => {
+            in_hall(rt, alloc, hall, pass, opening, script, first, devices, to)
+        }
         Err(_) => SimEnd::NoMemory,
     }
 }
@@ -98,14 +98,15 @@ fn in_hall<R: Wait, D: Device, O: Sink>(
     rt: &R,
     alloc: Global,
     hall: Hall<Core>,
+    mut pass: Pass<Core>,
     opening: Opening,
     script: &[u8],
     first: u32,
     devices: &mut [D],
     to: &mut O,
 ) -> SimEnd
-    requires hall { IsPassOf hall opening.pass }
-    requires opened { IsOpening opening (map D.meaning devices.old) }
+    requires hall { IsPassOf hall pass }
+    requires opened { IsOpening (known pass) opening (map D.meaning devices.old) }
     requires numbers { first + length script.now < 2 ^ 32 }
     ensures ends { Ends result (given_over opening (map D.meaning devices.old) script.now first) (map D.meaning devices.new) (O.tells to.old) (O.tells to.new) }
     ensures done { result ≡ SimEnd.Done → refused_line (length devices.old) first script.now ≡ None }
@@ -113,50 +114,69 @@ fn in_hall<R: Wait, D: Device, O: Sink>(
     ensures fault { result ≡ SimEnd.WriteFault → WriteFailed (O.tells to.old) (O.tells to.new) }
     ensures spared { result ≢ SimEnd.WriteFault → NoWriteFailed (O.tells to.old) (O.tells to.new) }
 {
-    let (end, pass) = at_desk(
-        rt,
-        alloc,
-        Desk::new(&hall, opening),
-        script,
-        first,
-        devices,
-        to,
-    );
+    let end = at_desk(
+        rt, alloc, &hall, &mut pass, opening, script, first, devices, to,
+    )
+    .into_end();
     close_hall(hall, pass);
     end
 }
 
-// Runs the lines of a script at a desk whose machine is ahead of its first entry. Its pass comes back.
-fn at_desk<'h, R: Wait, D: Device, O: Sink>(
+// How a run ended, beside the pass that was lent to it.
+struct Ended<'p> {
+    pass: &'p mut Pass<Core>,
+    end: SimEnd,
+}
+
+impl<'p> Ended<'p> {
+    // The end alone. The pass is no longer lent.
+    fn into_end(self) -> SimEnd
+        ensures end { result ≡ self.entry.end }
+        ensures pass { self.exit.0.now ≡ self.entry.pass.now }
+    {
+        let Ended { pass: _pass, end } = self;
+        end
+    }
+}
+
+// Runs the lines of a script at the desk of a hall that was just opened. The pass that was lent comes back.
+fn at_desk<'p, R: Wait, D: Device, O: Sink>(
     rt: &R,
     alloc: Global,
-    desk: Desk<'h>,
+    hall: &'p Hall<Core>,
+    pass: &'p mut Pass<Core>,
+    opening: Opening,
     script: &[u8],
     first: u32,
     devices: &mut [D],
     to: &mut O,
-) -> (SimEnd, Pass<Core>)
-    requires start { IsAtStart desk }
-    requires begins { desk.footing.start ≡ desk.now }
-    requires idle { AllIdle (map D.meaning devices.old) }
+) -> Ended<'p>
+    requires hall { IsPassOf hall.now pass.now }
+    requires opened { IsOpening (known pass.now) opening (map D.meaning devices.old) }
     requires numbers { first + length script.now < 2 ^ 32 }
-    ensures hall { (place_of result.1 ≡ desk.entry.footing.place) × (parts result.1 ≡ desk.entry.footing.parts) }
-    ensures ends { EndsByPass result.0 (given_at desk.entry (map D.meaning devices.old) script.now first) desk.entry.footing.start
-        (map D.meaning devices.new) (known result.1) (O.tells to.old) (O.tells to.new) }
-    ensures done { result.0 ≡ SimEnd.Done → refused_line (length devices.old) first script.now ≡ None }
-    ensures script { IsAtRefused result.0 (refused_line (length devices.old) first script.now) }
-    ensures fault { result.0 ≡ SimEnd.WriteFault → WriteFailed (O.tells to.old) (O.tells to.new) }
-    ensures spared { result.0 ≢ SimEnd.WriteFault → NoWriteFailed (O.tells to.old) (O.tells to.new) }
+    ensures same_reference { result.pass.ghost_name ≡ pass.entry.ghost_name }
+    ensures hall { IsPassOf hall.now result.pass.now × (parts result.pass.now ≡ parts pass.old) }
+    ensures ends { EndsByPass result.end (given_over opening (map D.meaning devices.old) script.now first) opening.start.value
+        (map D.meaning devices.new) (known result.pass.now) (O.tells to.old) (O.tells to.new) }
+    ensures done { result.end ≡ SimEnd.Done → refused_line (length devices.old) first script.now ≡ None }
+    ensures script { IsAtRefused result.end (refused_line (length devices.old) first script.now) }
+    ensures fault { result.end ≡ SimEnd.WriteFault → WriteFailed (O.tells to.old) (O.tells to.new) }
+    ensures spared { result.end ≢ SimEnd.WriteFault → NoWriteFailed (O.tells to.old) (O.tells to.new) }
 {
-    agreeing_laws();
-    world_law();
-    past_law();
-    match Driver::new(alloc, desk, devices) {
+    deed_laws();
+    match Driver::new(alloc, Desk::new(hall, pass, opening), devices) {
         Ok(mut driver) => {
             let end = run_lines(rt, alloc, &mut driver, script, first, devices, to);
-            (end, driver.into_desk().end())
+            let pass = driver.into_desk().end();
+            Ended { pass, end }
         }
-        Err(desk) => (SimEnd::NoMemory, desk.end()),
+        Err(desk) => {
+            let pass = desk.end();
+            Ended {
+                pass,
+                end: SimEnd::NoMemory,
+            }
+        }
     }
 }
 
@@ -180,9 +200,7 @@ fn run_lines<R: Wait, D: Device, O: Sink>(
     ensures fault { result ≡ SimEnd.WriteFault → WriteFailed (O.tells to.old) (O.tells to.new) }
     ensures spared { result ≢ SimEnd.WriteFault → NoWriteFailed (O.tells to.old) (O.tells to.new) }
 {
-    agreeing_laws();
-    world_law();
-    past_law();
+    deed_laws();
     let places = devices.len() as u32;
     let mut rest = script;
     let mut line = first;
@@ -204,6 +222,15 @@ fn run_lines<R: Wait, D: Device, O: Sink>(
         line += next.passed as u32;
     }
     SimEnd::Done
+}
+
+// What holds of all deeds.
+fn deed_laws()
+    ensures { DeedLaws }
+{
+    agreeing_laws();
+    world_law();
+    past_law();
 }
 
 // How a run ends where a step wasn't followed to its end.

@@ -1,22 +1,18 @@
-use Rattle.std.proofs.Common.{◌∙◌, ap, map, subst}
-use Rattle.history_lock.specs.Passes.{hall, known}
-use Rattle.machine_desk.specs.Desks.{DeskView}
-use Rattle.machine_steps.specs.Machine.{State}
-use Rattle.sim_driver.specs.Passes.{EndsByPass, given_by}
-use Rattle.sim_driver.proofs.Halls.{ends_in, now_is}
+use Rattle.std.proofs.Common.{◌≤◌, length, map, rules, subst, sym}
+use Rattle.history_lock.specs.Passes.{known}
+use Rattle.sim_driver.specs.declared.drive.SimEnd.{SimEnd}
+use Rattle.sim_driver.specs.Passes.{given_over}
+use Rattle.sim_driver.specs.Runs.{Ends}
+use Rattle.sim_driver.proofs.Halls.{ends_in}
 use Rattle.sim_driver.proofs.drive.in_hall.Goals as goal
 
 pub returns-clause-ends : goal.returns-clause-ends
 returns-clause-ends g c =
-    let devices = map g.D.Device.meaning c.args.devices.now in
-    let after = map g.D.Device.meaning c.at_desk-end.new.devices in
-    let start = c.args.opening.start.value in
-    let pass = c.args.opening.pass in
-    let desk = c.new.result in
-    let last = known c.at_desk-end.result.1 in
+    let given = given_over c.args.opening (map g.D.Device.meaning c.args.devices.now) c.args.script.now c.args.first in
+    let after = map g.D.Device.meaning c.at_desk.new.devices in
     let old = g.O.Sink.tells c.args.to.now in
-    let new = g.O.Sink.tells c.at_desk-end.new.to in
-    let same = ap (λ (d : DeskView). d.now) c.new.ensures ∙ now_is (hall pass) (known pass) start c.requires.opened.ahead.nothing in
-    let P : State → Type 0 = λ m. EndsByPass c.at_desk-end.result.0 (given_by desk.now devices c.args.script.now c.args.first) m after last old new in
-    ends_in c.at_desk-end.result.0 desk.now start devices c.args.script.now c.args.first last after old new same c.close_hall.ensures.enough
-    (subst P (ap (λ (d : DeskView). d.footing.start) c.new.ensures) c.at_desk-end.ensures.ends)
+    let new = g.O.Sink.tells c.at_desk.new.to in
+    let last = known c.at_desk.result.pass.now in
+    let enough : last.number ≤ length last.seen = search rules in
+    let ends = ends_in c.at_desk.result.end given c.args.opening.start.value last after old new enough c.at_desk.ensures.ends in
+    subst (λ (end : SimEnd). Ends end given after old new) (sym c.into_end-end.ensures.end) ends

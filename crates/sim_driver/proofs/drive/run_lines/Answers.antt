@@ -17,18 +17,10 @@ pub loop-rest-init : goal.loop-rest-init
 loop-rest-init g c =
     let devices = map g.D.Device.meaning c.args.devices.now in
     let given = given_at c.args.driver.now.desk devices c.args.script.now c.args.first in
-    let known : Known given = record {
-      history = c.agreeing_laws.ensures.history;
-      told = c.agreeing_laws.ensures.report;
-      agree = c.agreeing_laws.ensures.agree;
-      world = c.world_law.ensures;
-      past = c.past_law.ensures;
-      ranges = c.requires.opened.ranges;
-      idle = c.requires.opened.idle;
-    } in
+    let known : Known given = record { laws = c.deed_laws.ensures; ranges = c.requires.opened.ranges; idle = c.requires.opened.idle } in
     record {
       ready = c.requires.opened.ready;
-      same = record { place = refl; start = refl; parts = refl };
+      same = record { place = refl; name = refl; start = refl; parts = refl };
       went =
           went_none given (length c.args.devices.now) (g.O.Sink.tells c.args.to.now) c.args.driver.now devices known (length-map c.args.devices.now g.D.Device.meaning) c.requires.opened.opening;
       spared = refl;

@@ -1,0 +1,2 @@
+pub mod Meanwhile
+pub mod Rounding

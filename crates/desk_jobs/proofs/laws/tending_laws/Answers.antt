@@ -1,0 +1,14 @@
+use Rattle.desk_jobs.proofs.Meanwhile.{counted, nothing_left, room_stays, tending}
+use Rattle.desk_jobs.proofs.laws.tending_laws.Goals as goal
+
+pub returns-clause-allowed : goal.returns-clause-allowed
+returns-clause-allowed c = tending
+
+pub returns-clause-count : goal.returns-clause-count
+returns-clause-count c = counted
+
+pub returns-clause-room : goal.returns-clause-room
+returns-clause-room c = room_stays c.legal_laws.ensures.calls c.between_laws.ensures.stays
+
+pub returns-clause-none : goal.returns-clause-none
+returns-clause-none c = nothing_left c.legal_laws.ensures.calls c.between_laws.ensures.frozen

@@ -1,0 +1,9 @@
+//! Packets that wait, at the desk of a driver beside workers: they are handed to the workers by a queue, worked by the
+//! driver itself where the workers don't take them, and waited for.
+#![tactic(auto)]
+
+pub mod laws;
+pub mod tending;
+
+pub use laws::tending_laws;
+pub use tending::{Broken, Handed, Tender};
