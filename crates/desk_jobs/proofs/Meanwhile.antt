@@ -1,5 +1,5 @@
 -- What the machine did meanwhile, put together.
-use Rattle.std.proofs.Common.{◌≡◌, ◌≤◌, ◌<◌, ◌⊎◌, ℕ, suc, Bool, true, false, cond, List, [], ◌∷◌, ◌++◌, length, Ok, inl, inr, ap, append-nil, append_assoc, arith, refl, subst, sym, ◌∙◌}
+use Rattle.std.proofs.Common.{◌≡◌, ◌≤◌, ◌<◌, ◌⊎◌, ℕ, suc, Bool, true, false, cond, List, [], ◌∷◌, ◌++◌, length, inl, inr, ap, append-nil, append_assoc, arith, refl, subst, sym, ◌∙◌}
 use Rattle.std.specs.Prelude.{filter, nat_lt, ◌==◌, IsTrue}
 use Rattle.std.proofs.lemmas.Bool.Decides.{nat_tests}
 use Rattle.history_lock.specs.Histories.{AreAllowed}

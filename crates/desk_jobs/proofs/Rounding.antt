@@ -1,5 +1,5 @@
 -- One round more, and how rounds end.
-use Rattle.std.proofs.Common.{◌≡◌, ◌⊎◌, ℕ, Bool, true, false, List, [], ◌∷◌, ◌++◌, Result, Ok, Err, IfOk, inl, inr, refl, subst, sym}
+use Rattle.std.proofs.Common.{◌≡◌, ℕ, Bool, true, false, List, [], ◌∷◌, ◌++◌, Result, Ok, Err, IfOk, inl, inr, refl, subst, sym}
 use Rattle.std.specs.Prelude.{IsFalse, IsTrue}
 use Rattle.machine_steps.specs.declared.entry.Entry.TheVariants.{OpenJobs}
 use Rattle.machine_steps.specs.declared.reply.Reply.TheVariants.{Count}
@@ -8,7 +8,7 @@ use Rattle.worker_crew.specs.declared.gave_up.GaveUp.{GaveUp}
 use Rattle.worker_crew.specs.declared.gave_up.GaveUp.TheVariants.{Worn}
 use Rattle.worker_crew.specs.declared.rule.Account.{Account}
 use Rattle.machine_desk.specs.Desks.{DeskView, Enters, WearsOut}
-use Rattle.desk_jobs.specs.Tending.{Asks, AsksInVain, Done, GoesOn, MaySleep, Reaches, Room, Round, Rounds, Sight, StopsAsleep, StopsBy, Tends, Until, WorksSo, is_reached}
+use Rattle.desk_jobs.specs.Tending.{AsksInVain, Done, GoesOn, MaySleep, Reaches, Room, Round, Rounds, Sight, StopsAsleep, StopsBy, Tends, Until, WorksSo, is_reached}
 
 -- who waits till none does may sleep wherever who waits for room may
 pub sleeps_too : (r : Result Bool GaveUp) (s t : Sight) → IfOk r (λ works. GoesOn Room works s t) → IfOk r (λ works. GoesOn Done works s t)
