@@ -12,7 +12,7 @@ use Rattle.sim_channels.specs.declared.driver.Driver.{Driver}
 use Rattle.sim_channels.specs.Channels.{Fits, IsKept, bench}
 use Rattle.sim_channels.specs.Delivering.{Leaves}
 use Rattle.sim_channels.specs.Driving.{DrivingLaws}
-use Rattle.sim_channels.specs.Waiting.{IsAtRest, IsAtRestBut, IsOffered}
+use Rattle.sim_channels.specs.Waiting.{IsAtRest, IsAtRestBut, IsOffered, IsTaken}
 use Rattle.sim_channels.proofs.Kept.{all_left}
 use Rattle.sim_channels.proofs.Resting.{rest_is_still}
 use Rattle.sim_channels.specs.Looking.{Called}
@@ -53,7 +53,8 @@ fits_left m e at devices left fits = fits_but m e at devices left.kept (record {
 pub rest_left_but : (laws : DrivingLaws) (m e : Driver) (at : ℕ) → IsKept m → Leaves at m e → IsAtRestBut at m → IsAtRestBut at e
 rest_left_but laws m e at kept left rest = record {
   jobs = left.spares.jobs rest.jobs;
-  taken = λ i other. taken_still laws m e i kept left.kept (left.spares.others.sessions (i + 1) (λ f. other (omega (arith, f)))) (left.spares.others.channels i other) (rest.taken i other);
+  taken = λ i. by_index i at (λ same. subst (λ j. IsTaken j e) (sym same) (all_left _ at e left.left))
+      (λ other. taken_still laws m e i kept left.kept (left.spares.others.sessions (i + 1) (λ f. other (omega (arith, f)))) (left.spares.others.channels i other) (rest.taken i));
   offered = λ i. by_index i at (λ same. subst (λ j. IsOffered j e) (sym same) (all_left _ at e left.left))
       (λ other. while_still _ i m e (left.spares.others.channels i other) (rest.offered i));
   heard = λ i other. while_still _ i m e (left.spares.others.channels i other) (rest.heard i other);

@@ -13,8 +13,8 @@ use Rattle.sim_steps.specs.Benches.{is_plugged}
 use Rattle.sim_steps.specs.Deeds.{Event, MayNote}
 use Rattle.sim_steps.specs.Parts.{IfPlugged, JustEnters, JustNotes, Obeys, PlugsBy, Renews}
 use Rattle.sim_steps.specs.Stretches.{Carried, Obeyed}
-use Rattle.sim_channels.specs.declared.channel.Plugging.{Plugging}
-use Rattle.sim_channels.specs.declared.channel.Plugging.TheVariants.{Plugged}
+use Rattle.machine_desk.specs.declared.inbound.Stage.{Stage}
+use Rattle.machine_desk.specs.declared.inbound.Stage.TheVariants.{Live}
 use Rattle.sim_channels.specs.declared.driver.Driver.{Driver}
 use Rattle.sim_channels.specs.Channels.{Fits, IsKept, IsStaged, bench, is_plugged_in}
 use Rattle.sim_channels.specs.Staging.{HasStage}
@@ -35,12 +35,12 @@ of_ok P r x e h = subst (λ s. OnOk s P) e h
 
 -- ---- places
 
-pub staged_there : (d : Driver) (c at : ℕ) (stage : Plugging) → IsKept d → c ≡ at + 1 → HasStage at stage d → IsStaged c d.desk.now stage
+pub staged_there : (d : Driver) (c at : ℕ) (stage : Stage) → IsKept d → c ≡ at + 1 → HasStage at stage d → IsStaged c d.desk.now stage
 staged_there d c at stage kept place h =
     subst (λ n. IsStaged n d.desk.now stage) (sym place) (subst (λ s. IsStaged (at + 1) d.desk.now s) h.is (kept.stages at h.channel h.there))
 
-pub others_closed : (stage : Plugging) → (stage ≡ Plugged → ⊥) → is_plugged_in stage ≡ false
-others_closed Plugged other = absurd (other refl)
+pub others_closed : (stage : Stage) → (stage ≡ Live → ⊥) → is_plugged_in stage ≡ false
+others_closed Live other = absurd (other refl)
 others_closed stage other = refl
 
 pub stays_then : (here : ℕ) (a b c : Driver) → StaysBut here a b → StaysBut here b c → StaysBut here a c

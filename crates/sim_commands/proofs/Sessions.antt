@@ -1,5 +1,5 @@
 -- A session is opened or ends, and no other place changes.
-use Rattle.std.proofs.Common.{◌≡◌, ℕ, ◌+◌, Bool, true, false, List, refl, sym, ap, ◌∙◌, subst, inl, inr, eq-eqb}
+use Rattle.std.proofs.Common.{◌≡◌, ℕ, ◌+◌, Bool, true, false, List, refl, sym, ap, ◌∙◌, inl, inr, eq-eqb}
 use Rattle.std.specs.Prelude.{◌==◌, Option, Some, is_some}
 use Rattle.std.specs.List.{slice_get}
 use Rattle.std.proofs.lemmas.Bool.{ne_eqb}
@@ -8,106 +8,121 @@ use Rattle.device_port.specs.Devices.{Meaning}
 use Rattle.machine_steps.specs.declared.entry.Entry.{Entry}
 use Rattle.machine_steps.specs.declared.entry.Entry.TheVariants as entries
 use Rattle.machine_steps.specs.declared.reply.Reply.{Reply}
-use Rattle.machine_steps.specs.Machine.{Session, State, was_opened}
+use Rattle.machine_steps.specs.Admitting.{Admits}
+use Rattle.machine_steps.specs.Machine.{Session, State}
 use Rattle.machine_steps.specs.Steps.{Steps}
 use Rattle.machine_moves.specs.Told.{concerns, is_end, is_heard}
-use Rattle.world_steps.specs.Worlds.{lacks_memory}
-use Rattle.sim_steps.specs.Benches.{Slot, is_plugged, slot_at}
+use Rattle.sim_steps.specs.Benches.{Slot, is_plugged}
 use Rattle.sim_steps.specs.Deeds.{MayEnter}
+use Rattle.sim_steps.specs.Parts.{asks}
 use Rattle.sim_channels.specs.declared.channel.Channel.{Channel}
-use Rattle.sim_channels.specs.declared.channel.Plugging.{Plugging}
-use Rattle.sim_channels.specs.declared.channel.Plugging.TheVariants.{Left, Plugged, Unplugged}
+use Rattle.machine_desk.specs.Hearing.{stage_opened}
+use Rattle.machine_desk.specs.declared.inbound.Stage.{Stage}
+use Rattle.machine_desk.specs.declared.inbound.Stage.TheVariants.{Over, Live, Unopened}
 use Rattle.sim_channels.specs.declared.driver.Driver.{Driver}
-use Rattle.sim_channels.specs.Channels.{Fits, IsKept, bench, slots_of, was_plugged_in}
-use Rattle.sim_channels.specs.Delivering.{IsPluggedIn}
+use Rattle.sim_channels.specs.Channels.{Fits, IsKept, bench, slots_of, was_plugged_in, with_stage}
 use Rattle.sim_channels.specs.Driving.{DrivingLaws}
 use Rattle.sim_channels.specs.Waiting.{IsAtRest}
 use Rattle.sim_channels.proofs.Keeping.{session_same}
-use Rattle.sim_channels.proofs.Kept.{ChannelAt, all_left, channel_at, is_as_long, is_beside, is_there, kept_left, plugged_at}
+use Rattle.sim_channels.proofs.Kept.{ChannelAt, all_left, is_as_long, is_beside, is_there, kept_left, plugged_at}
 use Rattle.sim_channels.proofs.Making.{may_make}
-use Rattle.sim_channels.proofs.Plugged.{kept_opened, stage_by}
+use Rattle.sim_channels.proofs.Plugged.{kept_opened}
 use Rattle.sim_channels.proofs.Slots.{slot_next, slots_get}
-use Rattle.sim_channels.specs.Staging.{Restages}
+use Rattle.sim_channels.specs.Staging.{ClosesAt, EntersAndStages, HasStage, OpensAt}
 use Rattle.sim_channels.proofs.Places.{rest_but, there_too}
-use Rattle.sim_commands.specs.Commands.{IsChanged, IsUnplugged, stage_behind}
-
-same_stage : (ended : Bool) → stage_behind ended ≡ stage_by ended
-same_stage true = refl
-same_stage false = refl
+use Rattle.sim_turns.proofs.Entered.{asked_over}
+use Rattle.sim_commands.specs.Commands.{AsksFor, IsChanged}
+use Rattle.sim_commands.proofs.Asking.{asks_for}
 
 -- an open session ends
 ends_now : (old : State) (c : ℕ) (fault : Bool) (reply : Reply) (new : State) → Steps old (entries.Gone c fault) reply new → is_plugged c old ≡ true → is_end reply ≡ true
 ends_now old c fault reply new (inl (found, (r, e))) plugged = (let no : false ≡ true = sym (ap (λ (o : Option Session). is_some o) found) ∙ plugged in absurd (cc))
 ends_now old c fault reply new (inr (t, found, r, e)) plugged = ap is_end r
 
+-- when an entry is made
+
+may_open : (d : Driver) (at : ℕ) → HasStage at Unopened d → (devices : List Meaning) → Fits d devices → MayEnter (entries.Open (at + 1)) (bench d devices)
+may_open d at un devices fits =
+    let device = there_too devices d.channels.items at un.channel (sym fits.places) un.there in
+    let ks = d.channels.items in (
+      ap (λ (o : Option Slot). is_some o) (slot_next at (slots_of ks devices) ∙ slots_get ks devices at un.channel device.0 un.there device.1),
+      (fits.kept.stages at un.channel un.there).opened ∙ ap was_plugged_in un.is,
+    )
+
+may_close : (d : Driver) (at : ℕ) (fault : Bool) → HasStage at Live d → (devices : List Meaning) → Fits d devices → MayEnter (entries.Gone (at + 1) fault) (bench d devices)
+may_close d at fault live devices fits = plugged_at d at live.channel fits.kept live.there live.is
+
 -- the machine was given an entry, and then a channel has another stage
-module _ (laws : DrivingLaws) (d m e : Driver) (at : ℕ) (stage : Plugging) (kept : IsKept d) (same : m ≡ record d { desk = m.desk }) (footing : m.desk.footing ≡ d.desk.footing) (r : Restages at stage m e) where
+module _ (laws : DrivingLaws) (d e : Driver) (at : ℕ) (kept : IsKept d) (footing : e.desk.footing ≡ d.desk.footing) (entry : Entry) (reply : Reply) (stage : Stage) (h : EntersAndStages at entry reply stage d e) where
   abbrev K : Channel
-  K = r.channel
+  K = h.stages.channel
 
   abbrev L : Channel
-  L = record r.channel { stage = stage }
-
-  there : slice_get d.channels.items at ≡ Some K
-  there = ap (λ (x : Driver). slice_get x.channels.items at) (sym same) ∙ r.there
+  L = with_stage stage h.stages.channel
 
   at_channel : ChannelAt at K L d e
-  at_channel = channel_at at d m K there same L e r.channels (ap (λ (x : Driver). x.desk.footing) r.rest ∙ footing)
+  at_channel = record { there = h.stages.there; channels = h.stages.channels; footing = footing }
 
-  now : e.desk.now ≡ m.desk.now
-  now = ap (λ (x : Driver). x.desk.now) r.rest
+  staged_before : (was : Stage) → HasStage at was d → K.inbound.stage ≡ was
+  staged_before was has = ap (λ (x : Channel). x.inbound.stage) (same_Some K has.channel (sym h.stages.there ∙ has.there)) ∙ has.is
 
-  changed : (entry : Entry) (reply : Reply) → Steps d.desk.now entry reply e.desk.now → may_make entry ≡ false → is_heard entry ≡ false
-      → ((c : ℕ) → (c ≡ at + 1 → ⊥) → concerns c entry d.desk.now ≡ false) → IsKept e → IsChanged at d e
-  changed entry reply steps none other others also = record {
+  changed : may_make entry ≡ false → is_heard entry ≡ false → ((c : ℕ) → (c ≡ at + 1 → ⊥) → concerns c entry d.desk.now ≡ false) → IsKept e → IsChanged at d e
+  changed none other others also = record {
     kept = also;
     stays = record {
-      sessions = λ c o. session_same laws d.desk.now entry reply e.desk.now kept.reached steps none c (others c o);
+      sessions = λ c o. session_same laws d.desk.now entry reply e.desk.now kept.reached h.enters.steps none c (others c o);
       channels = is_beside at K L d e at_channel;
     };
     channels = record {
       count = is_as_long at K L d e at_channel;
       others = is_beside at K L d e at_channel;
       waiting = λ k l was now.
-          ap (λ (x : Channel). x.waiting) (same_Some l L (sym now ∙ is_there at K L d e at_channel)) ∙ ap (λ (x : Channel). x.waiting) (same_Some K k (sym there ∙ was));
+          ap (λ (x : Channel). x.waiting) (same_Some l L (sym now ∙ is_there at K L d e at_channel)) ∙ ap (λ (x : Channel). x.waiting) (same_Some K k (sym h.stages.there ∙ was));
     };
-    jobs = λ idle. laws.none d.desk.now entry reply e.desk.now idle other steps;
+    jobs = λ idle. laws.none d.desk.now entry reply e.desk.now idle other h.enters.steps;
   }
 
-  pub opened : (c : ℕ) (reply : Reply) → IsUnplugged at d → c ≡ at + 1 → stage ≡ stage_behind (is_end reply) → Steps d.desk.now (entries.Open c) reply m.desk.now → lacks_memory reply ≡ false → IsChanged at d e
-  opened c reply un place stage_is steps memory =
-      let at_place : Steps d.desk.now (entries.Open (at + 1)) reply m.desk.now = subst (λ n. Steps d.desk.now (entries.Open n) reply m.desk.now) place steps in
-      let so : Steps d.desk.now (entries.Open (at + 1)) reply e.desk.now = subst (λ x. Steps d.desk.now (entries.Open (at + 1)) reply x) (sym now) at_place in
-      let unplugged : r.channel.stage ≡ Unplugged = ap (λ (x : Channel). x.stage) (same_Some K un.channel (sym there ∙ un.there)) ∙ un.unplugged in
-      changed (entries.Open (at + 1)) reply so refl refl (λ x o. ne_eqb (at + 1) x (λ f. o (sym f)))
-      (kept_opened laws d e reply kept at K L at_channel unplugged (stage_is ∙ same_stage (is_end reply)) memory so)
+  -- whatever the devices are, the entry alone was asked for
+  asked_staged : IsAtRest d → asks entry ≡ true → Admits d.desk.now entry → ((devices : List Meaning) → Fits d devices → MayEnter entry (bench d devices)) → AsksFor entry d e
+  asked_staged rest asked admitted may =
+      let m : Driver = record d { desk = e.desk } in
+      asks_for entry reply d m e (asked_over entry reply d m rest asked admitted h.enters refl h.memory) h.stages.slots may
 
-  pub closed : (c : ℕ) (fault : Bool) (reply : Reply) → IsPluggedIn at d → c ≡ at + 1 → stage ≡ Left → Steps d.desk.now (entries.Gone c fault) reply m.desk.now → IsChanged at d e
-  closed c fault reply open_now place left steps =
-      let at_place : Steps d.desk.now (entries.Gone (at + 1) fault) reply m.desk.now = subst (λ n. Steps d.desk.now (entries.Gone n fault) reply m.desk.now) place steps in
-      let so : Steps d.desk.now (entries.Gone (at + 1) fault) reply e.desk.now = subst (λ x. Steps d.desk.now (entries.Gone (at + 1) fault) reply x) (sym now) at_place in
-      let plugged : r.channel.stage ≡ Plugged = ap (λ (x : Channel). x.stage) (same_Some K open_now.channel (sym there ∙ open_now.there)) ∙ open_now.plugged in
-      let others : (x : ℕ) → (x ≡ at + 1 → ⊥) → (at + 1 == x) ≡ false = λ x o. ne_eqb (at + 1) x (λ f. o (sym f)) in
-      changed (entries.Gone (at + 1) fault) reply so refl refl others
-      (kept_left laws d e (entries.Gone (at + 1) fault) reply kept tt so refl refl at K L at_channel plugged left (eq-eqb (at + 1) (at + 1) refl)
-      (ends_now d.desk.now (at + 1) fault reply e.desk.now so (plugged_at d at K kept there plugged)) others)
+module _ (laws : DrivingLaws) (d e : Driver) (at : ℕ) (kept : IsKept d) (footing : e.desk.footing ≡ d.desk.footing) where
+  -- at another place
+  beside : (c : ℕ) → (c ≡ at + 1 → ⊥) → (at + 1 == c) ≡ false
+  beside c other = ne_eqb (at + 1) c (λ f. other (sym f))
 
-  -- the device is left
-  pub rest_left : IsAtRest d → IsChanged at d e → stage ≡ Left → IsAtRest e
-  rest_left rest change left =
-      let is_left : (k : Channel) → slice_get e.channels.items at ≡ Some k → k.stage ≡ Left =
-      λ k now. ap (λ (x : Channel). x.stage) (same_Some k L (sym now ∙ is_there at K L d e at_channel)) ∙ left in
-      rest_but laws d e at kept change.kept rest change.stays (change.jobs rest.jobs) (all_left _ at e is_left) (all_left _ at e is_left) (all_left _ at e is_left)
+  module _ (un : HasStage at Unopened d) (h : OpensAt at d e) where
+    pub opened : IsChanged at d e
+    opened =
+        let stage = stage_opened (is_end h.0) in
+        let entry = entries.Open (at + 1) in
+        changed laws d e at kept footing entry h.0 stage h.1 refl refl beside
+        (kept_opened laws d e h.0 kept at h.1.stages.channel (with_stage stage h.1.stages.channel) (at_channel laws d e at kept footing entry h.0 stage h.1)
+        (staged_before laws d e at kept footing entry h.0 stage h.1 Unopened un) refl h.1.memory h.1.enters.steps)
 
--- ---- when an entry is made
+    pub asked_opened : IsAtRest d → AsksFor (entries.Open (at + 1)) d e
+    asked_opened rest = asked_staged laws d e at kept footing (entries.Open (at + 1)) h.0 (stage_opened (is_end h.0)) h.1 rest refl tt (may_open d at un)
 
-pub may_open : (d : Driver) (at c : ℕ) → IsUnplugged at d → c ≡ at + 1 → (devices : List Meaning) → Fits d devices → MayEnter (entries.Open c) (bench d devices)
-may_open d at c un place devices fits =
-    let device = there_too devices d.channels.items at un.channel (sym fits.places) un.there in
-    let ks = d.channels.items in (
-      ap (λ n. is_some (slot_at n (slots_of ks devices))) place ∙ ap (λ (o : Option Slot). is_some o) (slot_next at (slots_of ks devices) ∙ slots_get ks devices at un.channel device.0 un.there device.1),
-      ap (λ n. was_opened n d.desk.now) place ∙ (fits.kept.stages at un.channel un.there).opened ∙ ap was_plugged_in un.unplugged,
-    )
+  module _ (fault : Bool) (live : HasStage at Live d) (h : ClosesAt at fault d e) where
+    pub closed : IsChanged at d e
+    closed =
+        let entry = entries.Gone (at + 1) fault in
+        let plugged = staged_before laws d e at kept footing entry h.0 Over h.1 Live live in
+        changed laws d e at kept footing entry h.0 Over h.1 refl refl beside
+        (kept_left laws d e entry h.0 kept tt h.1.enters.steps refl refl at h.1.stages.channel (with_stage Over h.1.stages.channel) (at_channel laws d e at kept footing entry h.0 Over h.1) plugged refl
+        (eq-eqb (at + 1) (at + 1) refl) (ends_now d.desk.now (at + 1) fault h.0 e.desk.now h.1.enters.steps (plugged_at d at h.1.stages.channel kept h.1.stages.there plugged)) beside)
 
-pub may_close : (d : Driver) (at c : ℕ) (fault : Bool) → IsPluggedIn at d → c ≡ at + 1 → (devices : List Meaning) → Fits d devices → MayEnter (entries.Gone c fault) (bench d devices)
-may_close d at c fault open_now place devices fits = ap (λ n. is_plugged n d.desk.now) place ∙ plugged_at d at open_now.channel fits.kept open_now.there open_now.plugged
+    pub asked_closed : IsAtRest d → AsksFor (entries.Gone (at + 1) fault) d e
+    asked_closed rest = asked_staged laws d e at kept footing (entries.Gone (at + 1) fault) h.0 Over h.1 rest refl tt (may_close d at fault live)
+
+    -- the device is left
+    pub rest_left : IsAtRest d → IsAtRest e
+    rest_left rest =
+        let change = closed in
+        let entry = entries.Gone (at + 1) fault in
+        let L : Channel = with_stage Over h.1.stages.channel in
+        let is_left : (k : Channel) → slice_get e.channels.items at ≡ Some k → k.inbound.stage ≡ Over =
+        λ k now. ap (λ (x : Channel). x.inbound.stage) (same_Some k L (sym now ∙ is_there at h.1.stages.channel L d e (at_channel laws d e at kept footing entry h.0 Over h.1))) in
+        rest_but laws d e at kept change.kept rest change.stays (change.jobs rest.jobs) (all_left _ at e is_left) (all_left _ at e is_left) (all_left _ at e is_left)

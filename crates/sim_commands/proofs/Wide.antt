@@ -1,8 +1,6 @@
 -- At the desk an entry was asked for that is of no place.
 use Rattle.std.proofs.Common.{◌≡◌, ℕ, ◌+◌, Bool, true, false, List, refl, sym, ap, ◌∙◌, inl, inr}
 use Rattle.std.specs.List.{slice_get}
-use Rattle.std.specs.Prelude.{Result, Ok, Err, IfOk, OnOk}
-use Rattle.std.proofs.lemmas.Result.{IfOk-weaker}
 use Rattle.env_cells.specs.declared.updates.Update.{Update}
 use Rattle.env_cells.specs.declared.updates.Update.TheVariants.{Host, NoHost, Link, NoLink, Set, Unset}
 use Rattle.machine_desk.specs.Orders.{Asked, Asks, Changes, Renews, refusal}
@@ -23,10 +21,11 @@ use Rattle.sim_channels.specs.declared.driver.Driver.{Driver}
 use Rattle.sim_channels.specs.Channels.{IsKept, bench}
 use Rattle.sim_channels.specs.Driving.{DrivingLaws}
 use Rattle.sim_channels.specs.Waiting.{IsAtRest, IsHeardThrough}
+use Rattle.sim_channels.proofs.Alone.{enters_alone}
 use Rattle.sim_channels.proofs.Kept.{kept_entry}
 use Rattle.sim_channels.proofs.Places.{fits_same, taken_still, while_still}
 use Rattle.sim_channels.proofs.Plugged.{kept_policy}
-use Rattle.sim_turns.proofs.Entered.{alone_of_asks, asked_over_of_asks}
+use Rattle.sim_turns.proofs.Entered.{asked_over_of_asks}
 use Rattle.sim_turns.specs.Turning.{FitsStill}
 use Rattle.sim_commands.specs.Commands.{AsksFor, AsksToRenew}
 use Rattle.sim_commands.proofs.Asking.{asks_for}
@@ -72,24 +71,13 @@ pub record Stands (went : Bool) (Said : Type 0) (d e : Driver) : Type 0 where
 stands_so : (went : Bool) (F G : Type 0) (d e : Driver) → (F → G) → Stands went F d e → Stands went G d e
 stands_so went F G d e so h = record { fits = h.fits; through = h.through; rest = h.rest; asked = so h.asked }
 
--- so it is behind a call, where that didn't stop
-pub record StandsBy {E : Type 0} (r : Result Bool E) (Said : Type 0) (d e : Driver) : Type 0 where
-  pub fits : OnOk r (FitsStill d e)
-  pub through : OnOk r (IsHeardThrough e)
-  pub rest : r ≡ Ok false → IsAtRest e
-  pub asked : OnOk r Said
-
-stands_by : {E : Type 0} (r : Result Bool E) (Said : Type 0) (d e : Driver) → IfOk r (λ went. Stands went Said d e) → StandsBy r Said d e
-stands_by (Ok went) Said d e h = record { fits = h.fits; through = h.through; rest = λ vain. h.rest (cc); asked = h.asked }
-stands_by (Err why) Said d e h = record { fits = tt; through = tt; rest = λ vain. absurd (cc); asked = tt }
-
 module _ (laws : DrivingLaws) (d e : Driver) (kept : IsKept d) (rest : IsAtRest d) (same : e ≡ record d { desk = e.desk }) (footing : e.desk.footing ≡ d.desk.footing) where
   at_index : (at : ℕ) → slice_get e.channels.items at ≡ slice_get d.channels.items at
   at_index at = ap (λ (x : Driver). slice_get x.channels.items at) same
 
   module _ (entry : Entry) (reply : Reply) (made : Asks entry reply d.desk e.desk) (asked : asks entry ≡ true) (other : is_heard entry ≡ false) where
     steps : Steps d.desk.now entry reply e.desk.now
-    steps = (alone_of_asks entry reply d e kept.alone made).steps
+    steps = (enters_alone d.desk e.desk entry reply kept.alone made.enters).steps
 
     heard_through : IsHeardThrough e
     heard_through = record {
@@ -111,19 +99,14 @@ module _ (laws : DrivingLaws) (d e : Driver) (kept : IsKept d) (rest : IsAtRest 
       asked = asks_for entry reply d e e (asked_over_of_asks entry reply d e kept.alone made rest asked same) (λ devices. refl) (λ devices fits. may (bench d devices));
     }
 
-  changed : (u : Update) → IsOfLine u → (made : Bool) → Changes u made d.desk e.desk → Stands made (AsksFor (entries.Change u) d e) d e
+  pub changed : (u : Update) → IsOfLine u → (made : Bool) → Changes u made d.desk e.desk → Stands made (AsksFor (entries.Change u) d e) d e
   changed u line made h =
       let entry = entries.Change u in
       let done = steps entry h.reply h.asks refl refl in
       stands entry h.reply h.asks refl refl made (kept_entry laws d e entry h.reply kept (operators u line) done refl refl (λ c. refl) same footing) (λ b. tt)
       (λ vain. refused d.desk.now u h.reply e.desk.now done (sym h.made_is ∙ vain))
 
-  pub changes_stand : {E : Type 0} (r : Result Bool E) (u : Update) → IsOfLine u → IfOk r (λ made. Changes u made d.desk e.desk) → StandsBy r (AsksFor (entries.Change u) d e) d e
-  changes_stand r u line h =
-      let Said = AsksFor (entries.Change u) d e in
-      stands_by r Said d e (IfOk-weaker r (λ made. Changes u made d.desk e.desk) (λ made. Stands made Said d e) (changed u line) h)
-
-  renewed : (text : List ℕ) (accepted : Bool) → Renews accepted text d.desk e.desk → Stands accepted (AsksToRenew text d e) d e
+  pub renewed : (text : List ℕ) (accepted : Bool) → Renews accepted text d.desk e.desk → Stands accepted (AsksToRenew text d e) d e
   renewed text true h =
       let entry = entries.NewPolicy h.policy in
       let done = steps entry h.asked.reply h.asked.asks refl refl in
@@ -136,11 +119,6 @@ module _ (laws : DrivingLaws) (d e : Driver) (kept : IsKept d) (rest : IsAtRest 
       stands_so false (AsksFor entry d e) (AsksToRenew text d e) d e (λ asked. inr (h.line, h.column, h.kind, h.refused, asked))
       (stands entry h.asked.reply h.asked.asks refl refl false (kept_entry laws d e entry h.asked.reply kept tt done refl refl (λ c. refl) same footing) (λ b. tt)
       (λ vain. noted d.desk.now (notes.PolicyRefused h.line h.column h.kind) h.asked.reply e.desk.now done))
-
-  pub renews_stand : {E : Type 0} (r : Result Bool E) (text : List ℕ) → IfOk r (λ accepted. Renews accepted text d.desk e.desk) → StandsBy r (AsksToRenew text d e) d e
-  renews_stand r text h =
-      let Said = AsksToRenew text d e in
-      stands_by r Said d e (IfOk-weaker r (λ accepted. Renews accepted text d.desk e.desk) (λ accepted. Stands accepted Said d e) (renewed text) h)
 
   pub rules_stand : (switch : ℕ) → Asked (entries.ReadRules switch) d.desk e.desk → Stands false (AsksFor (entries.ReadRules switch) d e) d e
   rules_stand switch h =

@@ -1,6 +1,5 @@
 -- What is done of an order, ahead of what that brings about.
-use Rattle.std.specs.Prelude.{◌≡◌, ◌⊎◌, ℕ, Bool, true, false, List, [], ◌∷◌, Some}
-use Rattle.std.specs.List.{slice_get}
+use Rattle.std.specs.Prelude.{◌≡◌, ◌⊎◌, ℕ, List, [], ◌∷◌}
 use Rattle.maple_base.specs.declared.device.Seen.{Seen}
 use Rattle.device_port.specs.Devices.{Meaning}
 use Rattle.device_port.specs.Devices.Call.{Looking}
@@ -17,31 +16,17 @@ use Rattle.sim_steps.specs.Deeds.{Event}
 use Rattle.sim_steps.specs.Deeds.Deed.{Calls}
 use Rattle.sim_steps.specs.Stretches.{Obeyed, Stretch}
 use Rattle.sim_channels.specs.Channels.{Fits, IsKept, bench}
-use Rattle.sim_channels.specs.declared.channel.Channel.{Channel}
-use Rattle.sim_channels.specs.declared.channel.Plugging.{Plugging}
-use Rattle.sim_channels.specs.declared.channel.Plugging.TheVariants.{Left, Plugged, Unplugged}
 use Rattle.sim_channels.specs.declared.driver.Driver.{Driver}
-use Rattle.sim_channels.specs.Waiting.{StaysBut}
+use Rattle.sim_channels.specs.Waiting.{NoneWaits, StaysBut}
 use Rattle.sim_channels.specs.Hearing.{KeepsChannels}
 use Rattle.sim_turns.specs.Turning.{IsAsked}
-
--- the device with this index was never plugged in
-pub record IsUnplugged (at : ℕ) (driver : Driver) : Type 0 where
-  pub channel : Channel
-  pub there : slice_get driver.channels.items at ≡ Some channel
-  pub unplugged : channel.stage ≡ Unplugged
-
--- the stage where a session was to be opened, by whether it ended at once
-abbrev pub stage_behind : Bool → Plugging
-stage_behind true = Left
-stage_behind false = Plugged
 
 -- at one place a session was opened or ended, and all others are as they were
 pub record IsChanged (at : ℕ) (old new : Driver) : Type 0 where
   pub kept : IsKept new
   pub stays : StaysBut at old new
   pub channels : KeepsChannels at old new
-  pub jobs : old.desk.now.jobs ≡ [] → new.desk.now.jobs ≡ []
+  pub jobs : NoneWaits old.desk → NoneWaits new.desk
 
 -- an entry alone was asked for
 abbrev pub AsksFor : Entry → Driver → Driver → Type 0

@@ -11,8 +11,9 @@ ghost use Rattle.sim_commands.specs.Commands.{Looked, ObeyedBy};
 use crate::places::index_of;
 use core_machine::Note;
 use device_port::Device;
+use machine_desk::Stage;
 use maple_base::Bytes;
-use sim_channels::{Driver, Plugging, Stopped, driving_laws};
+use sim_channels::{Driver, Stopped, driving_laws};
 use sim_turns::attend::attend;
 use sim_turns::note;
 use std::sync::Wait;
@@ -42,7 +43,7 @@ pub(crate) fn arrive<R: Wait, D: Device>(
 {
     let at = index_of(place);
     match driver.stage(at) {
-        Plugging::Plugged => {
+        Stage::Live => {
             look(rt, driver, devices, at, port, frame)?;
             attend(rt, driver, devices, at)
         }

@@ -51,7 +51,7 @@ fn update_network<R: Wait>(rt: &R, driver: &mut Driver<'_>, update: Update) -> R
     ensures footing { driver.new.desk.footing ≡ driver.old.desk.footing }
 {
     driving_laws();
-    driver.change(rt, update)
+    Ok(driver.change(rt, update)?)
 }
 
 /// The policy of a text is put in force, and what the machine has for devices then is given to them.
@@ -91,7 +91,7 @@ fn renew_policy<R: Wait>(rt: &R, driver: &mut Driver<'_>, text: &[u8]) -> Result
     ensures footing { driver.new.desk.footing ≡ driver.old.desk.footing }
 {
     driving_laws();
-    driver.renew(rt, text)
+    Ok(driver.renew(rt, text)?)
 }
 
 /// The rules of a switch are listed.
@@ -112,5 +112,5 @@ pub(crate) fn list_rules<R: Wait>(
     ensures footing { driver.new.desk.footing ≡ driver.old.desk.footing }
 {
     driving_laws();
-    driver.list_rules(rt, switch)
+    Ok(driver.list_rules(rt, switch)?)
 }

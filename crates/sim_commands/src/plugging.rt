@@ -1,20 +1,21 @@
 // Devices are plugged in and taken out.
 ghost use Rattle.std.specs.Prelude.{◌≡◌, ◌+◌, false, map, length, OnOk};
+ghost use Rattle.machine_desk.specs.declared.inbound.Stage.TheVariants.{Live, Unopened};
 ghost use Rattle.machine_steps.specs.declared.entry.Entry.TheVariants as entries;
-ghost use Rattle.machine_moves.specs.Told.{is_end};
 ghost use Rattle.script_text.specs.Orders.{Order};
 ghost use Rattle.script_text.specs.Steps.{IsAmong};
 ghost use Rattle.sim_channels.specs.Channels.{Fits, IsKept};
-ghost use Rattle.sim_channels.specs.Delivering.{IsPluggedIn};
+ghost use Rattle.sim_channels.specs.Staging.{HasStage};
 ghost use Rattle.sim_channels.specs.Waiting.{IsAtRest, IsHeard, IsOffered};
 ghost use Rattle.sim_turns.specs.Turning.{FitsStill};
-ghost use Rattle.sim_commands.specs.Commands.{AsksFor, IsChanged, IsUnplugged, ObeyedBy, ObeyedOver, stage_behind};
+ghost use Rattle.sim_commands.specs.Commands.{AsksFor, IsChanged, ObeyedBy, ObeyedOver};
 
 use crate::places::index_of;
-use core_machine::{Entry, Note, Reply};
+use core_machine::Note;
 use device_port::Device;
-use sim_channels::{Driver, Plugging, Stopped, driving_laws};
-use sim_turns::{ask, note};
+use machine_desk::Stage;
+use sim_channels::{Driver, Stopped, driving_laws};
+use sim_turns::note;
 use std::sync::Wait;
 
 /// A session is opened for the device at a place, and what the machine has for it then is given to it.
@@ -40,10 +41,10 @@ pub(crate) fn plug<R: Wait, D: Device>(
     driving_laws();
     let at = index_of(place);
     match driver.stage(at) {
-        Plugging::Plugged => note(rt, driver, Note::Present(place)),
-        Plugging::Left => note(rt, driver, Note::GoneAlready(place)),
-        Plugging::Unplugged => {
-            open(rt, driver, at, place)?;
+        Stage::Live => note(rt, driver, Note::Present(place)),
+        Stage::Over => note(rt, driver, Note::GoneAlready(place)),
+        Stage::Unopened => {
+            open(rt, driver, at)?;
             driver.deliver(rt, devices, at)
         }
     }
@@ -65,58 +66,36 @@ pub(crate) fn unplug<R: Wait>(rt: &R, driver: &mut Driver<'_>, place: u32) -> Re
 {
     let at = index_of(place);
     match driver.stage(at) {
-        Plugging::Plugged => close(rt, driver, at, place),
+        Stage::Live => close(rt, driver, at),
         _ => note(rt, driver, Note::Absent(place)),
     }
 }
 
 // A session is opened for the device with this index; in vain it is left.
-fn open<R: Wait>(rt: &R, driver: &mut Driver<'_>, at: usize, place: u32) -> Result<(), Stopped>
+fn open<R: Wait>(rt: &R, driver: &mut Driver<'_>, at: usize) -> Result<(), Stopped>
     requires kept { IsKept driver.old }
     requires rest { IsAtRest driver.old }
-    requires unplugged { IsUnplugged at driver.old }
-    requires place { place ≡ at + 1 }
+    requires unopened { HasStage at Unopened driver.old }
     ensures changes { OnOk result (IsChanged at driver.old driver.new) }
-    ensures asked { OnOk result (AsksFor (entries.Open place) driver.old driver.new) }
+    ensures asked { OnOk result (AsksFor (entries.Open (at + 1)) driver.old driver.new) }
     ensures offered { OnOk result (IsOffered at driver.new) }
     ensures heard { OnOk result (IsHeard at driver.new) }
     ensures footing { driver.new.desk.footing ≡ driver.old.desk.footing }
 {
     driving_laws();
-    let reply = ask(rt, driver, Entry::Open(place))?;
-    driver.set_stage(at, stage_behind(&reply));
-    Ok(())
-}
-
-fn stage_behind(reply: &Reply) -> Plugging
-    ensures { result ≡ stage_behind (is_end reply.now) }
-{
-    match reply {
-        Reply::Ended(_) => Plugging::Left,
-        _ => Plugging::Plugged,
-    }
+    driver.open(rt, at)
 }
 
 // The session of the device with this index ends.
-fn close<R: Wait>(rt: &R, driver: &mut Driver<'_>, at: usize, place: u32) -> Result<(), Stopped>
+fn close<R: Wait>(rt: &R, driver: &mut Driver<'_>, at: usize) -> Result<(), Stopped>
     requires kept { IsKept driver.old }
     requires rest { IsAtRest driver.old }
-    requires plugged { IsPluggedIn at driver.old }
-    requires place { place ≡ at + 1 }
+    requires live { HasStage at Live driver.old }
     ensures changes { OnOk result (IsChanged at driver.old driver.new) }
-    ensures asked { OnOk result (AsksFor (entries.Gone place false) driver.old driver.new) }
+    ensures asked { OnOk result (AsksFor (entries.Gone (at + 1) false) driver.old driver.new) }
     ensures rest { OnOk result (IsAtRest driver.new) }
     ensures footing { driver.new.desk.footing ≡ driver.old.desk.footing }
 {
     driving_laws();
-    ask(
-        rt,
-        driver,
-        Entry::Gone {
-            connection: place,
-            fault: false,
-        },
-    )?;
-    driver.set_stage(at, Plugging::Left);
-    Ok(())
+    driver.close(rt, at, false)
 }

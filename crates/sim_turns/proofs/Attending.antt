@@ -1,19 +1,23 @@
 -- What is known behind all that came from a place, and behind a delivery then.
-use Rattle.std.proofs.Common.{◌≡◌, ℕ, List, [], length, get_or, refl, sym, ◌∙◌, subst, ⊎_elim, arith}
+use Rattle.std.proofs.Common.{◌≡◌, ℕ, ◌+◌, true, List, [], length, get_or, refl, sym, ap, ◌∙◌, subst, ⊎_elim, arith}
 use Rattle.std.specs.Prelude.{Some, Result, Ok, Err, OnOk}
 use Rattle.std.specs.List.{slice_get}
 use Rattle.std.proofs.lemmas.Bool.{cases_eq}
 use Rattle.std.proofs.lemmas.Option.{slice_get-get_or, slice_get_within}
 use Rattle.device_port.specs.Devices.{Meaning}
+use Rattle.machine_desk.specs.Desks.{DeskView}
+use Rattle.world_steps.specs.Worlds.{messages_for}
+use Rattle.sim_steps.specs.Benches.{is_plugged}
 use Rattle.sim_steps.specs.Parts.{IsHeardOut}
 use Rattle.sim_channels.specs.declared.channel.Channel.{Channel}
 use Rattle.sim_channels.specs.declared.driver.Driver.{Driver}
 use Rattle.sim_channels.specs.Channels.{Fits, IsKept}
 use Rattle.sim_channels.specs.Driving.{DrivingLaws}
-use Rattle.sim_channels.specs.Waiting.{IsAtRest, IsAtRestBut, IsHeard, IsHeardThrough, IsOffered, IsTaken, StaysBut, WhilePlugged}
+use Rattle.sim_channels.specs.Waiting.{IsAtRest, IsAtRestBut, IsHeard, IsHeardThrough, IsOffered, IsTaken, NoneWaits, StaysBut, WhilePlugged}
 use Rattle.sim_channels.specs.Hearing.{KeepsChannels}
 use Rattle.sim_channels.proofs.Delivered.{stays_so, taken_stays}
-use Rattle.sim_channels.proofs.Kept.{waiting_but}
+use Rattle.sim_channels.proofs.Kept.{plugged_at, waiting_but}
+use Rattle.sim_channels.proofs.Resting.{plugged_by}
 
 module _ (here : ℕ) (old mid : Driver) (ds : List Meaning) (fits : Fits old ds) (kept : IsKept mid) (keeps : KeepsChannels here old mid) where
   pub fits_still : Fits mid ds
@@ -30,17 +34,27 @@ module _ (here : ℕ) (old mid : Driver) (ds : List Meaning) (fits : Fits old ds
   everywhere : (P : Channel → Type 0) → ((n : ℕ) → (n ≡ here → ⊥) → WhilePlugged P n old) → WhilePlugged P here mid → (n : ℕ) → WhilePlugged P n mid
   everywhere P was now n = ⊎_elim (λ e. subst (λ m. WhilePlugged P m mid) (sym e) now) (λ o. λ k there plugged. was n o k (sym (keeps.others n o) ∙ there) plugged) (cases_eq n here)
 
-  module _ (rest : IsAtRestBut here old) (jobs : mid.desk.now.jobs ≡ []) (heard : IsHeard here mid) (offered : IsOffered here mid) where
+  module _ (rest : IsAtRestBut here old) (jobs : NoneWaits mid.desk) (heard : IsHeard here mid) (offered : IsOffered here mid) where
     pub heard_through : IsHeardThrough mid
     heard_through = record {
       jobs = jobs;
       offered = everywhere (λ k. k.to ≡ []) (λ n o. rest.offered n) offered;
-      heard = everywhere (λ k. IsHeardOut k.from.stream) rest.heard heard;
+      heard = everywhere (λ k. IsHeardOut k.inbound.from.stream) rest.heard heard;
     }
+
+    -- where the desk is as it was, the machine has no message more for any device
+    pub rests_still : mid.desk ≡ old.desk → IsAtRest mid
+    rests_still desk = record { jobs = jobs; taken = taken; offered = heard_through.offered; heard = heard_through.heard }
+      where
+        taken : (n : ℕ) → IsTaken n mid
+        taken n k there plugged =
+            let open_now : is_plugged (n + 1) old.desk.now ≡ true = ap (λ (d : DeskView). is_plugged (n + 1) d.now) (sym desk) ∙ plugged_at mid n k kept there plugged in
+            let h = plugged_by old (n + 1) fits.kept open_now in
+            ap (λ (d : DeskView). messages_for (n + 1) d.now) desk ∙ ap (λ m. messages_for m old.desk.now) h.place ∙ rest.taken h.at h.channel h.there h.plugged
 
     -- where all other places stay as they are, what was taken out at one is enough
     module _ (laws : DrivingLaws) (stays : StaysBut here old mid) (new : Driver) (es : List Meaning) (fits_now : Fits new es) (taken : IsTaken here new) (offered_now : IsOffered here new)
-        (heard_now : IsHeard here mid → IsHeard here new) (others : StaysBut here mid new) (jobs_now : mid.desk.now.jobs ≡ [] → new.desk.now.jobs ≡ []) where
+        (heard_now : IsHeard here mid → IsHeard here new) (others : StaysBut here mid new) (jobs_now : NoneWaits mid.desk → NoneWaits new.desk) where
       both : StaysBut here old new
       both = record { sessions = λ c o. others.sessions c o ∙ stays.sessions c o; channels = λ n o. others.channels n o ∙ stays.channels n o }
 
@@ -50,9 +64,9 @@ module _ (here : ℕ) (old mid : Driver) (ds : List Meaning) (fits : Fits old ds
       pub at_rest : IsAtRest new
       at_rest = record {
         jobs = jobs_now jobs;
-        taken = at_place IsTaken taken (λ n o. taken_stays here old new both n o laws ds es fits fits_now (rest.taken n o));
+        taken = at_place IsTaken taken (λ n o. taken_stays here old new both n o laws ds es fits fits_now (rest.taken n));
         offered = at_place IsOffered offered_now (λ n o. stays_so here old new both n o (λ k. k.to ≡ []) (rest.offered n));
-        heard = at_place IsHeard (heard_now heard) (λ n o. stays_so here old new both n o (λ k. IsHeardOut k.from.stream) (rest.heard n o));
+        heard = at_place IsHeard (heard_now heard) (λ n o. stays_so here old new both n o (λ k. IsHeardOut k.inbound.from.stream) (rest.heard n o));
       }
 
 -- six facts of one result give another

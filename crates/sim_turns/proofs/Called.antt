@@ -83,7 +83,7 @@ module _ (at : ℕ) (turned : Turned) (bytes : List ℕ) (old : Driver) (before 
   abbrev pub turned_bench : DeskView → Channel → Bench
   turned_bench desk l = record { past = desk.past; machine = desk.now; slots = slots_of (set old.channels.items at l) (set before at turns.behind) }
 
-  pub calls_at : (desk : DeskView) (l : Channel) (reply : Reply) → l.to ≡ waits.channel.to → l.from.stream ≡ fed bytes waits.channel.from.stream
+  pub calls_at : (desk : DeskView) (l : Channel) (reply : Reply) → l.to ≡ waits.channel.to → l.inbound.from.stream ≡ fed bytes waits.channel.inbound.from.stream
       → EntersAlone (entries.Note (notes.Turned (at + 1) turned)) reply old.desk desk → CallsAt (at + 1) (Turning turned bytes) reply (bench old before) (turned_bench desk l)
   calls_at desk l reply to from enters = record {
     plugged = (fits.kept.stages at waits.channel waits.there).plugged ∙ ap is_plugged_in waits.plugged;

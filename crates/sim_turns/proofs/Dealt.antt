@@ -13,17 +13,18 @@ use Rattle.machine_desk.specs.Desks.{DeskView}
 use Rattle.machine_steps.specs.declared.entry.Entry.{Entry}
 use Rattle.machine_steps.specs.declared.entry.Entry.TheVariants as entries
 use Rattle.machine_steps.specs.declared.note.Note.TheVariants as notes
+use Rattle.machine_steps.specs.Machine.{session_at}
 use Rattle.sim_steps.specs.Benches.{Bench}
 use Rattle.sim_steps.specs.Stretches.{Stretch}
 use Rattle.sim_steps.proofs.Moments.{called, stretch_call}
 use Rattle.sim_channels.specs.Channels.{EntersAlone, Fits, IsKept, bench, is_plugged_in, slots_of}
 use Rattle.sim_channels.specs.Driving.{DrivingLaws}
-use Rattle.sim_channels.specs.Waiting.{IsAtRest, IsAtRestBut, IsOffered, StaysBut}
+use Rattle.sim_channels.specs.Waiting.{IsAtRest, IsAtRestBut, IsOffered, IsTaken as IsTakenOut, StaysBut}
 use Rattle.sim_channels.specs.declared.channel.Channel.{Channel}
 use Rattle.sim_channels.specs.declared.driver.Driver.{Driver}
 use Rattle.sim_channels.specs.Turns.{Appends, ChannelMoves, Waits}
-use Rattle.sim_channels.proofs.Keeping.{session_same}
-use Rattle.sim_channels.proofs.Kept.{ChannelAt, channel_at, is_as_long, is_beside, is_there, kept_channel, not_fresh, waiting_but}
+use Rattle.sim_channels.proofs.Keeping.{messages_same, session_same}
+use Rattle.sim_channels.proofs.Kept.{ChannelAt, channel_at, is_as_long, is_beside, is_there, kept_channel, not_fresh, plugged_at, waiting_but}
 use Rattle.sim_channels.proofs.Slots.{set_beside, set_there}
 use Rattle.sim_channels.proofs.Resting.{rest_is_still}
 use Rattle.sim_turns.specs.Taking.{IsTaken, IsTold, NotesTurn, Tires, ToldOver, TurnsAt}
@@ -73,9 +74,13 @@ module _ (laws : DrivingLaws) (at : ℕ) (turned : Turned) (bytes : List ℕ) (o
   kept_behind = kept_channel laws old new Telling note.reply kept tt noted.steps refl refl (λ c. refl) at K L at_channel changes.stage
       (not_fresh L (changes.stage ∙ waits.plugged))
 
+  -- the machine has no message more for any device
+  sessions_stay : (c : ℕ) → session_at c new.desk.now ≡ session_at c old.desk.now
+  sessions_stay c = session_same laws old.desk.now Telling note.reply new.desk.now kept.reached noted.steps refl c refl
+
   others_stay : StaysBut at old new
   others_stay = record {
-    sessions = λ c o. session_same laws old.desk.now Telling note.reply new.desk.now kept.reached noted.steps refl c refl;
+    sessions = λ c o. sessions_stay c;
     channels = λ n o. is_beside at K L old new at_channel n o;
   }
 
@@ -84,17 +89,22 @@ module _ (laws : DrivingLaws) (at : ℕ) (turned : Turned) (bytes : List ℕ) (o
       let is : L ≡ x = same_Some L x (sym (is_there at K L old new at_channel) ∙ there) in
       ap (λ (y : Channel). y.to) (sym is) ∙ changes.to ∙ rest.offered at K waits.there waits.plugged
 
+  taken_out : IsTakenOut at new
+  taken_out x there plugged =
+      messages_same laws (at + 1) old.desk.now new.desk.now kept.reached kept_behind.reached (plugged_at old at K kept waits.there waits.plugged) (sessions_stay (at + 1))
+      ∙ rest.taken at K waits.there waits.plugged
+
   pub dealt_rest : IsAtRestBut at new
   dealt_rest =
-      rests_but laws at old new kept kept_behind rest others_stay (laws.none old.desk.now Telling note.reply new.desk.now rest.jobs refl noted.steps) offered
+      rests_but laws at old new kept kept_behind rest others_stay (laws.none old.desk.now Telling note.reply new.desk.now rest.jobs refl noted.steps) taken_out offered
 
   none_opens : NoneOpens old.channels.items new.channels.items
   none_opens n x y e f open_now =
       ⊎_elim (λ here.
       (let is : L ≡ y = same_Some L y (sym (is_there at K L old new at_channel) ∙ ap (slice_get new.channels.items) (sym here) ∙ f) in
       let first : K ≡ x = same_Some K x (sym waits.there ∙ ap (slice_get old.channels.items) (sym here) ∙ e) in
-      ap (λ (z : Channel). is_plugged_in z.stage) (sym first) ∙ ap is_plugged_in (sym changes.stage) ∙ ap (λ (z : Channel). is_plugged_in z.stage) is ∙ open_now))
-      (λ o. (let is : x ≡ y = same_Some x y (sym e ∙ sym (is_beside at K L old new at_channel n o) ∙ f) in ap (λ (z : Channel). is_plugged_in z.stage) is ∙ open_now)) (cases_eq n at)
+      ap (λ (z : Channel). is_plugged_in z.inbound.stage) (sym first) ∙ ap is_plugged_in (sym changes.stage) ∙ ap (λ (z : Channel). is_plugged_in z.inbound.stage) is ∙ open_now))
+      (λ o. (let is : x ≡ y = same_Some x y (sym e ∙ sym (is_beside at K L old new at_channel n o) ∙ f) in ap (λ (z : Channel). is_plugged_in z.inbound.stage) is ∙ open_now)) (cases_eq n at)
 
   pub dealt_tires : Tires turned old new
   dealt_tires =

@@ -1,13 +1,12 @@
 -- An entry that a script asks for is an event at a bench at rest.
-use Rattle.std.proofs.Common.{◌≡◌, true, false, List, [], ◌∷◌, ◌++◌, append-nil, length, refl, sym, ap, ◌∙◌, subst, arith}
+use Rattle.std.proofs.Common.{◌≡◌, true, false, List, [], length, refl, sym, ap, subst, arith}
 use Rattle.device_port.specs.Devices.{Meaning}
 use Rattle.machine_steps.specs.declared.entry.Entry.{Entry}
 use Rattle.machine_steps.specs.declared.entry.Entry.TheVariants as entries
 use Rattle.machine_steps.specs.declared.reply.Reply.{Reply}
-use Rattle.machine_steps.specs.declared.reply.Reply.TheVariants.{NoMemory, Overload}
+use Rattle.machine_steps.specs.declared.reply.Reply.TheVariants.{Overload}
 use Rattle.machine_steps.specs.Admitting.{Admits}
 use Rattle.machine_steps.specs.Effects.{tells_packet}
-use Rattle.machine_steps.specs.Histories.{Leads, Turn}
 use Rattle.machine_steps.specs.Machine.{State}
 use Rattle.machine_steps.specs.Steps.{Steps}
 use Rattle.machine_steps.proofs.Changes.{JobsBy, changes}
@@ -15,18 +14,15 @@ use Rattle.machine_steps.proofs.Changes.JobsBy.{Left, AreMany, Added}
 use Rattle.machine_desk.specs.Orders.{Asks}
 use Rattle.world_steps.specs.Worlds.{lacks_memory}
 use Rattle.sim_steps.specs.Benches.{Slot}
-use Rattle.sim_steps.specs.Deeds.{EntersAt, IsSmooth, MayEnter, SlotsBehind, turn_by}
+use Rattle.sim_steps.specs.Deeds.{EntersAt, IsSmooth, MayEnter, SlotsBehind}
 use Rattle.sim_steps.specs.Parts.{asks}
 use Rattle.sim_steps.proofs.Moments.{entered, stretch_entry}
 use Rattle.sim_channels.specs.Channels.{EntersAlone, IsAlone, bench, slots_of}
 use Rattle.sim_channels.specs.Waiting.{IsAtRest}
 use Rattle.sim_channels.specs.declared.driver.Driver.{Driver}
+use Rattle.sim_channels.proofs.Alone.{admits_alone, enters_alone, had_memory}
 use Rattle.sim_channels.proofs.Resting.{rest_is_still}
 use Rattle.sim_turns.specs.Turning.{AskedOver}
-
-pub had_memory : (r : Reply) → (r ≡ NoMemory → ⊥) → lacks_memory r ≡ false
-had_memory NoMemory other = absurd (other refl)
-had_memory reply other = refl
 
 -- ---- what is replied while no packet waits
 
@@ -71,24 +67,8 @@ module _ (entry : Entry) (reply : Reply) (old new : Driver) (rest : IsAtRest old
 
 -- ---- what was asked at the desk, where nobody else has a part of the machine
 
-module _ (entry : Entry) (reply : Reply) (old new : Driver) (alone : IsAlone old) (h : Asks entry reply old.desk new.desk) where
-  none_between : h.enters.others ≡ []
-  none_between = h.enters.alone alone
-
-  same_machine : h.enters.between ≡ old.desk.now
-  same_machine = subst (λ (ts : List Turn). Leads old.desk.now ts h.enters.between) none_between h.enters.meanwhile
-
-  pub alone_of_asks : EntersAlone entry reply old.desk new.desk
-  alone_of_asks = record {
-    steps = subst (λ (m : State). Steps m entry reply new.desk.now) same_machine h.enters.made.steps;
-    past =
-        h.enters.past
-        ∙ ap (λ (ts : List Turn). (old.desk.past ++ ts) ++ turn_by h.enters.between entry reply new.desk.now ∷ []) none_between
-        ∙ ap (λ (ts : List Turn). ts ++ turn_by h.enters.between entry reply new.desk.now ∷ []) (append-nil old.desk.past)
-        ∙ ap (λ (m : State). old.desk.past ++ turn_by m entry reply new.desk.now ∷ []) same_machine;
-  }
-
-  pub asked_over_of_asks : IsAtRest old → asks entry ≡ true → new ≡ record old { desk = new.desk } → AskedOver entry reply old new
-  asked_over_of_asks rest asked same =
-      let admitted = subst (λ (m : State). Admits m entry) same_machine h.enters.made.admitted in
-      asked_over entry reply old new rest asked admitted alone_of_asks same (had_memory reply h.memory)
+pub asked_over_of_asks : (entry : Entry) (reply : Reply) (old new : Driver) → IsAlone old → Asks entry reply old.desk new.desk → IsAtRest old → asks entry ≡ true
+    → new ≡ record old { desk = new.desk } → AskedOver entry reply old new
+asked_over_of_asks entry reply old new alone h rest asked same =
+    asked_over entry reply old new rest asked
+    (admits_alone old.desk new.desk entry reply alone h.enters) (enters_alone old.desk new.desk entry reply alone h.enters) same (had_memory reply h.memory)

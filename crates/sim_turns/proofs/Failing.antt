@@ -10,6 +10,7 @@ use Rattle.of10_stream.specs.Steps.{fed}
 use Rattle.device_port.specs.Devices.{Meaning, Turns}
 use Rattle.device_port.specs.Devices.Call.{Turning}
 use Rattle.machine_steps.specs.declared.note.Note.TheVariants as notes
+use Rattle.world_steps.specs.Worlds.{messages_for}
 use Rattle.sim_steps.specs.Benches.{Bench}
 use Rattle.sim_steps.specs.Deeds.{CallsAt, has_failed}
 use Rattle.sim_steps.specs.Parts.{has_dealt}
@@ -55,15 +56,17 @@ module _ (laws : DrivingLaws) (at : ℕ) (turned : Turned) (bytes : List ℕ) (o
   -- ---- behind the session's end
 
   pub failed_rest : IsAtRestBut at new
-  failed_rest = rests_but laws at mid new kept_told leaves.kept rest_told leaves.spares.others (leaves.spares.jobs rest_told.jobs) (all_left (λ k. k.to ≡ []) at new leaves.left)
+  failed_rest =
+      rests_but laws at mid new kept_told leaves.kept rest_told leaves.spares.others (leaves.spares.jobs rest_told.jobs)
+      (all_left (λ k. messages_for (at + 1) new.desk.now ≡ []) at new leaves.left) (all_left (λ k. k.to ≡ []) at new leaves.left)
 
-  left_shut : (y : Channel) → slice_get new.channels.items at ≡ Some y → is_plugged_in y.stage ≡ false
+  left_shut : (y : Channel) → slice_get new.channels.items at ≡ Some y → is_plugged_in y.inbound.stage ≡ false
   left_shut y there = ap is_plugged_in (leaves.left y there)
 
   none_opens : NoneOpens mid.channels.items new.channels.items
   none_opens n x y e f open_now =
       ⊎_elim (λ here. (let g : true ≡ false = sym open_now ∙ left_shut y (ap (slice_get new.channels.items) (sym here) ∙ f) in absurd (cc)))
-      (λ o. (let is : x ≡ y = same_Some x y (sym e ∙ sym (leaves.spares.others.channels n o) ∙ f) in ap (λ (z : Channel). is_plugged_in z.stage) is ∙ open_now)) (cases_eq n at)
+      (λ o. (let is : x ≡ y = same_Some x y (sym e ∙ sym (leaves.spares.others.channels n o) ∙ f) in ap (λ (z : Channel). is_plugged_in z.inbound.stage) is ∙ open_now)) (cases_eq n at)
 
   pub failed_tires : Tires turned old new
   failed_tires =
@@ -95,8 +98,8 @@ module _ (laws : DrivingLaws) (at : ℕ) (turned : Turned) (bytes : List ℕ) (o
       waiting = waiting_but mid new before behind at fits_told leaves.spares.others.channels (devices_beside at turned bytes before behind turns) here;
     }
 
-    nothing_fed : K.from.stream ≡ fed bytes K.from.stream
-    nothing_fed = sym (ap (λ bs. fed bs K.from.stream) fails.1 ∙ fed_nothing K.from.stream)
+    nothing_fed : K.inbound.from.stream ≡ fed bytes K.inbound.from.stream
+    nothing_fed = sym (ap (λ bs. fed bs K.inbound.from.stream) fails.1 ∙ fed_nothing K.inbound.from.stream)
 
     bench_is : turned_bench at turned bytes old before behind fits turns waits taken mid.desk K ≡ bench mid behind
     bench_is = λ i. record { past = mid.desk.past; machine = mid.desk.now; slots = slots_of ((set_same old.channels.items at K waits.there ∙ sym channels_same) i) (sym turns.set_is i) }

@@ -1,19 +1,21 @@
 -- What is known behind several messages, one after the other.
-use Rattle.std.proofs.Common.{◌≡◌, ℕ, Bool, false, [], get_or, refl, sym, ap, ◌∙◌, arith}
-use Rattle.std.specs.Prelude.{Some, Result, Ok}
+use Rattle.std.proofs.Common.{◌≡◌, ℕ, Bool, true, false, get_or, refl, sym, ap, ◌∙◌, arith}
+use Rattle.std.specs.Prelude.{Some}
 use Rattle.std.specs.List.{slice_get}
 use Rattle.std.proofs.lemmas.Option.{same_Some, slice_get_within, slice_get-get_or}
 use Rattle.sim_steps.proofs.Joining.{carried_none, carried_then}
 use Rattle.sim_channels.specs.declared.channel.Channel.{Channel}
 use Rattle.sim_channels.specs.declared.driver.Driver.{Driver}
-use Rattle.sim_channels.specs.declared.stopped.Stopped.{Stopped}
 use Rattle.sim_channels.specs.Channels.{IsKept, bench}
-use Rattle.sim_channels.specs.Waiting.{IsOffered, StaysBut}
+use Rattle.sim_channels.specs.Waiting.{IsOffered, NoneWaits, StaysBut}
 use Rattle.sim_channels.specs.Hearing.{KeepsChannels}
 use Rattle.sim_channels.specs.Passes.{HasHeard, Passed, is_state}
 use Rattle.sim_channels.specs.declared.hear.Came.{Came}
+use Rattle.sim_channels.specs.declared.hear.Came.TheVariants.{Nothing, State}
+use Rattle.sim_turns.specs.declared.hear.Reach.{Reach}
+use Rattle.sim_turns.specs.declared.hear.Reach.TheVariants.{Anybody, Itself, Nobody}
 
-heard_none : (here : ℕ) (made : Bool) (driver : Driver) → IsKept driver → driver.desk.now.jobs ≡ [] → IsOffered here driver → HasHeard here made driver driver
+heard_none : (here : ℕ) (made : Bool) (driver : Driver) → IsKept driver → NoneWaits driver.desk → IsOffered here driver → HasHeard here made driver driver
 heard_none here made driver kept none offered = record {
   kept = kept;
   carried = λ ds long. carried_none (bench driver ds);
@@ -53,20 +55,67 @@ heard_then here first second made a b d by h k = record {
   learning = k.learning ∙ h.learning;
 }
 
+-- ---- whom it reaches
+
+abbrev pub reaches_all : Reach → Bool
+reaches_all Anybody = true
+reaches_all reach = false
+
+not_all : (r : Reach) → (r ≡ Anybody → ⊥) → reaches_all r ≡ false
+not_all Nobody other = refl
+not_all Itself other = refl
+not_all Anybody other = absurd (other refl)
+
+none_made : (reach next : Reach) (made : Bool) → (next ≡ Nobody → ⊥) → (next ≡ Itself → (reach ≡ Anybody → ⊥) × (made ≡ false)) → reaches_all next ≡ false
+    → (reaches_all reach ≡ false) × (made ≡ false)
+none_made reach Nobody made some itself e = absurd (some refl)
+none_made reach Itself made some itself e = (let by = itself refl in (not_all reach by.0, by.1))
+none_made reach Anybody made some itself e = absurd (cc)
+
+all_some : Anybody ≡ Nobody → ⊥
+all_some e = cc
+
+all_others : Anybody ≡ Itself → ⊥
+all_others e = cc
+
 -- what the loop over them knows
-pub record HearsOn (here : ℕ) (reaches : Bool) (old now : Driver) : Type 0 where
-  pub heard : HasHeard here reaches old now
+pub record HearsOn (here : ℕ) (reach : Reach) (old now : Driver) : Type 0 where
+  pub heard : HasHeard here (reaches_all reach) old now
   pub footing : now.desk.footing ≡ old.desk.footing
-  pub learns : reaches ≡ false → old.desk.now.policy.learning ≡ false
+  pub nobody : reach ≡ Nobody → now.desk ≡ old.desk
+  pub learns : reach ≡ Itself → old.desk.now.policy.learning ≡ false
 
--- it tells where other places may have messages
-pub others_stay : (here : ℕ) (reaches : Bool) (old now : Driver) → HearsOn here reaches old now → ◌≡◌ {A = Result Bool Stopped} (Ok reaches) (Ok false) → StaysBut here old now
-others_stay here reaches old now h e = (let untold : reaches ≡ false = cc in h.heard.others untold (h.learns untold))
+pub others_stay : (here : ℕ) (reach : Reach) (old now : Driver) → HearsOn here reach old now → reach ≡ Itself → StaysBut here old now
+others_stay here reach old now h e = h.heard.others (ap reaches_all e) (h.learns e)
 
-pub hears_on : (here : ℕ) (reaches now : Bool) (old mid new : Driver) (came : Came) → (now ≡ false → (reaches ≡ false) × (is_state came ≡ false)) → HearsOn here reaches old mid
-    → Passed here mid new came → new.desk.footing ≡ mid.desk.footing → HearsOn here now old new
-hears_on here reaches now old mid new came by h p footing =
-    record { heard = heard_then here reaches (is_state came) now old mid new by h.heard p.0; footing = footing ∙ h.footing; learns = λ untold. h.learns (by untold).0 }
+pub hears_none : (here : ℕ) (driver : Driver) → IsKept driver → NoneWaits driver.desk → IsOffered here driver → HearsOn here Nobody driver driver
+hears_none here driver kept none offered = record {
+  heard = heard_none here false driver kept none offered;
+  footing = refl;
+  nobody = λ e. refl;
+  learns = λ e. absurd (cc);
+}
 
-pub hears_none : (here : ℕ) (driver : Driver) → IsKept driver → driver.desk.now.jobs ≡ [] → IsOffered here driver → HearsOn here driver.desk.now.policy.learning driver driver
-hears_none here driver kept none offered = record { heard = heard_none here driver.desk.now.policy.learning driver kept none offered; footing = refl; learns = λ untold. untold }
+module _ (here : ℕ) (reach : Reach) (old mid new : Driver) (h : HearsOn here reach old mid) (footing : new.desk.footing ≡ mid.desk.footing) where
+  -- nothing could be heard
+  pub hears_nothing : Passed here mid new Nothing → HearsOn here reach old new
+  hears_nothing p = record {
+    heard = heard_then here (reaches_all reach) false (reaches_all reach) old mid new (λ e. (e, refl)) h.heard p.0;
+    footing = footing ∙ h.footing;
+    nobody = λ e. p.1.1 ∙ h.nobody e;
+    learns = h.learns;
+  }
+
+  -- something was heard
+  pub hears_on : (came : Came) (next : Reach) → (next ≡ Nobody → ⊥) → (next ≡ Itself → (old.desk.now.policy.learning ≡ false) × (reach ≡ Anybody → ⊥) × (is_state came ≡ false)) → Passed here mid new came
+      → HearsOn here next old new
+  hears_on came next some itself p = record {
+    heard = heard_then here (reaches_all reach) (is_state came) (reaches_all next) old mid new (none_made reach next (is_state came) some (λ e. ((itself e).1, (itself e).2))) h.heard p.0;
+    footing = footing ∙ h.footing;
+    nobody = λ e. absurd (some e);
+    learns = λ e. (itself e).0;
+  }
+
+  -- and a state was made by it
+  pub hears_state : Passed here mid new State → HearsOn here Anybody old new
+  hears_state p = hears_on State Anybody all_some (λ e. absurd (all_others e)) p

@@ -49,7 +49,7 @@ module _ (driver : Driver) (devices : List Meaning) (fits : Fits driver devices)
   waits_by : (c : ℕ) → HasPending c (bench driver devices) → WaitsAt c driver
   waits_by c h =
       let f = slots_found driver.channels.items devices c h.slot h.is.there in
-      let staged : is_plugged (f.at + 1) driver.desk.now ≡ is_plugged_in f.channel.stage = (fits.kept.stages f.at f.channel f.there).plugged in
+      let staged : is_plugged (f.at + 1) driver.desk.now ≡ is_plugged_in f.channel.inbound.stage = (fits.kept.stages f.at f.channel f.there).plugged in
       let pending : f.device.pending ≡ [] → ⊥ = λ e. h.some (ap (λ (s : Slot). s.device.pending) f.is ∙ e) in
       let counted : f.channel.waiting ≡ length f.device.pending = fits.waiting f.at f.channel f.device f.there f.behind in
       record {
@@ -58,7 +58,7 @@ module _ (driver : Driver) (devices : List Meaning) (fits : Fits driver devices)
         waits = record {
           channel = f.channel;
           there = f.there;
-          plugged = plugged_in f.channel.stage (sym staged ∙ ap (λ n. is_plugged n driver.desk.now) (sym f.place) ∙ h.is.plugged);
+          plugged = plugged_in f.channel.inbound.stage (sym staged ∙ ap (λ n. is_plugged n driver.desk.now) (sym f.place) ∙ h.is.plugged);
           some = subst (λ n. 0 < n) (sym counted) (some_waits f.device.pending pending);
         };
       }

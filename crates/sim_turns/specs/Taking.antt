@@ -22,7 +22,7 @@ use Rattle.sim_turns.specs.Turning.{TakesOne}
 -- how many sessions are open
 abbrev pub plugged_count : List Channel → ℕ
 plugged_count [] = 0
-plugged_count (k ∷ ks) = (if is_plugged_in k.stage then 1 else 0) + plugged_count ks
+plugged_count (k ∷ ks) = (if is_plugged_in k.inbound.stage then 1 else 0) + plugged_count ks
 
 -- no session was opened, and one ended behind a turn in which no message was dealt with
 abbrev pub Tires : Turned → Driver → Driver → Type 0

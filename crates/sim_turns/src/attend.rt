@@ -4,7 +4,7 @@ ghost use Rattle.sim_steps.specs.Stretches.{Carried};
 ghost use Rattle.sim_channels.specs.Channels.{Fits, bench};
 ghost use Rattle.sim_channels.specs.Waiting.{IsAtRest, IsAtRestBut};
 
-use crate::hear::hear_all;
+use crate::hear::{Reach, hear_all};
 use device_port::Device;
 use sim_channels::{Driver, Stopped, driving_laws};
 use std::sync::Wait;
@@ -30,10 +30,9 @@ pub fn attend<R: Wait, D: Device>(
     ensures footing { driver.new.desk.footing ≡ driver.old.desk.footing }
 {
     driving_laws();
-    let reaches_others = hear_all(rt, driver, at)?;
-    if reaches_others {
-        driver.deliver_all(rt, devices)
-    } else {
-        driver.deliver(rt, devices, at)
+    match hear_all(rt, driver, at)? {
+        Reach::Nobody => Ok(()),
+        Reach::Itself => driver.deliver(rt, devices, at),
+        Reach::Anybody => driver.deliver_all(rt, devices),
     }
 }

@@ -1,39 +1,69 @@
 // What a device appended is heard.
-ghost use Rattle.std.specs.Prelude.{◌≡◌, ◌<◌, [], false, length, Ok, OnOk};
+ghost use Rattle.std.specs.Prelude.{◌≡◌, ◌≢◌, ◌<◌, false, length, Ok, OnOk};
 ghost use Rattle.sim_channels.specs.Channels.{CarriedOver, IsKept};
-ghost use Rattle.sim_channels.specs.Waiting.{IsHeard, IsOffered, StaysBut};
+ghost use Rattle.sim_channels.specs.Waiting.{IsHeard, IsOffered, NoneWaits, StaysBut};
 ghost use Rattle.sim_channels.specs.Hearing.{KeepsChannels};
+ghost use Rattle.sim_turns.specs.declared.hear.Reach.TheVariants.{Anybody, Itself, Nobody};
 
 use sim_channels::{Came, Driver, Stopped};
 use std::sync::Wait;
 
-/// All that came from the device with this index is heard, and each packet among it answered. Tells
-/// whether the machine may have messages for other places now.
+/// For which devices the machine may have messages that it had not before.
+#[derive(Clone, Copy, Debug, PartialEq, Eq)]
+pub(crate) enum Reach {
+    /// For none.
+    Nobody,
+    /// For the one that was heard.
+    Itself,
+    /// For each.
+    Anybody,
+}
+
+/// All that came from the device with this index is heard, and each packet among it answered.
 ///
 /// # Errors
 ///
 /// `Stopped`.
-pub fn hear_all<R: Wait>(rt: &R, driver: &mut Driver<'_>, at: usize) -> Result<bool, Stopped>
+pub(crate) fn hear_all<R: Wait>(
+    rt: &R,
+    driver: &mut Driver<'_>,
+    at: usize,
+) -> Result<Reach, Stopped>
     requires kept { IsKept driver.old }
     requires within { at < length driver.old.channels.items }
-    requires jobs { driver.old.desk.now.jobs ≡ [] }
+    requires jobs { NoneWaits driver.old.desk }
     requires offered { IsOffered at driver.old }
     ensures kept { OnOk result (IsKept driver.new) }
     ensures carried { OnOk result (CarriedOver driver.old driver.new) }
-    ensures jobs { OnOk result (driver.new.desk.now.jobs ≡ []) }
+    ensures jobs { OnOk result (NoneWaits driver.new.desk) }
     ensures heard { OnOk result (IsHeard at driver.new) }
     ensures offered { OnOk result (IsOffered at driver.new) }
     ensures channels { OnOk result (KeepsChannels at driver.old driver.new) }
-    ensures others { result ≡ Ok false → StaysBut at driver.old driver.new }
+    ensures nobody { result ≡ Ok Nobody → driver.new.desk ≡ driver.old.desk }
+    ensures itself { result ≡ Ok Itself → StaysBut at driver.old driver.new }
     ensures footing { driver.new.desk.footing ≡ driver.old.desk.footing }
 {
     // A packet teaches where a host is without its reply telling that this made a state.
-    let mut reaches_others = driver.learning();
+    let learning = driver.learning();
+    let mut reach = Reach::Nobody;
     loop {
         match driver.hear_next(rt, at)? {
-            Came::NoMore => return Ok(reaches_others),
-            Came::Message => {}
-            Came::State => reaches_others = true,
+            Came::Nothing => return Ok(reach),
+            Came::Ended => return Ok(further(reach, learning)),
+            Came::Message => reach = further(reach, learning),
+            Came::State => reach = Reach::Anybody,
         }
+    }
+}
+
+// The reach of what was heard, and of one message more.
+fn further(reach: Reach, learning: bool) -> Reach
+    ensures some { result ≢ Nobody }
+    ensures itself { result ≡ Itself → (learning ≡ false) × (reach ≢ Anybody) }
+{
+    if learning || reach == Reach::Anybody {
+        Reach::Anybody
+    } else {
+        Reach::Itself
     }
 }

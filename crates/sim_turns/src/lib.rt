@@ -3,7 +3,7 @@
 
 mod asking;
 pub mod attend;
-pub mod hear;
+mod hear;
 mod settling;
 mod telling;
 mod turning;

@@ -7,8 +7,8 @@ use Rattle.sim_commands.proofs.Calling.{obeyed_looked}
 use Rattle.sim_commands.proofs.Doing.{if_absent, obeyed_noted, of_ok, on_ok, others_closed, staged_there}
 use Rattle.sim_commands.proofs.arriving.arrive.Goals as goal
 
-pub returns-in_ok-look-in-Plugged-clause-obeyed : goal.returns-in_ok-look-in-Plugged-clause-obeyed
-returns-in_ok-look-in-Plugged-clause-obeyed g c =
+pub returns-in_ok-look-in-Live-clause-obeyed : goal.returns-in_ok-look-in-Live-clause-obeyed
+returns-in_ok-look-in-Live-clause-obeyed g c =
     let r = c.attend.result in
     let done = c.attend.ensures in
     let d = c.args.driver.now in
@@ -17,8 +17,8 @@ returns-in_ok-look-in-Plugged-clause-obeyed g c =
     let at = c.index_of-at.result in
     let staged = staged_there d place at c.stage.result h.fits.kept c.index_of-at.ensures c.stage.ensures in
     on_ok r (λ u e.
-    obeyed_looked d _ c.look.new.driver _ c.attend.new.driver _ place at c.args.port c.args.frame c.index_of-at.ensures (staged.plugged ∙ ap is_plugged_in c.in-Plugged.is)
-    c.in_ok-look-in-Plugged.ensures.looked (of_ok _ r u e done.carried) (of_ok _ r u e done.fits) (of_ok _ r u e done.rest))
+    obeyed_looked d _ c.look.new.driver _ c.attend.new.driver _ place at c.args.port c.args.frame c.index_of-at.ensures (staged.plugged ∙ ap is_plugged_in c.in-Live.is)
+    c.in_ok-look-in-Live.ensures.looked (of_ok _ r u e done.carried) (of_ok _ r u e done.fits) (of_ok _ r u e done.rest))
 
 pub returns-in_default-clause-obeyed : goal.returns-in_default-clause-obeyed
 returns-in_default-clause-obeyed g c =
@@ -31,5 +31,5 @@ returns-in_default-clause-obeyed g c =
     let staged = staged_there d place c.index_of-at.result c.stage.result h.fits.kept c.index_of-at.ensures c.stage.ensures in
     on_ok r (λ u e.
     obeyed_noted (Arrival place port frame) (notes.Absent place) d c.note.new.driver _
-    (λ es just. if_absent place d.desk.now (JustLooks place port frame es) (staged.plugged ∙ others_closed _ c.in_default.not-Plugged) es just) tt h.fits
+    (λ es just. if_absent place d.desk.now (JustLooks place port frame es) (staged.plugged ∙ others_closed _ c.in_default.not-Live) es just) tt h.fits
     (of_ok _ r u e c.note.ensures.asked) (of_ok _ r u e c.note.ensures.fits) (of_ok _ r u e c.note.ensures.rest))

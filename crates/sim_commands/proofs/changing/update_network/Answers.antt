@@ -1,29 +1,12 @@
-use Rattle.sim_commands.proofs.Wide.{changes_stand, operators}
+use Rattle.sim_commands.proofs.Wide.{changed, operators}
 use Rattle.sim_commands.proofs.changing.update_network.Goals as goal
 
 pub change-requires : goal.change-requires
 change-requires g c = record { operators = operators c.args.update c.requires.line }
 
-pub returns-clause-fits : goal.returns-clause-fits
-returns-clause-fits g c =
+pub returns : goal.returns
+returns g c =
     let h = c.requires in
-    let done = c.change.ensures in
-    (changes_stand c.driving_laws.ensures c.args.driver.now c.change.new.self h.kept h.rest done.rest done.footing c.change.result c.args.update h.line done.changes).fits
-
-pub returns-clause-through : goal.returns-clause-through
-returns-clause-through g c =
-    let h = c.requires in
-    let done = c.change.ensures in
-    (changes_stand c.driving_laws.ensures c.args.driver.now c.change.new.self h.kept h.rest done.rest done.footing c.change.result c.args.update h.line done.changes).through
-
-pub returns-clause-rest : goal.returns-clause-rest
-returns-clause-rest g c =
-    let h = c.requires in
-    let done = c.change.ensures in
-    (changes_stand c.driving_laws.ensures c.args.driver.now c.change.new.self h.kept h.rest done.rest done.footing c.change.result c.args.update h.line done.changes).rest
-
-pub returns-clause-asked : goal.returns-clause-asked
-returns-clause-asked g c =
-    let h = c.requires in
-    let done = c.change.ensures in
-    (changes_stand c.driving_laws.ensures c.args.driver.now c.change.new.self h.kept h.rest done.rest done.footing c.change.result c.args.update h.line done.changes).asked
+    let done = c.in_ok-change.ensures in
+    let stands = changed c.driving_laws.ensures c.args.driver.now c.change.new.self h.kept h.rest done.rest done.footing c.args.update h.line c.in_ok-change.field-0 done.changes in
+    record { fits = stands.fits; through = stands.through; rest = λ vain. stands.rest (cc); asked = stands.asked; footing = done.footing }

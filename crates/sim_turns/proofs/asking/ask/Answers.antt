@@ -1,4 +1,5 @@
-use Rattle.sim_turns.proofs.Entered.{asked_over, had_memory}
+use Rattle.sim_channels.proofs.Alone.{had_memory}
+use Rattle.sim_turns.proofs.Entered.{asked_over}
 use Rattle.sim_turns.proofs.asking.ask.Goals as goal
 
 pub returns-in_default-clause-memory : goal.returns-in_default-clause-memory

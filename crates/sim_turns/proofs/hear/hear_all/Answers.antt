@@ -1,23 +1,45 @@
-use Rattle.std.proofs.Common.{Bool, true, refl, sym, subst}
+use Rattle.std.proofs.Common.{refl, sym, subst, ◌∙◌}
 use Rattle.sim_channels.specs.Passes.{Passed}
-use Rattle.sim_channels.specs.declared.hear.Came.TheVariants.{Message, NoMore, State}
-use Rattle.sim_turns.proofs.Onward.{HearsOn, hears_none, hears_on, others_stay}
+use Rattle.sim_channels.specs.declared.hear.Came.TheVariants.{Ended, Message, Nothing}
+use Rattle.sim_turns.proofs.Onward.{hears_none, hears_nothing, hears_on, hears_state, others_stay}
 use Rattle.sim_turns.proofs.hear.hear_all.Goals as goal
 
-pub loop-reaches_others-init : goal.loop-reaches_others-init
-loop-reaches_others-init g c =
-    let old = c.args.driver.now in
-    subst (λ (b : Bool). HearsOn c.args.at b old old) (sym c.learning-reaches_others.ensures) (hears_none c.args.at old c.requires.kept c.requires.jobs c.requires.offered)
+pub loop-reach-init : goal.loop-reach-init
+loop-reach-init g c = hears_none c.args.at c.args.driver.now c.requires.kept c.requires.jobs c.requires.offered
 
-pub returns-in-NoMore : goal.returns-in-NoMore
-returns-in-NoMore g c =
+pub returns-in-Nothing : goal.returns-in-Nothing
+returns-in-Nothing g c =
     let here = c.args.at in
     let old = c.args.driver.now in
-    let mid = c.loop-reaches_others.driver in
+    let mid = c.loop-reach.driver in
     let new = c.hear_next.new.self in
-    let reaches = c.loop-reaches_others.reaches_others in
-    let passed = subst (Passed here mid new) c.in-NoMore.is c.in_ok-hear_next.ensures.passed in
-    let h = hears_on here reaches reaches old mid new NoMore (λ e. (e, refl)) c.loop-reaches_others.invariant passed c.in_ok-hear_next.ensures.footing in
+    let reach = c.loop-reach.reach in
+    let passed = subst (Passed here mid new) c.in-Nothing.is c.in_ok-hear_next.ensures.passed in
+    let h = hears_nothing here reach old mid new c.loop-reach.invariant c.in_ok-hear_next.ensures.footing passed in
+    record {
+      kept = h.heard.kept;
+      carried = h.heard.carried;
+      jobs = h.heard.jobs;
+      heard = passed.1.0;
+      offered = h.heard.offered;
+      channels = h.heard.channels;
+      nobody = λ e. h.nobody (cc);
+      itself = λ e. others_stay here reach old new h (cc);
+      footing = h.footing;
+    }
+
+pub returns-in-Ended : goal.returns-in-Ended
+returns-in-Ended g c =
+    let here = c.args.at in
+    let old = c.args.driver.now in
+    let mid = c.loop-reach.driver in
+    let new = c.hear_next.new.self in
+    let reach = c.loop-reach.reach in
+    let next = c.further.result in
+    let learns = c.learning-learning.ensures in
+    let passed = subst (Passed here mid new) c.in-Ended.is c.in_ok-hear_next.ensures.passed in
+    let h = hears_on here reach old mid new c.loop-reach.invariant c.in_ok-hear_next.ensures.footing Ended next c.further.ensures.some
+    (λ e. (let by = c.further.ensures.itself e in (sym learns ∙ by.0, by.1, refl))) passed in
     record {
       kept = h.heard.kept;
       carried = h.heard.carried;
@@ -25,21 +47,22 @@ returns-in-NoMore g c =
       heard = passed.1;
       offered = h.heard.offered;
       channels = h.heard.channels;
-      others = others_stay here reaches old new h;
+      nobody = λ e. absurd (c.further.ensures.some (cc));
+      itself = λ e. others_stay here next old new h (cc);
       footing = h.footing;
     }
 
-pub loop-reaches_others-preserved-in-Message : goal.loop-reaches_others-preserved-in-Message
-loop-reaches_others-preserved-in-Message g c =
-    let mid = c.loop-reaches_others.driver in
+pub loop-reach-preserved-in-Message : goal.loop-reach-preserved-in-Message
+loop-reach-preserved-in-Message g c =
+    let mid = c.loop-reach.driver in
     let new = c.hear_next.new.self in
-    let reaches = c.loop-reaches_others.reaches_others in
-    hears_on c.args.at reaches reaches c.args.driver.now mid new Message (λ e. (e, refl)) c.loop-reaches_others.invariant
-    (subst (Passed c.args.at mid new) c.in-Message.is c.in_ok-hear_next.ensures.passed) c.in_ok-hear_next.ensures.footing
+    hears_on c.args.at c.loop-reach.reach c.args.driver.now mid new c.loop-reach.invariant c.in_ok-hear_next.ensures.footing Message c.further-reach.result c.further-reach.ensures.some
+    (λ e. (let by = c.further-reach.ensures.itself e in (sym c.learning-learning.ensures ∙ by.0, by.1, refl)))
+    (subst (Passed c.args.at mid new) c.in-Message.is c.in_ok-hear_next.ensures.passed)
 
-pub loop-reaches_others-preserved : goal.loop-reaches_others-preserved
-loop-reaches_others-preserved g c =
-    let mid = c.loop-reaches_others.driver in
+pub loop-reach-preserved : goal.loop-reach-preserved
+loop-reach-preserved g c =
+    let mid = c.loop-reach.driver in
     let new = c.hear_next.new.self in
-    hears_on c.args.at c.loop-reaches_others.reaches_others true c.args.driver.now mid new State (λ e. absurd (cc)) c.loop-reaches_others.invariant
-    (subst (Passed c.args.at mid new) c.in-State.is c.in_ok-hear_next.ensures.passed) c.in_ok-hear_next.ensures.footing
+    hears_state c.args.at c.loop-reach.reach c.args.driver.now mid new c.loop-reach.invariant c.in_ok-hear_next.ensures.footing
+    (subst (Passed c.args.at mid new) c.in-State.is c.in_ok-hear_next.ensures.passed)
