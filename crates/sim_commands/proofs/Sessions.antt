@@ -114,8 +114,8 @@ module _ (laws : DrivingLaws) (d e : Driver) (at : ℕ) (kept : IsKept d) (footi
         (kept_left laws d e entry h.0 kept tt h.1.enters.steps refl refl at h.1.stages.channel (with_stage Over h.1.stages.channel) (at_channel laws d e at kept footing entry h.0 Over h.1) plugged refl
         (eq-eqb (at + 1) (at + 1) refl) (ends_now d.desk.now (at + 1) fault h.0 e.desk.now h.1.enters.steps (plugged_at d at h.1.stages.channel kept h.1.stages.there plugged)) beside)
 
-    pub asked_closed : IsAtRest d → AsksFor (entries.Gone (at + 1) fault) d e
-    asked_closed rest = asked_staged laws d e at kept footing (entries.Gone (at + 1) fault) h.0 Over h.1 rest refl tt (may_close d at fault live)
+    pub asked_closed : asks (entries.Gone (at + 1) fault) ≡ true → IsAtRest d → AsksFor (entries.Gone (at + 1) fault) d e
+    asked_closed can rest = asked_staged laws d e at kept footing (entries.Gone (at + 1) fault) h.0 Over h.1 rest can tt (may_close d at fault live)
 
     -- the device is left
     pub rest_left : IsAtRest d → IsAtRest e

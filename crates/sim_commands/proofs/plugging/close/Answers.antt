@@ -1,4 +1,4 @@
-use Rattle.std.proofs.Common.{false}
+use Rattle.std.proofs.Common.{false, refl}
 use Rattle.std.proofs.lemmas.Result.{on_ok_weaker}
 use Rattle.sim_commands.proofs.Sessions.{asked_closed, closed, rest_left}
 use Rattle.sim_commands.proofs.plugging.close.Goals as goal
@@ -13,7 +13,7 @@ pub returns-clause-asked : goal.returns-clause-asked
 returns-clause-asked g c =
     let h = c.requires in
     let done = c.close.ensures in
-    on_ok_weaker c.close.result (λ closes. asked_closed c.driving_laws.ensures c.args.driver.now c.close.new.self c.args.at h.kept done.footing false h.live closes h.rest) done.closes
+    on_ok_weaker c.close.result (λ closes. asked_closed c.driving_laws.ensures c.args.driver.now c.close.new.self c.args.at h.kept done.footing false h.live closes refl h.rest) done.closes
 
 pub returns-clause-rest : goal.returns-clause-rest
 returns-clause-rest g c =
