@@ -78,7 +78,7 @@ pub record AsksInVain (until : Until) (s t : Sight) : Type 0 where
   pub asks : Asks count s t
   pub more : IsFalse (is_reached until count)
 
--- where it may sleep: for room, only where the queue had no packet for it; till none waits also where workers are there, of which no clause tells
+-- where it may sleep: for room, only where the queue had no packet for it; for all, anywhere, though it is meant to sleep beside packets only where workers are
 abbrev pub MaySleep : Until → Account Waiting → Type 0
 MaySleep Room queue = IsEmptyFor queue
 MaySleep Done queue = Unit {0}
@@ -138,7 +138,7 @@ pub record StopsAsleep (until : Until) (s t : Sight) : Type 0 where
   pub asks : AsksInVain until before t
   pub sleeps : MaySleep until t.queue
 
--- by itself; or as a worker told, while it slept, that it gave up, of which nothing else is known here
+-- by itself; or it was told so of a worker: of that nothing is known here
 abbrev pub Stops : Until → Broken → Sight → Sight → Type 0
 Stops until (Own cause) s t = StopsBy until cause s t
 Stops until (Worker cause) s t = StopsAsleep until s t

@@ -86,7 +86,8 @@ impl<'a, G: Gate> Tender<'a, G> {
     }
 
     /// Waits until fewer packets wait in the machine than it takes in. The last that the driver did then was to ask. Where
-    /// the queue has a packet it works that itself; else it sleeps until a worker tells of a move.
+    /// the queue has a packet it works that itself; else it sleeps until a worker tells of a move. Meant for a lobby that
+    /// isn't closed: in a closed one nobody sleeps.
     ///
     /// # Errors
     ///
@@ -126,7 +127,8 @@ impl<'a, G: Gate> Tender<'a, G> {
     }
 
     /// Waits until no packet waits in the machine. The last that the driver did then was to ask. It works packets of the
-    /// queue itself only while no worker has announced itself; else it sleeps until one tells of a move.
+    /// queue itself only while no worker has announced itself; else it sleeps until one tells of a move. Meant for a lobby
+    /// that isn't closed.
     ///
     /// # Errors
     ///

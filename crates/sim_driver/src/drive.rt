@@ -3,8 +3,7 @@ ghost use Rattle.std.specs.Prelude.{◌≡◌, ◌≢◌, ◌+◌, ◌^◌, ◌<
 ghost use Rattle.maple_io.specs.Views.{NoWriteFailed, WriteFailed};
 ghost use Rattle.machine_steps.specs.Sound.{AreInRange};
 ghost use Rattle.sim_steps.specs.Showing.{AllIdle};
-ghost use Rattle.history_lock.specs.Passes.{IsPassOf, hall as place_of, known, parts};
-ghost use Rattle.sim_channels.specs.Channels.{IsAtStart};
+ghost use Rattle.history_lock.specs.Passes.{IsPassOf, known, parts};
 ghost use Rattle.sim_driver.specs.Passes.{DeedLaws, EndsAt, EndsByPass, IsOpened, IsOpening, SameHall, end_of, given_at, given_over};
 ghost use Rattle.sim_driver.specs.Runs.{Ends, IsAtRefused, given, over, refused_line};
 
@@ -129,7 +128,7 @@ struct Ended<'p> {
 }
 
 impl<'p> Ended<'p> {
-    // The end alone. The pass is no longer lent.
+    // The end alone. The pass is no longer lent: whoever lent it has it as it is then.
     fn into_end(self) -> SimEnd
         ensures end { result ≡ self.entry.end }
         ensures pass { self.exit.0.now ≡ self.entry.pass.now }
