@@ -1,8 +1,8 @@
 -- Turns that answer a packet: which packets wait behind each, what they leave of the sessions, and that the work on a packet makes such.
-use Rattle.std.proofs.Common.{◌≡◌, ◌⊎◌, ℕ, false, List, [], ◌∷◌, ◌++◌, refl, sym, ap, ◌∙◌, subst, inl, inr, arith}
+use Rattle.std.proofs.Common.{◌≡◌, ℕ, false, List, [], ◌∷◌, ◌++◌, refl, sym, ap, ◌∙◌, subst, inl, inr, arith}
 use Rattle.std.specs.Prelude.{◌==◌, ◌&&◌, ◌||◌, Contains}
 use Rattle.std.specs.List.{AllByRecursion, list_any}
-use Rattle.std.proofs.lemmas.Bool.{and_left, and_right, ne_eqb}
+use Rattle.std.proofs.lemmas.Bool.{and_right, ne_eqb}
 use Rattle.history_lock.specs.Histories.{AreAllowed, state_behind}
 use Rattle.of10_codec.specs.declared.message.Message.{Message}
 use Rattle.machine_steps.specs.declared.entry.Entry.{Entry}
@@ -20,21 +20,19 @@ use Rattle.machine_steps.proofs.Changes.JobsBy.{Left, AreMany, Added}
 use Rattle.machine_steps.proofs.Sound.Zipped.{all_filter}
 use Rattle.machine_sharing.specs.Legal.{call_of}
 use Rattle.machine_sharing.specs.Sharing.{Allows, Call}
-use Rattle.machine_moves.specs.Told.{concerns, is_end, may_end}
+use Rattle.machine_moves.specs.Told.{concerns}
 use Rattle.packet_workers.specs.declared.worked.Worked.{Worked}
 use Rattle.packet_workers.specs.declared.worked.Worked.TheVariants as how
-use Rattle.packet_workers.specs.Rounds.{HasNoJob, IsBroken, IsClosedBy}
+use Rattle.packet_workers.specs.Rounds.{HasNoJob, IsClosedBy}
 use Rattle.machine_desk.specs.Desks.{DeskView, calls_of}
 use Rattle.machine_desk.specs.Working.{IsPlainCall, RoundsArePlain, RoundsClose, Works}
 use Rattle.machine_desk.specs.declared.hearing.Heard.TheVariants as heard
-use Rattle.sim_channels.specs.declared.driver.Driver.{Driver}
-use Rattle.sim_channels.specs.Answering.{Answers, IsPlain}
-use Rattle.sim_channels.specs.Channels.{IsKept}
+use Rattle.sim_channels.specs.Answering.{Answers, IsPlain, IsWhole}
+use Rattle.sim_channels.specs.Channels.{IsReached}
 use Rattle.sim_channels.specs.Driving.{DrivingLaws}
 use Rattle.sim_channels.specs.Passes.{WaitsBy}
 use Rattle.sim_channels.proofs.Making.{may_make}
-use Rattle.sim_channels.proofs.Keeping.{is_opening, is_policy, policy_same, session_same}
-use Rattle.sim_channels.proofs.Kept.{alone_still, kept_entry}
+use Rattle.sim_channels.proofs.Keeping.{reached_on, session_same}
 
 -- ---- the packets that wait
 
@@ -85,37 +83,28 @@ none_left item m none all = go m.jobs refl all
           key = sym (ap (λ (i : Waiting). i.key) its.0);
         }))
 
-closed : (item : Waiting) (m : State) (worked : Worked) → (IsBroken worked → ⊥) → IsClosedBy worked item m → HasNoJob item m
-closed item m how.NoMemory whole none = absurd (whole tt)
-closed item m how.Worn whole none = absurd (whole tt)
+closed : (item : Waiting) (m : State) (worked : Worked) → IsWhole worked → IsClosedBy worked item m → HasNoJob item m
+closed item m how.NoMemory whole none = absurd whole
+closed item m how.Worn whole none = absurd whole
 closed item m worked whole none = none
 
--- it wasn't broken off
-abbrev IsWhole : Worked → Type 0
-IsWhole worked = (worked ≡ how.Answered) ⊎ ((worked ≡ how.Spent) ⊎ (worked ≡ how.NotOpen))
-
-not_broken : (worked : Worked) → IsWhole worked → IsBroken worked → ⊥
-not_broken worked (inl e) broken = subst IsBroken e broken
-not_broken worked (inr (inl e)) broken = subst IsBroken e broken
-not_broken worked (inr (inr e)) broken = subst IsBroken e broken
+not_broken : (worked : Worked) → IsWhole worked → worked ≡ how.NoMemory → ⊥
+not_broken worked whole e = subst IsWhole e whole
 
 -- so it answers the packet
 pub answers_by : RoundsArePlain → RoundsClose → (item : Waiting) (worked : Worked) (a b : DeskView) → a.footing.parts ≡ 1024 → WaitsBy (heard.Packet item) a.now.jobs → Works item worked a b
     → IsWhole worked → Answers a b
-answers_by plain close item worked a b alone (one, waits, its) works is = record {
+answers_by plain close item worked a b alone (one, waits, its) works whole = record {
   turns = works.turns;
   leads = works.meanwhile;
   past = works.past;
   allowed = works.allowed;
-  plain = plain_turns worked (λ e. whole (subst IsBroken (sym e) tt)) works.turns
+  plain = plain_turns worked (not_broken worked whole) works.turns
       (subst (AllByRecursion (IsPlainCall worked)) (sym same) (plain item a.now.settings.budget 3 works.calls worked works.rounds));
   none = none_left item b.now (closed item b.now worked whole (subst (IsClosedBy worked item) last (close item a.now.settings.budget 3 works.calls worked a.now works.rounds)))
       (all_along (IsItem item) (calls_of a.past) a.now works.turns b.now works.meanwhile works.allowed (subst (AllByRecursion (IsItem item)) (sym waits) (its, tt)));
 }
   where
-    whole : IsBroken worked → ⊥
-    whole = not_broken worked is
-
     same : calls_of works.turns ≡ works.calls
     same = works.alone alone
 
@@ -145,49 +134,27 @@ concerns_none c m h log (entries.Commit job run) may d other = none_of c d job o
 concerns_none c m h log (entries.Decide job) may d other = none_of c d job other m.jobs h
 concerns_none c m h log entry may d other = absurd may
 
--- the driver with this machine
-abbrev pub with_machine : Driver → State → Driver
-with_machine driver m = record driver { desk = record driver.desk { now = m } }
+makes_none : (log : List Call) (entry : Entry) → Allows log entry → may_make entry ≡ false
+makes_none log entries.ReadPolicy may = refl
+makes_none log (entries.ReadCell cell) may = refl
+makes_none log entries.OpenJobs may = refl
+makes_none log (entries.Commit job run) may = refl
+makes_none log (entries.Decide job) may = refl
+makes_none log entry may = absurd may
 
--- what the driver knows of the machine doesn't hang on what else the desk has
-pub kept_at_desk : (driver : Driver) (d : DeskView) → d.footing ≡ driver.desk.footing → IsKept (with_machine driver d.now) → IsKept (record driver { desk = d })
-kept_at_desk driver d footing h =
-    record { alone = alone_still driver (record driver { desk = d }) footing h.alone; reached = h.reached; numbers = h.numbers; stages = h.stages; places_alone = h.places_alone; fresh = h.fresh }
-
-pub record IsBehind (c : ℕ) (driver : Driver) (m : State) : Type 0 where
-  pub kept : IsKept (with_machine driver m)
-  pub policy : m.policy ≡ driver.desk.now.policy
-  pub others : (d : ℕ) → (d ≡ c → ⊥) → session_at d m ≡ session_at d driver.desk.now
-
+-- a turn that anybody may make leaves the sessions of connections of which no packet waits
 module _ (laws : DrivingLaws) (c : ℕ) where
-  behind_turn : (driver : Driver) (log : List Call) (entry : Entry) (reply : Reply) (m : State) → IsKept driver → AllBy c driver.desk.now → Allows log entry → Admits driver.desk.now entry
-      → Steps driver.desk.now entry reply m → IsBehind c driver m
-  behind_turn driver log entry reply m kept by may admitted steps = go entry may admitted steps
-    where
-      behind : (e : Entry) → is_opening e ≡ false → is_policy e ≡ false → may_make e ≡ false → ((d : ℕ) → may_end d e ≡ false) → Allows log e → Admits driver.desk.now e → Steps driver.desk.now e reply m
-          → IsBehind c driver m
-      behind e no_open no_policy no_state no_end can a s = record {
-        kept = kept_entry laws driver (with_machine driver m) e reply kept a s no_open no_policy (λ d. and_left (may_end d e) (is_end reply) (no_end d)) refl refl;
-        policy = policy_same laws driver.desk.now e reply m kept.reached s no_policy;
-        others = λ d other. session_same laws driver.desk.now e reply m kept.reached s no_state d (concerns_none c driver.desk.now by log e can d other);
-      }
+  others_still : (log : List Call) (m : State) (entry : Entry) (reply : Reply) (n : State) → IsReached m → AllBy c m → Allows log entry → Steps m entry reply n
+      → (d : ℕ) → (d ≡ c → ⊥) → session_at d n ≡ session_at d m
+  others_still log m entry reply n reached by may steps d other =
+      session_same laws m entry reply n reached steps (makes_none log entry may) d (concerns_none c m by log entry may d other)
 
-      go : (e : Entry) → Allows log e → Admits driver.desk.now e → Steps driver.desk.now e reply m → IsBehind c driver m
-      go entries.ReadPolicy can a s = behind entries.ReadPolicy refl refl refl (λ d. refl) can a s
-      go (entries.ReadCell cell) can a s = behind (entries.ReadCell cell) refl refl refl (λ d. refl) can a s
-      go entries.OpenJobs can a s = behind entries.OpenJobs refl refl refl (λ d. refl) can a s
-      go (entries.Commit job run) can a s = behind (entries.Commit job run) refl refl refl (λ d. refl) can a s
-      go (entries.Decide job) can a s = behind (entries.Decide job) refl refl refl (λ d. refl) can a s
-      go other can a s = absurd can
-
-  pub behind_along : (driver : Driver) (log : List Call) (ts : List Turn) (m : State) → IsKept driver → AllBy c driver.desk.now → Leads driver.desk.now ts m → AreAllowed Allows log (calls_of ts)
-      → IsBehind c driver m
-  behind_along driver log [] m kept by e allowed =
-      record { kept = subst (λ (n : State). IsKept (with_machine driver n)) (sym e) kept; policy = ap (λ (n : State). n.policy) e; others = λ d other. ap (session_at d) e }
-  behind_along driver log (t ∷ ts) m kept by (same, turn, rest) allowed =
-      let admitted = subst (λ (n : State). Admits n t.entry) same turn.admitted in
-      let steps = subst (λ (n : State). Steps n t.entry t.reply t.behind) same turn.steps in
-      let first = behind_turn driver log t.entry t.reply t.behind kept by allowed.0 admitted steps in
-      let by_then = still_all (λ (j : Job). j.connection ≡ c) log driver.desk.now t.entry t.reply t.behind allowed.0 steps by in
-      let later = behind_along (with_machine driver t.behind) (log ++ call_of t ∷ []) ts m first.kept by_then rest allowed.1 in
-      record { kept = later.kept; policy = later.policy ∙ first.policy; others = λ d other. later.others d other ∙ first.others d other }
+  pub others_along : (log : List Call) (m : State) (ts : List Turn) (n : State) → IsReached m → AllBy c m → Leads m ts n → AreAllowed Allows log (calls_of ts)
+      → (d : ℕ) → (d ≡ c → ⊥) → session_at d n ≡ session_at d m
+  others_along log m [] n reached by e allowed d other = ap (session_at d) e
+  others_along log m (t ∷ ts) n reached by (same, turn, rest) allowed d other =
+      let admitted = subst (λ (x : State). Admits x t.entry) same turn.admitted in
+      let steps = subst (λ (x : State). Steps x t.entry t.reply t.behind) same turn.steps in
+      let by_then = still_all (λ (j : Job). j.connection ≡ c) log m t.entry t.reply t.behind allowed.0 steps by in
+      others_along (log ++ call_of t ∷ []) t.behind ts n (reached_on m t.entry t.reply t.behind reached admitted steps) by_then rest allowed.1 d other
+      ∙ others_still log m t.entry t.reply t.behind reached by allowed.0 steps d other

@@ -1,13 +1,13 @@
 -- What the driver keeps of the machine, behind an entry and where one channel became another.
-use Rattle.std.proofs.Common.{◌≡◌, ℕ, ◌+◌, ◌^◌, ◌<◌, ◌≤◌, true, false, List, length, get_or, set, refl, sym, ap, ◌∙◌, subst, ⊎_elim, arith}
+use Rattle.std.proofs.Common.{◌≡◌, ℕ, ◌+◌, ◌^◌, ◌<◌, ◌≤◌, true, false, List, length, set, refl, sym, ap, ◌∙◌, subst, ⊎_elim, arith}
 use Rattle.std.specs.Prelude.{◌&&◌, Some}
 use Rattle.std.specs.List.{slice_get}
 use Rattle.std.proofs.lemmas.Bool.{cases_eq}
 use Rattle.std.proofs.lemmas.List.{length-set}
-use Rattle.std.proofs.lemmas.Option.{get_or_from_slice_get, same_Some, slice_get_within}
+use Rattle.std.proofs.lemmas.Option.{same_Some}
 use Rattle.device_port.specs.Devices.{Meaning}
-use Rattle.machine_desk.specs.Desks.{Footing}
 use Rattle.machine_moves.specs.Told.{concerns, is_end, is_heard, may_end}
+use Rattle.machine_steps.proofs.Changes.{changes}
 use Rattle.machine_steps.specs.declared.entry.Entry.{Entry}
 use Rattle.machine_steps.specs.declared.entry.Entry.TheVariants as entries
 use Rattle.machine_steps.specs.declared.reply.Reply.{Reply}
@@ -20,19 +20,20 @@ use Rattle.sim_channels.specs.declared.channel.Channel.{Channel}
 use Rattle.machine_desk.specs.declared.inbound.Stage.{Stage}
 use Rattle.machine_desk.specs.declared.inbound.Stage.TheVariants.{Over, Live, Unopened}
 use Rattle.sim_channels.specs.declared.driver.Driver.{Driver}
-use Rattle.sim_channels.specs.Channels.{Fits, IsAlone, IsFresh, IsKept, IsStaged, is_plugged_in, was_plugged_in}
+use Rattle.sim_channels.specs.Channels.{Fits, IsFresh, IsKept, IsSame, IsStaged, is_plugged_in, was_plugged_in}
 use Rattle.sim_channels.specs.Delivering.{Spares}
 use Rattle.sim_channels.specs.Driving.{DrivingLaws}
 use Rattle.sim_channels.specs.Waiting.{WhilePlugged}
 use Rattle.sim_channels.proofs.Keeping.{is_opening, is_policy, opened_same, plugged_ends, plugged_same, reached_on, session_same}
 use Rattle.sim_channels.proofs.Making.{may_make}
+use Rattle.sim_channels.proofs.Others.{crew_on, quiet_on, same_desk, same_then}
 use Rattle.sim_channels.proofs.Slots.{set_beside, set_there}
 
 -- of the channels this one became another
 pub record ChannelAt (at : ℕ) (k l : Channel) (old new : Driver) : Type 0 where
   pub there : slice_get old.channels.items at ≡ Some k
   pub channels : new.channels.items ≡ set old.channels.items at l
-  pub footing : new.desk.footing ≡ old.desk.footing
+  pub same : IsSame old new
 
 module _ (at : ℕ) (k l : Channel) (old new : Driver) (h : ChannelAt at k l old new) where
   pub is_there : slice_get new.channels.items at ≡ Some l
@@ -45,24 +46,13 @@ module _ (at : ℕ) (k l : Channel) (old new : Driver) (h : ChannelAt at k l old
   is_as_long = ap length h.channels ∙ length-set old.channels.items at l
 
 -- from how the machine is given an entry, and how a channel is written then
-module _ (at : ℕ) (old mid : Driver) (k : Channel) (there : slice_get old.channels.items at ≡ Some k) (rest : mid ≡ record old { desk = mid.desk }) where
-  pub channel_at : (l : Channel) (new : Driver) → new.channels.items ≡ set mid.channels.items at l → new.desk.footing ≡ old.desk.footing → ChannelAt at k l old new
-  channel_at l new channels footing = record {
-    there = there;
-    channels = channels ∙ ap (λ (x : Driver). set x.channels.items at l) rest;
-    footing = footing;
-  }
-
-  pub channel_within : at < length mid.channels.items
-  channel_within = subst (λ n. at < n) (sym (ap (λ (x : Driver). length x.channels.items) rest)) (slice_get_within old.channels.items at k there)
-
-  pub channel_read : (r : Channel) → r ≡ get_or mid.channels.items at r → r ≡ k
-  channel_read r value = value ∙ ap (λ (x : Driver). get_or x.channels.items at r) rest ∙ get_or_from_slice_get old.channels.items at k r there
-
--- ---- nobody else
-
-pub alone_still : (old new : Driver) → new.desk.footing ≡ old.desk.footing → IsAlone old → IsAlone new
-alone_still old new footing alone = ap (λ (f : Footing). f.parts) footing ∙ alone
+pub channel_at : (at : ℕ) (old mid : Driver) (k : Channel) → slice_get old.channels.items at ≡ Some k → mid ≡ record old { desk = mid.desk } → (l : Channel) (new : Driver)
+    → new.channels.items ≡ set mid.channels.items at l → IsSame old new → ChannelAt at k l old new
+channel_at at old mid k there rest l new channels same = record {
+  there = there;
+  channels = channels ∙ ap (λ (x : Driver). set x.channels.items at l) rest;
+  same = same;
+}
 
 -- ---- stages
 
@@ -105,11 +95,11 @@ not_fresh k plugged unplugged = (let f : Live ≡ Unopened = sym plugged ∙ unp
 
 module _ (laws : DrivingLaws) (old new : Driver) (entry : Entry) (reply : Reply) (kept : IsKept old) (admitted : Admits old.desk.now entry) (steps : Steps old.desk.now entry reply new.desk.now)
     (opens : is_opening entry ≡ false) (policy : is_policy entry ≡ false) where
-  pub kept_with : length new.channels.items ≡ length old.channels.items → new.desk.footing ≡ old.desk.footing
+  pub kept_with : length new.channels.items ≡ length old.channels.items → IsSame old new
       → ((n : ℕ) (k : Channel) → slice_get new.channels.items n ≡ Some k → IsStaged (n + 1) new.desk.now k.inbound.stage) → ((c : ℕ) → is_plugged c new.desk.now ≡ true → is_plugged c old.desk.now ≡ true)
       → ((n : ℕ) (k : Channel) → slice_get new.channels.items n ≡ Some k → k.inbound.stage ≡ Unopened → IsFresh k) → IsKept new
-  kept_with long footing stages plugs fresh = record {
-    alone = alone_still old new footing kept.alone;
+  kept_with long same stages plugs fresh = record {
+    crew = crew_on old new same (changes old.desk.now entry reply new.desk.now steps).settings kept.crew;
     reached = reached_on old.desk.now entry reply new.desk.now kept.reached admitted steps;
     numbers = subst (λ n. n < 2 ^ 32) (sym long) kept.numbers;
     stages = stages;
@@ -129,7 +119,7 @@ module _ (laws : DrivingLaws) (old new : Driver) (entry : Entry) (reply : Reply)
     -- and no channel changes
     pub kept_entry : new ≡ record old { desk = new.desk } → new.desk.footing ≡ old.desk.footing → IsKept new
     kept_entry e footing =
-        kept_with (ap (λ (x : Driver). length x.channels.items) e) footing
+        kept_with (ap (λ (x : Driver). length x.channels.items) e) (same_desk old new e footing)
         (λ n k there. still_staged (n + 1) k.inbound.stage (kept.stages n k (sym (ap (λ (x : Driver). slice_get x.channels.items n) e) ∙ there)))
         (λ c plugged. sym (still_plugged c) ∙ plugged)
         (λ n k there unplugged. kept.fresh n k (sym (ap (λ (x : Driver). slice_get x.channels.items n) e) ∙ there) unplugged)
@@ -137,7 +127,7 @@ module _ (laws : DrivingLaws) (old new : Driver) (entry : Entry) (reply : Reply)
     -- and of one channel no stage
     pub kept_channel : (at : ℕ) (k l : Channel) → ChannelAt at k l old new → l.inbound.stage ≡ k.inbound.stage → (l.inbound.stage ≡ Unopened → IsFresh l) → IsKept new
     kept_channel at k l h same fresh =
-        kept_with (is_as_long at k l old new h) h.footing (λ n x there. still_staged (n + 1) x.inbound.stage (was n x there)) (λ c open_now. sym (still_plugged c) ∙ open_now)
+        kept_with (is_as_long at k l old new h) h.same (λ n x there. still_staged (n + 1) x.inbound.stage (was n x there)) (λ c open_now. sym (still_plugged c) ∙ open_now)
         (fresh_but old new kept at k l h fresh)
       where
         was : (n : ℕ) (x : Channel) → slice_get new.channels.items n ≡ Some x → IsStaged (n + 1) old.desk.now x.inbound.stage
@@ -154,7 +144,7 @@ module _ (laws : DrivingLaws) (old new : Driver) (entry : Entry) (reply : Reply)
     shut = plugged_ends laws old.desk.now entry reply new.desk.now kept.reached steps (at + 1) (plugged_at old at k kept h.there plugged) may end
 
     pub kept_left : IsKept new
-    kept_left = kept_with (is_as_long at k l old new h) h.footing stages plugs (fresh_but old new kept at k l h (λ unplugged. (let f : Over ≡ Unopened = sym left ∙ unplugged in absurd (cc))))
+    kept_left = kept_with (is_as_long at k l old new h) h.same stages plugs (fresh_but old new kept at k l h (λ unplugged. (let f : Over ≡ Unopened = sym left ∙ unplugged in absurd (cc))))
       where
         opened : (c : ℕ) → was_opened c new.desk.now ≡ was_opened c old.desk.now
         opened c = opened_same laws old.desk.now entry reply new.desk.now kept.reached steps opens c
@@ -182,22 +172,27 @@ unheard entry f = refl
 pub spares : DrivingLaws → (old new : Driver) (entry : Entry) (reply : Reply) → IsKept old → Steps old.desk.now entry reply new.desk.now → may_make entry ≡ false → (at : ℕ) (k l : Channel)
     → ChannelAt at k l old new → ((c : ℕ) → (c ≡ at + 1 → ⊥) → concerns c entry old.desk.now ≡ false) → l.inbound.from.stream ≡ k.inbound.from.stream → (l.inbound.stage ≡ Live → k.inbound.stage ≡ Live) → Spares at old new
 spares laws old new entry reply kept steps none at k l h others from stage = record {
-  others = record { sessions = λ c o. session_same laws old.desk.now entry reply new.desk.now kept.reached steps none c (others c o); channels = λ n o. is_beside at k l old new h n o };
+  others = record {
+    sessions = λ quiet c o. session_same laws old.desk.now entry reply new.desk.now kept.reached steps none c (others c o);
+    channels = λ n o. is_beside at k l old new h n o;
+  };
   heard = λ was x there plugged.
       (let is : l ≡ x = same_Some l x (sym (is_there at k l old new h) ∙ there) in
       subst (λ (y : Channel). IsHeardOut y.inbound.from.stream) is
       (subst IsHeardOut (sym from) (was k h.there (stage (ap (λ (y : Channel). y.inbound.stage) is ∙ plugged)))));
   jobs = λ jobs. laws.none old.desk.now entry reply new.desk.now jobs (unheard entry none) steps;
+  same = h.same;
 }
-
-pub spares_none : (at : ℕ) (driver : Driver) → Spares at driver driver
-spares_none at driver = record { others = record { sessions = λ c o. refl; channels = λ n o. refl }; heard = λ h. h; jobs = λ h. h }
 
 pub spares_then : (at : ℕ) (a b c : Driver) → Spares at a b → Spares at b c → Spares at a c
 spares_then at a b c h k = record {
-  others = record { sessions = λ n o. k.others.sessions n o ∙ h.others.sessions n o; channels = λ n o. k.others.channels n o ∙ h.others.channels n o };
+  others = record {
+    sessions = λ quiet n o. k.others.sessions (quiet_on a b h.same h.jobs quiet) n o ∙ h.others.sessions quiet n o;
+    channels = λ n o. k.others.channels n o ∙ h.others.channels n o;
+  };
   heard = λ e. k.heard (h.heard e);
   jobs = λ e. k.jobs (h.jobs e);
+  same = same_then a b c h.same k.same;
 }
 
 -- ---- counts

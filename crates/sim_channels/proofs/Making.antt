@@ -1,13 +1,15 @@
--- Which entries make no state, whatever the policy.
-use Rattle.std.proofs.Common.{◌≡◌, Bool, true, false, length, ap}
+-- Which entries make no state, whatever the policy; and a reply that isn't want of memory.
+use Rattle.std.proofs.Common.{◌≡◌, Bool, true, false, length, refl, ap}
 use Rattle.machine_steps.specs.declared.entry.Entry.{Entry}
 use Rattle.machine_steps.specs.declared.entry.Entry.TheVariants as entries
 use Rattle.machine_steps.specs.declared.reply.Reply.{Reply}
+use Rattle.machine_steps.specs.declared.reply.Reply.TheVariants.{NoMemory}
 use Rattle.machine_steps.specs.Effects.{may_advance}
 use Rattle.machine_steps.specs.Machine.{State, state_number}
 use Rattle.machine_steps.specs.Steps.{Steps}
 use Rattle.machine_steps.proofs.Changes.{Network, network, Follows, changes}
 use Rattle.machine_steps.proofs.Changes.Follows.{Stays, Next, Renewed}
+use Rattle.world_steps.specs.Worlds.{lacks_memory}
 
 -- a message may teach where a host or a port is; updates and policies are asked for
 abbrev pub may_make : Entry → Bool
@@ -28,3 +30,7 @@ no_state old entry reply new f steps = go (network new) (changes old entry reply
     go n (Stays untold e) = ap (λ (n : Network). length n.2) e
     go n (Next scene may told e) = absurd (none_made entry f may)
     go n (Renewed scene p is told e) = (let makes = ap may_make is in absurd (cc))
+
+pub had_memory : (reply : Reply) → (reply ≡ NoMemory → ⊥) → lacks_memory reply ≡ false
+had_memory NoMemory other = absurd (other refl)
+had_memory reply other = refl

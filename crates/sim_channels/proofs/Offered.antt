@@ -8,23 +8,26 @@ use Rattle.std.proofs.lemmas.List.{length-set, map-set}
 use Rattle.std.proofs.lemmas.Option.{get_or_from_slice_get, same_Some, slice_get-get_or, slice_get-map}
 use Rattle.device_port.specs.Devices.{Meaning}
 use Rattle.device_port.specs.Devices.Call.{Offered}
+use Rattle.machine_desk.specs.Desks.{Enters}
 use Rattle.machine_moves.specs.Sends.{CanBeOffered}
 use Rattle.machine_steps.specs.declared.entry.Entry.TheVariants as entries
 use Rattle.machine_steps.specs.declared.note.Note.TheVariants as notes
-use Rattle.machine_steps.specs.declared.reply.Reply.{Reply}
 use Rattle.machine_steps.specs.declared.reply.Reply.TheVariants.{Done}
 use Rattle.sim_steps.specs.Benches.{MovesAt, is_plugged}
 use Rattle.sim_steps.specs.Deeds.{CallsAt, CallsSlot}
+use Rattle.sim_steps.specs.Stretches.{Carried}
+use Rattle.sim_steps.proofs.Joining.{carried_then}
 use Rattle.sim_steps.proofs.Moments.{carried_call, carried_failed}
 use Rattle.sim_channels.specs.declared.channel.Channel.{Channel}
 use Rattle.machine_desk.specs.declared.inbound.Stage.TheVariants.{Live}
 use Rattle.sim_channels.specs.declared.driver.Driver.{Driver}
-use Rattle.sim_channels.specs.Channels.{EntersAlone, Fits, IsKept, bench, slots_of}
-use Rattle.sim_channels.specs.Delivering.{CanOffer, Delivers, GoesOn, IsPluggedIn, Leaves, OffersFirst, Spares, left_in, offers_left, took_by}
+use Rattle.sim_channels.specs.Channels.{EntersNext, Fits, IsKept, OthersDid, bench, slots_of}
+use Rattle.sim_channels.specs.Delivering.{CanOffer, GoesOn, IsPluggedIn, Leaves, OffersAt, OffersFirst, Spares, left_in, offers_left, took_by}
 use Rattle.sim_channels.specs.Driving.{DrivingLaws}
 use Rattle.sim_channels.specs.Waiting.{IsTaken}
 use Rattle.sim_channels.proofs.Keeping.{messages_same, session_same}
 use Rattle.sim_channels.proofs.Kept.{ChannelAt, all_left, is_as_long, is_there, kept_channel, not_fresh, plugged_at, plugged_has, spares, spares_then, waiting_but}
+use Rattle.sim_channels.proofs.Others.{ahead, enters_next, others_ahead, others_beside, others_carried, others_kept, others_taken, same_but, spares_others}
 use Rattle.sim_channels.proofs.Slots.{set_beside, set_there, slots_move}
 
 -- the device with an index is another
@@ -56,10 +59,14 @@ reads f xs at x driver r fits plugged can some within value =
       there = plugged.there;
     })
 
-module _ (laws : DrivingLaws) (at : ℕ) (old mid : Driver) (k l : Channel) (d e : Meaning) (ds es : List Meaning) (fits : Fits old ds) (h : ChannelAt at k l old mid)
-    (g : DeviceAt at d e ds es) (plugged : k.inbound.stage ≡ Live) where
+-- the offer, behind what others did until then
+module _ (laws : DrivingLaws) (at : ℕ) (first old mid : Driver) (first_kept : IsKept first) (others : OthersDid first old) (k l : Channel) (d e : Meaning) (ds es : List Meaning)
+    (fits : Fits old ds) (long : length ds ≡ length first.channels.items) (h : ChannelAt at k l old mid) (g : DeviceAt at d e ds es) (plugged : k.inbound.stage ≡ Live) where
   kept : IsKept old
   kept = fits.kept
+
+  ahead_carried : Carried (bench first ds) (bench old ds)
+  ahead_carried = others_carried laws first old first_kept others ds long
 
   is_open : is_plugged (at + 1) old.desk.now ≡ true
   is_open = plugged_at old at k kept h.there plugged
@@ -73,8 +80,8 @@ module _ (laws : DrivingLaws) (at : ℕ) (old mid : Driver) (k l : Channel) (d e
   device_beside : (n : ℕ) → (n ≡ at → ⊥) → slice_get es n ≡ slice_get ds n
   device_beside n o = ap (λ xs. slice_get xs n) g.devices ∙ set_beside ds at n e o
 
-  module _ (failed : Bool) (o : OffersFirst failed k d l e) (enters : EntersAlone (entries.Note (notes.Offered (at + 1) failed)) Done old.desk mid.desk) where
-    mid_kept : IsKept mid
+  module _ (failed : Bool) (o : OffersFirst failed k d l e) (enters : EntersNext (entries.Note (notes.Offered (at + 1) failed)) Done old.desk mid.desk) where
+    pub mid_kept : IsKept mid
     mid_kept = kept_channel laws old mid (entries.Note (notes.Offered (at + 1) failed)) Done kept tt enters.steps refl refl (λ c. refl) at k l h o.stage (not_fresh l (o.stage ∙ plugged))
 
     mid_spares : Spares at old mid
@@ -90,8 +97,8 @@ module _ (laws : DrivingLaws) (at : ℕ) (old mid : Driver) (k l : Channel) (d e
     calls : (b : Bool) → b ≡ failed → CallsAt (at + 1) (Offered o.bytes (took_by b)) Done (bench old ds) (bench mid es)
     calls b same = go b same
       where
-        entered : (b : Bool) → b ≡ failed → EntersAlone (entries.Note (notes.Offered (at + 1) b)) Done old.desk mid.desk
-        entered b same = subst (λ f. EntersAlone (entries.Note (notes.Offered (at + 1) f)) Done old.desk mid.desk) (sym same) enters
+        entered : (b : Bool) → b ≡ failed → EntersNext (entries.Note (notes.Offered (at + 1) b)) Done old.desk mid.desk
+        entered b same = subst (λ f. EntersNext (entries.Note (notes.Offered (at + 1) f)) Done old.desk mid.desk) (sym same) enters
 
         go : (b : Bool) → b ≡ failed → CallsAt (at + 1) (Offered o.bytes (took_by b)) Done (bench old ds) (bench mid es)
         go true same = record {
@@ -123,9 +130,6 @@ module _ (laws : DrivingLaws) (at : ℕ) (old mid : Driver) (k l : Channel) (d e
     pub mid_plugged : IsPluggedIn at mid
     mid_plugged = record { channel = l; there = is_there at k l old mid h; plugged = o.stage ∙ plugged }
 
-    pub mid_is_kept : IsKept mid
-    mid_is_kept = mid_kept
-
     -- ---- it took the message in
 
     taken_still : IsTaken at old → IsTaken at mid
@@ -134,64 +138,96 @@ module _ (laws : DrivingLaws) (at : ℕ) (old mid : Driver) (k l : Channel) (d e
         (session_same laws old.desk.now (entries.Note (notes.Offered (at + 1) failed)) Done mid.desk.now kept.reached enters.steps refl (at + 1) refl)
         ∙ taken k h.there plugged
 
-    pub delivers_taken : failed ≡ false → IsTaken at old → Delivers at old ds mid es
-    delivers_taken whole taken = record {
+    pub offers_taken : failed ≡ false → OffersAt at first ds mid es
+    offers_taken whole = record {
       fits = mid_fits;
-      carried = carried_call (at + 1) (Offered o.bytes (took_by false)) Done (bench old ds) (bench mid es) refl refl refl (calls false (sym whole));
-      spares = mid_spares;
-      taken = taken_still taken;
+      carried = carried_then (bench first ds) (bench old ds) (bench mid es) ahead_carried
+          (carried_call (at + 1) (Offered o.bytes (took_by false)) Done (bench old ds) (bench mid es) refl refl refl (calls false (sym whole)));
+      spares = spares_others laws first old first_kept others at mid mid_spares;
+      taken = λ quiet taken. taken_still (others_taken laws first old first_kept others quiet at taken);
     }
 
-    pub goes_on : failed ≡ false → GoesOn true at old mid
-    goes_on whole = record {
+    pub goes_on : slice_get first.channels.items at ≡ Some k → failed ≡ false → GoesOn true at first mid
+    goes_on there whole = record {
       plugged = mid_plugged;
       can = plugged_has (λ (x : Channel). AllByRecursion CanBeOffered x.to) at mid l (is_there at k l old mid h) o.can;
       fewer =
-          subst (λ n. left_in n < left_in (slice_get old.channels.items at)) (sym (is_there at k l old mid h))
-          (subst (λ n. length l.to < left_in n) (sym h.there) (o.fewer whole));
+          subst (λ n. left_in n < left_in (slice_get first.channels.items at)) (sym (is_there at k l old mid h))
+          (subst (λ n. length l.to < left_in n) (sym there) (o.fewer whole));
     }
 
     -- ---- it failed
 
-    pub delivers_failed : failed ≡ true → (new : Driver) → Leaves at mid new → Delivers at old ds new es
-    delivers_failed fails new leaves = record {
+    pub offers_failed : failed ≡ true → (new : Driver) → Leaves at mid new → OffersAt at first ds new es
+    offers_failed fails new leaves = record {
       fits = record {
         kept = leaves.kept;
         places = leaves.places ∙ mid_fits.places;
         waiting = waiting_but mid new es es at mid_fits leaves.spares.others.channels (λ n o. refl)
             (λ x y there is. leaves.waiting l x (is_there at k l old mid h) there ∙ mid_waiting l y (is_there at k l old mid h) is);
       };
-      carried = carried_failed (at + 1) (Offered o.bytes (took_by true)) Done (bench old ds) (bench mid es) leaves.reply (bench new es) refl refl refl leaves.memory (calls true (sym fails))
-          (leaves.enters es (sym mid_fits.places));
-      spares = spares_then at old mid new mid_spares leaves.spares;
-      taken = all_left _ at new leaves.left;
+      carried = carried_then (bench first ds) (bench old ds) (bench new es) ahead_carried
+          (carried_failed (at + 1) (Offered o.bytes (took_by true)) Done (bench old ds) (bench mid es) leaves.reply (bench leaves.ahead es) (bench new es)
+          (others_beside laws mid leaves.ahead mid_kept leaves.others es) refl refl refl leaves.memory (calls true (sym fails)) (leaves.enters es (sym mid_fits.places)));
+      spares = spares_others laws first old first_kept others at new (spares_then at old mid new mid_spares leaves.spares);
+      taken = λ quiet taken. all_left _ at new leaves.left;
     }
 
 -- what is known once the machine was told of an offer
 pub record IsTold (at : ℕ) (old mid : Driver) (ds es : List Meaning) (failed : Bool) : Type 0 where
   pub kept : IsKept mid
   pub plugged : IsPluggedIn at mid
-  pub taken : failed ≡ false → IsTaken at old → Delivers at old ds mid es
+  pub taken : failed ≡ false → OffersAt at old ds mid es
   pub goes_on : failed ≡ false → GoesOn true at old mid
-  pub left : failed ≡ true → (new : Driver) → Leaves at mid new → Delivers at old ds new es
+  pub left : failed ≡ true → (new : Driver) → Leaves at mid new → OffersAt at old ds new es
 
 pub told : DrivingLaws → {B : Type 0} (f : B → Meaning) (xs : List B) (at : ℕ) (x y : B) (old mid : Driver) (r l : Channel) (failed : Bool) (c : ℕ) → Fits old (map f xs)
     → Reads at old r (f (get_or xs at x)) → at < length xs → OffersFirst failed r (f (get_or xs at x)) l (f y) → mid ≡ record old { desk = mid.desk; channels = with_item old.channels at l }
-    → mid.desk.footing ≡ old.desk.footing → c ≡ at + 1 → (reply : Reply) → reply ≡ Done → EntersAlone (entries.Note (notes.Offered c failed)) reply old.desk mid.desk
-    → IsTold at old mid (map f xs) (map f (set xs at y)) failed
-told laws f xs at x y old mid r l failed c fits h within o rest footing is reply done enters =
-    let d = f (get_or xs at x) in
-    let ds = map f xs in
-    let es = map f (set xs at y) in
-    let channel : ChannelAt at r l old mid =
-    record { there = h.there; channels = ap (λ (m : Driver). m.channels.items) rest; footing = footing } in
-    let device : DeviceAt at d (f y) ds es = record { there = device_there f xs at x within; devices = map-set f xs at y } in
-    let enters_here = subst (λ n. EntersAlone (entries.Note (notes.Offered n failed)) Done old.desk mid.desk) is
-    (subst (λ r. EntersAlone (entries.Note (notes.Offered c failed)) r old.desk mid.desk) done enters) in
-    record {
-      kept = mid_is_kept laws at old mid r l d (f y) ds es fits channel device h.stage failed o enters_here;
-      plugged = mid_plugged laws at old mid r l d (f y) ds es fits channel device h.stage failed o enters_here;
-      taken = delivers_taken laws at old mid r l d (f y) ds es fits channel device h.stage failed o enters_here;
-      goes_on = goes_on laws at old mid r l d (f y) ds es fits channel device h.stage failed o enters_here;
-      left = delivers_failed laws at old mid r l d (f y) ds es fits channel device h.stage failed o enters_here;
+    → mid.desk.footing ≡ old.desk.footing → c ≡ at + 1 → Enters old.desk (entries.Note (notes.Offered c failed)) Done mid.desk → IsTold at old mid (map f xs) (map f (set xs at y)) failed
+told laws f xs at x y old mid r l failed c fits h within o rest footing is enters = record {
+  kept = mid_kept laws at old next mid fits.kept others r l d (f y) ds es next_fits long channel device h.stage failed o enters_here;
+  plugged = mid_plugged laws at old next mid fits.kept others r l d (f y) ds es next_fits long channel device h.stage failed o enters_here;
+  taken = offers_taken laws at old next mid fits.kept others r l d (f y) ds es next_fits long channel device h.stage failed o enters_here;
+  goes_on = goes_on laws at old next mid fits.kept others r l d (f y) ds es next_fits long channel device h.stage failed o enters_here h.there;
+  left = offers_failed laws at old next mid fits.kept others r l d (f y) ds es next_fits long channel device h.stage failed o enters_here;
+}
+  where
+    d : Meaning
+    d = f (get_or xs at x)
+
+    ds : List Meaning
+    ds = map f xs
+
+    es : List Meaning
+    es = map f (set xs at y)
+
+    enters_at : Enters old.desk (entries.Note (notes.Offered (at + 1) failed)) Done mid.desk
+    enters_at = subst (λ n. Enters old.desk (entries.Note (notes.Offered n failed)) Done mid.desk) is enters
+
+    next : Driver
+    next = ahead old (entries.Note (notes.Offered (at + 1) failed)) Done mid.desk fits.kept enters_at
+
+    others : OthersDid old next
+    others = others_ahead old (entries.Note (notes.Offered (at + 1) failed)) Done mid.desk fits.kept enters_at
+
+    enters_here : EntersNext (entries.Note (notes.Offered (at + 1) failed)) Done next.desk mid.desk
+    enters_here = enters_next old (entries.Note (notes.Offered (at + 1) failed)) Done mid.desk fits.kept enters_at
+
+    next_fits : Fits next ds
+    next_fits = record { kept = others_kept laws old next fits.kept others; places = fits.places; waiting = fits.waiting }
+
+    long : length ds ≡ length old.channels.items
+    long = sym fits.places
+
+    are : mid.channels ≡ with_item old.channels at l
+    are = ap (λ (m : Driver). m.channels) rest
+
+    channel : ChannelAt at r l next mid
+    channel = record {
+      there = h.there;
+      channels = ap (λ ks. ks.items) are;
+      same = same_but next mid (rest ∙ ap (λ ks. record old { desk = mid.desk; channels = ks }) (sym are)) footing;
     }
+
+    device : DeviceAt at d (f y) ds es
+    device = record { there = device_there f xs at x within; devices = map-set f xs at y }

@@ -14,7 +14,7 @@ use Rattle.sim_steps.specs.Showing.{AllIdle}
 use Rattle.sim_channels.specs.declared.channel.Channel.{Channel}
 use Rattle.machine_desk.specs.declared.inbound.Stage.TheVariants.{Live, Unopened}
 use Rattle.sim_channels.specs.declared.driver.Driver.{Driver}
-use Rattle.sim_channels.specs.Channels.{Fits, IsAtStart, IsKept, IsStaged, bench, bench_at_start, slot_by, slots_of}
+use Rattle.sim_channels.specs.Channels.{Fits, IsAtStart, IsKept, IsStaged, MayHave, bench, bench_at_start, slot_by, slots_of}
 use Rattle.sim_channels.specs.Delivering.{IsUnused}
 use Rattle.sim_channels.specs.Waiting.{IsAtRest, WhilePlugged}
 
@@ -41,6 +41,7 @@ slots_unused (k ∷ ks) (d ∷ ds) e all =
 -- a driver at a desk at its start
 pub record IsNewDriver (driver : Driver) (places : ℕ) : Type 0 where
   pub start : IsAtStart driver.desk
+  pub crew : MayHave driver.crew driver.desk.footing.parts driver.desk.now
   pub unused : AllByRecursion IsUnused driver.channels.items
   pub count : length driver.channels.items ≡ places
   pub few : places < 2 ^ 32
@@ -57,7 +58,7 @@ module _ (driver : Driver) (ds : List Meaning) (h : IsNewDriver driver (length d
 
   new_kept : IsKept driver
   new_kept = record {
-    alone = h.start.alone;
+    crew = h.crew;
     reached = record { policy = driver.desk.now.policy; settings = driver.desk.now.settings; ranges = h.start.ranges; turns = []; leads = h.start.opening };
     numbers = subst (λ n. n < 2 ^ 32) (sym h.count) h.few;
     stages = λ n k there.
@@ -79,8 +80,7 @@ module _ (driver : Driver) (ds : List Meaning) (h : IsNewDriver driver (length d
 
   pub new_rest : IsAtRest driver
   new_rest = record {
-    jobs = ap (λ (m : State). m.jobs) h.start.opening;
-    taken = λ n. none_waits (λ k. messages_for (n + 1) driver.desk.now ≡ []) n;
+    done = λ alone. record { jobs = ap (λ (m : State). m.jobs) h.start.opening; taken = λ n. none_waits (λ k. messages_for (n + 1) driver.desk.now ≡ []) n };
     offered = λ n. none_waits (λ (k : Channel). k.to ≡ []) n;
     heard = λ n. none_waits (λ (k : Channel). IsHeardOut k.inbound.from.stream) n;
   }

@@ -1,5 +1,5 @@
 -- What is kept, and what is left to do, where at most one place changed.
-use Rattle.std.proofs.Common.{◌≡◌, ℕ, zero, suc, ◌+◌, ◌<◌, List, [], ◌∷◌, length, set, refl, sym, ap, ◌∙◌, subst, ⊎_elim, arith}
+use Rattle.std.proofs.Common.{◌≡◌, ℕ, zero, suc, ◌+◌, ◌<◌, List, [], ◌∷◌, length, set, refl, sym, ap, ◌∙◌, subst, inl, ⊎_elim, arith}
 use Rattle.std.specs.Prelude.{Some}
 use Rattle.std.specs.List.{slice_get}
 use Rattle.std.proofs.lemmas.Bool.{cases_eq}
@@ -9,11 +9,12 @@ use Rattle.machine_steps.specs.Machine.{session_at}
 use Rattle.sim_channels.specs.declared.channel.Channel.{Channel}
 use Rattle.machine_desk.specs.declared.inbound.Stage.{Stage}
 use Rattle.sim_channels.specs.declared.driver.Driver.{Driver}
-use Rattle.sim_channels.specs.Channels.{Fits, IsKept, bench, slots_of, with_stage}
+use Rattle.sim_channels.specs.Channels.{Fits, IsKept, IsSame, WorksAlone, bench, slots_of, with_stage}
 use Rattle.sim_channels.specs.Driving.{DrivingLaws}
-use Rattle.sim_channels.specs.Waiting.{IsAtRest, IsHeard, IsOffered, IsTaken, StaysBut, WhilePlugged}
+use Rattle.sim_channels.specs.Waiting.{IsAtRest, IsHeard, IsOffered, IsQuiet, IsTaken, NoneWaits, StaysBut, WhilePlugged}
 use Rattle.sim_channels.proofs.Keeping.{messages_same}
 use Rattle.sim_channels.proofs.Kept.{plugged_at}
+use Rattle.sim_channels.proofs.Others.{alone_back}
 use Rattle.sim_channels.proofs.Slots.{slots_alike}
 use Rattle.sim_channels.specs.Hearing.{KeepsChannels}
 use Rattle.sim_channels.specs.Staging.{Restages}
@@ -75,11 +76,17 @@ taken_still laws d e at kept also session same taken k there plugged =
     messages_same laws (at + 1) d.desk.now e.desk.now kept.reached also.reached (plugged_at d at k kept was plugged) session ∙ taken k was plugged
 
 -- all other places are as they were
-pub rest_but : (laws : DrivingLaws) (d e : Driver) (here : ℕ) → IsKept d → IsKept e → IsAtRest d → StaysBut here d e → e.desk.now.jobs ≡ [] → IsTaken here e → IsOffered here e → IsHeard here e → IsAtRest e
-rest_but laws d e here kept also rest stays jobs taken offered heard = record {
-  jobs = jobs;
-  taken = λ at. by_index at here (λ same. subst (λ n. IsTaken n e) (sym same) taken)
-      (λ other. taken_still laws d e at kept also (stays.sessions (at + 1) (λ f. other (omega (arith, f)))) (stays.channels at other) (rest.taken at));
+pub rest_but : (laws : DrivingLaws) (d e : Driver) (here : ℕ) → IsKept d → IsKept e → IsSame d e → IsAtRest d → StaysBut (IsQuiet d) here d e
+    → (WorksAlone e → NoneWaits e.desk) → (WorksAlone e → IsTaken here e) → IsOffered here e → IsHeard here e → IsAtRest e
+rest_but laws d e here kept also same_ rest stays jobs taken offered heard = record {
+  done = λ alone.
+      (let before = alone_back d e same_ alone in
+      record {
+        jobs = jobs alone;
+        taken = λ at. by_index at here (λ same. subst (λ n. IsTaken n e) (sym same) (taken alone))
+            (λ other.
+            taken_still laws d e at kept also (stays.sessions (inl before) (at + 1) (λ f. other (omega (arith, f)))) (stays.channels at other) ((rest.done before).taken at));
+      });
   offered = λ at. by_index at here (λ same. subst (λ n. IsOffered n e) (sym same) offered) (λ other. while_still _ at d e (stays.channels at other) (rest.offered at));
   heard = λ at. by_index at here (λ same. subst (λ n. IsHeard n e) (sym same) heard) (λ other. while_still _ at d e (stays.channels at other) (rest.heard at));
 }

@@ -11,16 +11,18 @@ use Rattle.machine_steps.specs.declared.reply.Reply.{Reply}
 use Rattle.machine_steps.specs.declared.reply.Reply.TheVariants.{NoMemory}
 use Rattle.machine_steps.specs.Machine.{was_opened}
 use Rattle.machine_steps.specs.Steps.{Steps}
+use Rattle.machine_steps.proofs.Changes.{changes}
 use Rattle.world_steps.specs.Worlds.{lacks_memory}
 use Rattle.sim_steps.specs.Benches.{is_plugged}
 use Rattle.sim_channels.specs.declared.channel.Channel.{Channel}
 use Rattle.machine_desk.specs.Hearing.{stage_opened}
 use Rattle.machine_desk.specs.declared.inbound.Stage.TheVariants.{Unopened}
 use Rattle.sim_channels.specs.declared.driver.Driver.{Driver}
-use Rattle.sim_channels.specs.Channels.{IsKept, IsStaged, was_plugged_in}
+use Rattle.sim_channels.specs.Channels.{IsKept, IsSame, IsStaged, was_plugged_in}
 use Rattle.sim_channels.specs.Driving.{DrivingLaws}
 use Rattle.sim_channels.proofs.Keeping.{opened_same, plugged_same, reached_on, reached_sound, session_same}
-use Rattle.sim_channels.proofs.Kept.{ChannelAt, alone_still, fresh_but, is_as_long, staged, stages_but}
+use Rattle.sim_channels.proofs.Kept.{ChannelAt, fresh_but, is_as_long, staged, stages_but}
+use Rattle.sim_channels.proofs.Others.{crew_on}
 
 never_unplugged : (b : Bool) → stage_opened b ≡ Unopened → ⊥
 never_unplugged true e = absurd (cc)
@@ -30,7 +32,7 @@ module _ (laws : DrivingLaws) (old new : Driver) (reply : Reply) (kept : IsKept 
   pub kept_opened : (at : ℕ) (k l : Channel) → ChannelAt at k l old new → k.inbound.stage ≡ Unopened → l.inbound.stage ≡ stage_opened (is_end reply) → lacks_memory reply ≡ false
       → Steps old.desk.now (entries.Open (at + 1)) reply new.desk.now → IsKept new
   kept_opened at k l h unplugged stage memory steps = record {
-    alone = alone_still old new h.footing kept.alone;
+    crew = crew_on old new h.same (changes old.desk.now (entries.Open (at + 1)) reply new.desk.now steps).settings kept.crew;
     reached = reached_on old.desk.now (entries.Open (at + 1)) reply new.desk.now kept.reached tt steps;
     numbers = subst (λ n. n < 2 ^ 32) (sym long) kept.numbers;
     stages = stages;
@@ -79,9 +81,9 @@ module _ (laws : DrivingLaws) (old new : Driver) (reply : Reply) (kept : IsKept 
 
   -- another policy is in force
   pub kept_policy : (policy : Policy) → Steps old.desk.now (entries.NewPolicy policy) reply new.desk.now → new.channels.items ≡ old.channels.items
-      → new.desk.footing ≡ old.desk.footing → IsKept new
-  kept_policy policy steps channels footing = record {
-    alone = alone_still old new footing kept.alone;
+      → IsSame old new → IsKept new
+  kept_policy policy steps channels same = record {
+    crew = crew_on old new same (changes old.desk.now (entries.NewPolicy policy) reply new.desk.now steps).settings kept.crew;
     reached = reached_on old.desk.now (entries.NewPolicy policy) reply new.desk.now kept.reached tt steps;
     numbers = subst (λ ks. length ks < 2 ^ 32) (sym channels) kept.numbers;
     stages = λ n x there. staged (n + 1) old.desk.now new.desk.now x.inbound.stage (plugged (n + 1)) (opened (n + 1)) (kept.stages n x (sym (ap (λ ks. slice_get ks n) channels) ∙ there));

@@ -1,5 +1,5 @@
 -- A driver at rest has a still bench, and hears in order.
-use Rattle.std.proofs.Common.{◌≡◌, ℕ, zero, suc, ◌+◌, ◌-◌, ◌<◌, true, List, [], ◌∷◌, length, refl, sym, ap, ◌∙◌, subst, arith}
+use Rattle.std.proofs.Common.{◌≡◌, ◌⊎◌, ℕ, zero, suc, ◌+◌, ◌-◌, ◌<◌, Bool, true, List, [], ◌∷◌, length, refl, sym, ap, ◌∙◌, subst, inl, inr, arith}
 use Rattle.std.specs.Prelude.{Some}
 use Rattle.std.specs.List.{slice_get}
 use Rattle.device_port.specs.Devices.{Meaning}
@@ -7,15 +7,15 @@ use Rattle.machine_steps.specs.declared.entry.Entry.TheVariants as entries
 use Rattle.machine_steps.specs.declared.entry.Input.{Input}
 use Rattle.machine_steps.specs.declared.reply.Reply.{Reply}
 use Rattle.world_steps.specs.Worlds.{messages_for}
-use Rattle.sim_steps.specs.Benches.{IsPluggedAt, Slot, is_plugged}
+use Rattle.sim_steps.specs.Benches.{IsPluggedAt, IsSolo, Slot, is_plugged}
 use Rattle.sim_steps.specs.Deeds.Deed.{Enters}
-use Rattle.sim_steps.specs.Parts.{HearsInOrder, IsHeardOut, IsStill}
+use Rattle.sim_steps.specs.Parts.{HearsInOrder, IsCalm, IsHeardOut, IsStill}
 use Rattle.sim_channels.specs.declared.channel.Channel.{Channel}
 use Rattle.machine_desk.specs.declared.inbound.Stage.{Stage}
 use Rattle.machine_desk.specs.declared.inbound.Stage.TheVariants.{Over, Live, Unopened}
 use Rattle.sim_channels.specs.declared.driver.Driver.{Driver}
-use Rattle.sim_channels.specs.Channels.{Fits, IsKept, bench, is_plugged_in}
-use Rattle.sim_channels.specs.Waiting.{IsAtRest, IsOffered}
+use Rattle.sim_channels.specs.Channels.{IsKept, WorksAlone, bench, is_plugged_in}
+use Rattle.sim_channels.specs.Waiting.{IsAtRest, IsDone, IsOffered, NoneWaits}
 use Rattle.sim_channels.proofs.Slots.{SlotBy, slots_found}
 
 pub plugged_in : (stage : Stage) → is_plugged_in stage ≡ true → stage ≡ Live
@@ -61,23 +61,37 @@ none_to driver devices kept offered c s is =
     let h = slot_plugged driver devices c s kept is in
     ap (λ (x : Slot). x.to) h.slot.is ∙ offered h.slot.at h.slot.channel h.slot.there h.plugged
 
-pub rest_is_still : (driver : Driver) (devices : List Meaning) → Fits driver devices → IsAtRest driver → IsStill (bench driver devices)
-rest_is_still driver devices fits rest = record {
-  jobs = rest.jobs;
-  taken = λ c open_now.
-      (let h = plugged_by driver c fits.kept open_now in
-      ap (λ n. messages_for n driver.desk.now) h.place ∙ rest.taken h.at h.channel h.there h.plugged);
-  offered = none_to driver devices fits.kept rest.offered;
-  heard = λ c s is.
-      (let h = slot_plugged driver devices c s fits.kept is in
-      subst (λ (x : Slot). IsHeardOut x.from) (sym h.slot.is) (rest.heard h.slot.at h.slot.channel h.slot.there h.plugged));
-}
+module _ (driver : Driver) (devices : List Meaning) (kept : IsKept driver) (rest : IsAtRest driver) where
+  pub rest_is_calm : IsCalm (bench driver devices)
+  rest_is_calm = record {
+    offered = none_to driver devices kept rest.offered;
+    heard = λ c s is.
+        (let h = slot_plugged driver devices c s kept is in
+        subst (λ (x : Slot). IsHeardOut x.from) (sym h.slot.is) (rest.heard h.slot.at h.slot.channel h.slot.there h.plugged));
+  }
 
--- of the place where all was offered something may be heard, while no packet waits
-pub hears_in_order : (driver : Driver) (devices : List Meaning) (at : ℕ) (input : Input) (reply : Reply) → IsKept driver → driver.desk.now.jobs ≡ [] → IsOffered at driver
+  pub done_is_still : IsDone driver → IsStill (bench driver devices)
+  done_is_still done = record {
+    jobs = done.jobs;
+    taken = λ c open_now.
+        (let h = plugged_by driver c kept open_now in
+        ap (λ n. messages_for n driver.desk.now) h.place ∙ done.taken h.at h.channel h.there h.plugged);
+    calm = rest_is_calm;
+  }
+
+  pub rest_is_still : IsSolo driver.desk.now → IsStill (bench driver devices)
+  rest_is_still solo = done_is_still (rest.done (kept.crew.none solo))
+
+  -- ahead of what is asked for, and, where all is done, of what tells how a settle ended
+  pub rest_is_drained : (settling : Bool) → (settling ≡ true → IsDone driver) → IsSolo driver.desk.now ⊎ (settling ≡ true) → IsStill (bench driver devices)
+  rest_is_drained settling done (inl solo) = rest_is_still solo
+  rest_is_drained settling done (inr is) = done_is_still (done is)
+
+-- of the place where all was offered something may be heard, while no packet waits, unless somebody works beside
+pub hears_in_order : (driver : Driver) (devices : List Meaning) (at : ℕ) (input : Input) (reply : Reply) → IsKept driver → (WorksAlone driver → NoneWaits driver.desk) → IsOffered at driver
     → HearsInOrder (Enters (entries.Heard (at + 1) input) reply) (bench driver devices)
 hears_in_order driver devices at input reply kept jobs offered = (
-  jobs,
+  (λ solo. jobs (kept.crew.none solo)),
   (λ s is.
       (let h = slot_plugged driver devices (at + 1) s kept is in
       let same : h.slot.at ≡ at = omega (arith, h.slot.place) in

@@ -1,21 +1,24 @@
 -- The driver of the machine and devices: the bench that it is with the devices, and what it keeps.
-use Rattle.std.specs.Prelude.{◌≡◌, ℕ, ◌+◌, ◌^◌, ◌<◌, ◌≤◌, Bool, true, false, List, [], ◌∷◌, ◌++◌, length, Some}
+use Rattle.std.specs.Prelude.{◌≡◌, ℕ, ◌+◌, ◌^◌, ◌<◌, ◌≤◌, Bool, true, false, List, [], ◌∷◌, ◌++◌, length, Option, Some, None, IfSome, is_some}
 use Rattle.std.specs.List.{slice_get}
 use Rattle.maple_base.specs.declared.decision.Settings.{Settings}
 use Rattle.policy_lang.specs.declared.Policy.{Policy}
 use Rattle.of10_stream.specs.Steps.{beginning}
 use Rattle.device_port.specs.Devices.{Meaning}
 use Rattle.machine_desk.specs.Desks.{DeskView}
+use Rattle.worker_crew.specs.Takers.{IsTakerOf, shares}
+use Rattle.desk_jobs.specs.Laws.{Meanwhile}
 use Rattle.machine_steps.specs.declared.entry.Entry.{Entry}
 use Rattle.machine_steps.specs.declared.reply.Reply.{Reply}
 use Rattle.machine_steps.specs.Histories.{Leads, Turn}
 use Rattle.machine_steps.specs.Machine.{State, opening, was_opened}
 use Rattle.machine_steps.specs.Sound.{AreInRange}
 use Rattle.machine_steps.specs.Steps.{Steps}
-use Rattle.sim_steps.specs.Benches.{Slot, Bench, is_plugged, opening_bench}
+use Rattle.sim_steps.specs.Benches.{Slot, Bench, IsSolo, is_plugged, opening_bench}
 use Rattle.sim_steps.specs.Deeds.{turn_by}
 use Rattle.sim_steps.specs.Stretches.{Carried}
 use Rattle.sim_channels.specs.declared.channel.Channel.{Channel}
+use Rattle.sim_channels.specs.declared.crew.Crew.{Crew}
 use Rattle.machine_desk.specs.declared.inbound.Stage.{Stage}
 use Rattle.machine_desk.specs.declared.inbound.Stage.TheVariants.{Unopened, Live}
 use Rattle.sim_channels.specs.declared.driver.Driver.{Driver}
@@ -66,13 +69,45 @@ pub record IsFresh (k : Channel) : Type 0 where
   pub to : k.to ≡ []
   pub from : k.inbound.from.stream ≡ beginning
 
--- nobody else has a part of the machine
-abbrev pub IsAlone : Driver → Type 0
-IsAlone driver = driver.desk.footing.parts ≡ 1024
+-- ---- who works beside the driver
 
--- what the driver knows of the machine: nobody else uses it, and which stages its sessions have; a device that never was plugged in has a fresh channel
+-- the pass for the queue is one of this queue
+abbrev pub IsCrew : Crew → Type 0
+IsCrew crew = IsTakerOf crew.jobs.now crew.taker.now
+
+-- a driver may have this crew, where its pass has so many parts and the machine is so: without a crew it has all parts, and it has none where the settings
+-- have no workers
+pub record MayHave (crew : Option Crew) (parts : ℕ) (m : State) : Type 0 where
+  pub alone : is_some crew ≡ false → parts ≡ 1024
+  pub none : IsSolo m → is_some crew ≡ false
+  pub is : IfSome crew IsCrew
+
+-- nobody works beside the driver
+abbrev pub WorksAlone : Driver → Type 0
+WorksAlone driver = is_some driver.crew ≡ false
+
+-- a crew's pass is the one that was lent, with as many parts of the same queue
+pub record IsCrewStill (old new : Crew) : Type 0 where
+  pub jobs : new.jobs ≡ old.jobs
+  pub name : new.taker.ghost_name ≡ old.taker.ghost_name
+  pub is : IsCrew old → IsCrew new
+  pub shares : IsCrew old → shares new.taker.now ≡ shares old.taker.now
+
+abbrev pub SameCrew : Option Crew → Option Crew → Type 0
+SameCrew None None = Unit {0}
+SameCrew (Some old) (Some new) = IsCrewStill old new
+SameCrew old new = ⊥
+
+-- what no call of the driver changes: its footing, and who works beside it
+pub record IsSame (old new : Driver) : Type 0 where
+  pub footing : new.desk.footing ≡ old.desk.footing
+  pub crew : SameCrew old.crew new.crew
+
+-- ---- what is kept of the machine and the channels
+
+-- what the driver knows of the machine: who else uses it, and which stages its sessions have; a device that never was plugged in has a fresh channel
 pub record IsKept (driver : Driver) : Type 0 where
-  pub alone : IsAlone driver
+  pub crew : MayHave driver.crew driver.desk.footing.parts driver.desk.now
   pub reached : IsReached driver.desk.now
   pub numbers : length driver.channels.items < 2 ^ 32
   pub stages : (at : ℕ) (k : Channel) → slice_get driver.channels.items at ≡ Some k → IsStaged (at + 1) driver.desk.now k.inbound.stage
@@ -87,9 +122,8 @@ pub record Fits (driver : Driver) (devices : List Meaning) : Type 0 where
       (at : ℕ) (k : Channel) (d : Meaning)
       → slice_get driver.channels.items at ≡ Some k → slice_get devices at ≡ Some d → k.waiting ≡ length d.pending
 
--- the machine of a desk is ahead of its first entry, and nobody else has a part of it
+-- the machine of a desk is ahead of its first entry
 pub record IsAtStart (desk : DeskView) : Type 0 where
-  pub alone : desk.footing.parts ≡ 1024
   pub none : desk.past ≡ []
   pub opening : desk.now ≡ opening desk.now.policy desk.now.settings
   pub ranges : AreInRange desk.now.settings
@@ -98,10 +132,25 @@ pub record IsAtStart (desk : DeskView) : Type 0 where
 abbrev pub bench_at_start : DeskView → List Meaning → Bench
 bench_at_start desk devices = opening_bench desk.now.policy desk.now.settings devices
 
--- ---- an entry
+-- ---- what others do
+
+-- others did what they may, and nothing else changed; who works alone has nobody beside
+pub record OthersDid (old new : Driver) : Type 0 where
+  pub meanwhile : Meanwhile old.desk new.desk
+  pub rest : new ≡ record old { desk = new.desk }
+  pub footing : new.desk.footing ≡ old.desk.footing
+  pub alone : WorksAlone old → new ≡ old
+
+-- the driver and others did what anybody may, of packets that wait, and nothing else changed but the crew's pass
+pub record Tends (old new : Driver) : Type 0 where
+  pub meanwhile : Meanwhile old.desk new.desk
+  pub rest : new ≡ record old { desk = new.desk; crew = new.crew }
+  pub same : IsSame old new
+
+-- ---- an entry of the driver itself
 
 -- the machine made a turn, and nobody came between
-pub record EntersAlone (entry : Entry) (reply : Reply) (a b : DeskView) : Type 0 where
+pub record EntersNext (entry : Entry) (reply : Reply) (a b : DeskView) : Type 0 where
   pub steps : Steps a.now entry reply b.now
   pub past : b.past ≡ a.past ++ turn_by a.now entry reply b.now ∷ []
 

@@ -3,6 +3,8 @@ use Rattle.machine_moves.specs.MoveLaws.{ConnectionsOpen, OpenIsKept, SessionsMo
 use Rattle.machine_moves.specs.Told.{EndsAreTold, JobsAreTold, NoneElseWaits, OpensAreTold, OthersStay, PolicyIsTold, StatesAreTold}
 use Rattle.machine_moves.specs.Sends.{SendsLaw}
 use Rattle.machine_steps.specs.Laws.{KeepsSound, OpensSound}
+use Rattle.machine_sharing.specs.Between.{MostStays, NothingChanges}
+use Rattle.machine_sharing.specs.Legal.{TurnsAreCalls}
 
 pub record DrivingLaws : Type 0 where
   pub sound : OpensSound
@@ -20,3 +22,6 @@ pub record DrivingLaws : Type 0 where
   pub connections : ConnectionsOpen
   pub grow : StatesGrow
   pub sends : SendsLaw
+  pub calls : TurnsAreCalls
+  pub nothing : NothingChanges
+  pub stays : MostStays

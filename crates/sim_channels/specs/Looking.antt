@@ -8,7 +8,7 @@ use Rattle.machine_steps.specs.declared.reply.Reply.{Reply}
 use Rattle.world_steps.specs.Worlds.{lacks_memory}
 use Rattle.sim_steps.specs.Benches.{Bench}
 use Rattle.sim_steps.specs.Deeds.{CallsAt, LooksUp, has_failed}
-use Rattle.sim_channels.specs.Channels.{Fits, bench, slot_by}
+use Rattle.sim_channels.specs.Channels.{Fits, OthersDid, bench, slot_by}
 use Rattle.sim_channels.specs.Delivering.{IsPluggedIn}
 use Rattle.sim_channels.specs.Waiting.{IsAtRestBut}
 use Rattle.sim_channels.specs.declared.channel.Channel.{Channel}
@@ -36,9 +36,11 @@ pub record Called (c port : ℕ) (frame : List ℕ) (failed : Bool) (a b : Bench
   pub memory : lacks_memory reply ≡ false
   pub failed_is : has_failed (Looking port frame seen bytes) ≡ failed
 
--- and the driver behind it
+-- and the driver behind it; others did what they may ahead of it
 pub record IsCalled (at port : ℕ) (frame : List ℕ) (failed : Bool) (old : Driver) (before : List Meaning) (new : Driver) (after : List Meaning) : Type 0 where
   pub fits : Fits new after
   pub rest : IsAtRestBut at new
   pub plugged : IsPluggedIn at new
-  pub called : Called (at + 1) port frame failed (bench old before) (bench new after)
+  pub ahead : Driver
+  pub others : OthersDid old ahead
+  pub called : Called (at + 1) port frame failed (bench ahead before) (bench new after)

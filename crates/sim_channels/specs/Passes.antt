@@ -1,15 +1,21 @@
 -- One message that is heard: what comes next on a channel, what its reply brings about, and what is known behind both.
-use Rattle.std.specs.Prelude.{◌≡◌, ℕ, ◌+◌, ◌<◌, Bool, true, false, List, [], ◌∷◌, length, set, Option, Some, None}
+use Rattle.std.specs.Prelude.{◌≡◌, ◌⊎◌, ℕ, ◌+◌, ◌<◌, Bool, true, false, List, [], ◌∷◌, length, set, Option, Some, None}
 use Rattle.std.specs.List.{slice_get}
 use Rattle.machine_steps.specs.declared.entry.Input.{Input}
+use Rattle.machine_steps.specs.declared.entry.Input.TheVariants.{Message as Whole, Bad}
+use Rattle.of10_codec.specs.declared.message.Body.{Body}
+use Rattle.of10_codec.specs.declared.message.Body.TheVariants as body
 use Rattle.machine_steps.specs.declared.job.Job.{Job}
+use Rattle.machine_steps.specs.Machine.{most_jobs}
 use Rattle.machine_steps.specs.Steps.{item_of}
+use Rattle.machine_desk.specs.Desks.{DeskView}
 use Rattle.machine_desk.specs.Hearing.{Hears}
+use Rattle.desk_jobs.specs.Laws.{Meanwhile}
 use Rattle.machine_desk.specs.declared.inbound.Inbound.{Inbound}
 use Rattle.machine_desk.specs.declared.hearing.Heard.{Heard}
 use Rattle.machine_desk.specs.declared.hearing.Heard.TheVariants as heard
 use Rattle.sim_channels.specs.Answering.{Answers}
-use Rattle.sim_channels.specs.Channels.{CarriedOver, IsKept}
+use Rattle.sim_channels.specs.Channels.{CarriedOver, IsKept, IsSame, Tends, WorksAlone}
 use Rattle.sim_channels.specs.Waiting.{IsHeard, IsOffered, NoneWaits, StaysBut}
 use Rattle.sim_channels.specs.declared.channel.Channel.{Channel}
 use Rattle.sim_channels.specs.declared.driver.Driver.{Driver}
@@ -28,15 +34,47 @@ pub record HearsAt (here : ℕ) (input : Input) (heard : Heard) (old new : Drive
   pub rest : new ≡ record old { desk = new.desk; channels = new.channels }
   pub channels : new.channels.items ≡ set old.channels.items here (record channel { inbound = behind })
 
+abbrev pub brings_packet : Body → Bool
+brings_packet (body.PacketIn buffer total in_port reason bytes) = true
+brings_packet other = false
+
+-- a packet comes with it
+abbrev pub is_packet : Input → Bool
+is_packet (Whole m) = brings_packet m.body
+is_packet (Bad place bad) = false
+
 -- a packet that was heard waits, and no other
 abbrev pub WaitsBy : Heard → List Job → Type 0
 WaitsBy (heard.Packet item) jobs = (j : Job) × (jobs ≡ j ∷ []) × (item ≡ item_of j)
 WaitsBy rest jobs = Unit {0}
 
--- what is done about an input: a packet is answered
+-- a packet is answered, or handed over to who works beside
+pub record Attends (old new : Driver) : Type 0 where
+  pub tends : Tends old new
+  pub answers : WorksAlone old → Answers old.desk new.desk
+
+-- what is done about an input
 abbrev pub Follows : Heard → Driver → Driver → Type 0
-Follows (heard.Packet item) old new = Answers old.desk new.desk × (new ≡ record old { desk = new.desk })
+Follows (heard.Packet item) old new = Attends old new
 Follows rest old new = new ≡ old
+
+-- no packet waits, where somebody works beside
+pub record AwaitsAll (old new : Driver) : Type 0 where
+  pub tends : Tends old new
+  pub alone : WorksAlone old → new ≡ old
+  pub none : WorksAlone old ⊎ NoneWaits new.desk
+
+-- there is room for a packet, whatever others do until it is heard
+pub record MakesRoom (old new : Driver) : Type 0 where
+  pub tends : Tends old new
+  pub alone : WorksAlone old → new ≡ old
+  pub room : (d : DeskView) → Meanwhile new.desk d → WorksAlone old ⊎ (length d.now.jobs < most_jobs)
+
+-- the same where a packet came
+pub record MakesRoomFor (input : Input) (old new : Driver) : Type 0 where
+  pub tends : Tends old new
+  pub alone : WorksAlone old → new ≡ old
+  pub room : is_packet input ≡ true → (d : DeskView) → Meanwhile new.desk d → WorksAlone old ⊎ (length d.now.jobs < most_jobs)
 
 -- what is told of an input
 abbrev pub came_of : Heard → Came
@@ -54,10 +92,11 @@ is_state came = false
 pub record HasHeard (here : ℕ) (made : Bool) (old new : Driver) : Type 0 where
   pub kept : IsKept new
   pub carried : CarriedOver old new
-  pub jobs : NoneWaits new.desk
+  pub jobs : WorksAlone old → NoneWaits new.desk
   pub offered : IsOffered here new
   pub channels : KeepsChannels here old new
-  pub others : made ≡ false → old.desk.now.policy.learning ≡ false → StaysBut here old new
+  pub others : made ≡ false → old.desk.now.policy.learning ≡ false → StaysBut (WorksAlone old) here old new
+  pub same : IsSame old new
   pub learning : new.desk.now.policy.learning ≡ old.desk.now.policy.learning
 
 -- how many bytes are to be heard from a place yet

@@ -12,7 +12,8 @@ use Rattle.machine_desk.specs.Hearing.{stage_opened}
 use Rattle.sim_channels.specs.declared.channel.Channel.{Channel}
 use Rattle.machine_desk.specs.declared.inbound.Stage.{Stage}
 use Rattle.sim_channels.specs.declared.driver.Driver.{Driver}
-use Rattle.sim_channels.specs.Channels.{EntersAlone, bench, with_stage}
+use Rattle.machine_desk.specs.Desks.{Enters}
+use Rattle.sim_channels.specs.Channels.{bench, with_stage}
 
 -- the channel with this index has this stage
 pub record HasStage (at : ℕ) (stage : Stage) (driver : Driver) : Type 0 where
@@ -30,7 +31,7 @@ pub record Restages (at : ℕ) (stage : Stage) (old new : Driver) : Type 0 where
 
 -- the machine was given an entry, with memory enough, and the channel with this index has this stage behind it
 pub record EntersAndStages (at : ℕ) (entry : Entry) (reply : Reply) (stage : Stage) (old new : Driver) : Type 0 where
-  pub enters : EntersAlone entry reply old.desk new.desk
+  pub enters : Enters old.desk entry reply new.desk
   pub memory : lacks_memory reply ≡ false
   pub stages : Restages at stage (record old { desk = new.desk }) new
 

@@ -1,5 +1,5 @@
 -- What is left to do at a place, of those whose session is open: what the machine has for the device, what was taken out for it, what came from it.
-use Rattle.std.specs.Prelude.{◌≡◌, ℕ, ◌+◌, [], Some}
+use Rattle.std.specs.Prelude.{◌≡◌, ◌⊎◌, ℕ, ◌+◌, [], Some}
 use Rattle.std.specs.List.{slice_get}
 use Rattle.machine_desk.specs.Desks.{DeskView}
 use Rattle.machine_steps.specs.Machine.{session_at}
@@ -8,6 +8,7 @@ use Rattle.sim_steps.specs.Parts.{IsHeardOut}
 use Rattle.sim_channels.specs.declared.channel.Channel.{Channel}
 use Rattle.machine_desk.specs.declared.inbound.Stage.TheVariants.{Live}
 use Rattle.sim_channels.specs.declared.driver.Driver.{Driver}
+use Rattle.sim_channels.specs.Channels.{WorksAlone}
 
 -- no packet waits for an answer
 abbrev pub NoneWaits : DeskView → Type 0
@@ -29,27 +30,38 @@ IsOffered at driver = WhilePlugged (λ k. k.to ≡ []) at driver
 abbrev pub IsHeard : ℕ → Driver → Type 0
 IsHeard at driver = WhilePlugged (λ k. IsHeardOut k.inbound.from.stream) at driver
 
--- nothing is left to do
-pub record IsAtRest (driver : Driver) : Type 0 where
+-- ---- the machine
+
+-- no packet waits, and all was taken out
+pub record IsDone (driver : Driver) : Type 0 where
   pub jobs : NoneWaits driver.desk
   pub taken : (at : ℕ) → IsTaken at driver
+
+-- nobody changes the machine but the driver: there is nobody, or no packet waits that somebody could answer
+abbrev pub IsQuiet : Driver → Type 0
+IsQuiet driver = WorksAlone driver ⊎ NoneWaits driver.desk
+
+-- ---- the driver
+
+-- the driver has nothing left to do: what came was heard, what was taken out was offered; where it works alone, the machine has nothing left either
+pub record IsAtRest (driver : Driver) : Type 0 where
+  pub done : WorksAlone driver → IsDone driver
   pub offered : (at : ℕ) → IsOffered at driver
   pub heard : (at : ℕ) → IsHeard at driver
 
 -- nothing is left to do but to take out and offer
 pub record IsHeardThrough (driver : Driver) : Type 0 where
-  pub jobs : NoneWaits driver.desk
+  pub jobs : WorksAlone driver → NoneWaits driver.desk
   pub offered : (at : ℕ) → IsOffered at driver
   pub heard : (at : ℕ) → IsHeard at driver
 
 -- nothing is left to do but to hear what came from this place
 pub record IsAtRestBut (here : ℕ) (driver : Driver) : Type 0 where
-  pub jobs : NoneWaits driver.desk
-  pub taken : (at : ℕ) → IsTaken at driver
+  pub done : WorksAlone driver → IsDone driver
   pub offered : (at : ℕ) → IsOffered at driver
   pub heard : (at : ℕ) → (at ≡ here → ⊥) → IsHeard at driver
 
--- all other places are as they were
-pub record StaysBut (here : ℕ) (old new : Driver) : Type 0 where
-  pub sessions : (c : ℕ) → (c ≡ here + 1 → ⊥) → session_at c new.desk.now ≡ session_at c old.desk.now
+-- all other places are as they were; the machine's part of that where this holds
+pub record StaysBut (Where : Type 0) (here : ℕ) (old new : Driver) : Type 0 where
+  pub sessions : Where → (c : ℕ) → (c ≡ here + 1 → ⊥) → session_at c new.desk.now ≡ session_at c old.desk.now
   pub channels : (at : ℕ) → (at ≡ here → ⊥) → slice_get new.channels.items at ≡ slice_get old.channels.items at

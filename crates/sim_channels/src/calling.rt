@@ -1,9 +1,7 @@
 // A frame comes to a device.
-ghost use Rattle.std.specs.Prelude.{◌≡◌, ◌<◌, ◌≤◌, map, length, IfOk, OnOk};
-ghost use Rattle.machine_steps.specs.declared.entry.Entry.TheVariants as entries;
-ghost use Rattle.machine_steps.specs.declared.reply.Reply.TheVariants.{Done};
+ghost use Rattle.std.specs.Prelude.{◌≡◌, ◌<◌, ◌≤◌, map, length, IfOk};
 ghost use Rattle.script_text.specs.Grammar.{most_bytes};
-ghost use Rattle.sim_channels.specs.Channels.{EntersAlone, Fits, IsAlone};
+ghost use Rattle.sim_channels.specs.Channels.{Fits, IsSame};
 ghost use Rattle.sim_channels.specs.Delivering.{IsPluggedIn};
 ghost use Rattle.sim_channels.specs.Looking.{IsCalled, LooksUpBy, is_failure};
 ghost use Rattle.sim_channels.specs.Waiting.{IsAtRest};
@@ -11,7 +9,7 @@ ghost use Rattle.sim_channels.specs.Waiting.{IsAtRest};
 use crate::laws::driving_laws;
 use crate::outbox::connection_of;
 use crate::{Channel, Driver, Stopped};
-use core_machine::{Entry, Note, Reply};
+use core_machine::Note;
 use device_port::Device;
 use maple_base::{Bytes, NoMemory, Seen};
 use std::alloc::Global;
@@ -37,7 +35,7 @@ impl<'h> Driver<'h> {
         requires within { at < length devices.old }
         requires short { length frame ≤ most_bytes }
         ensures called { IfOk result (λ failed. IsCalled at port frame failed self.old (map D.meaning devices.old) self.new (map D.meaning devices.new)) }
-        ensures footing { self.new.desk.footing ≡ self.old.desk.footing }
+        ensures same { IsSame self.old self.new }
     {
         driving_laws();
         let alloc = self.alloc;
@@ -50,9 +48,8 @@ impl<'h> Driver<'h> {
         )?;
         let failed = has_failed(&seen);
         let device = connection_of(at);
-        tell(
+        self.note(
             rt,
-            self,
             Note::Seen {
                 device,
                 port,
@@ -68,20 +65,6 @@ fn has_failed(seen: &Seen) -> bool
     ensures { result ≡ is_failure seen.now }
 {
     matches!(seen, Seen::Failed)
-}
-
-// The machine is told what a device did.
-fn tell<R: Wait>(rt: &R, driver: &mut Driver<'_>, note: Note) -> Result<(), Stopped>
-    requires alone { IsAlone driver.old }
-    ensures enters { OnOk result (EntersAlone (entries.Note note) Done driver.old.desk driver.new.desk) }
-    ensures same { OnOk result (driver.new ≡ record driver.old { desk = driver.new.desk }) }
-    ensures footing { driver.new.desk.footing ≡ driver.old.desk.footing }
-{
-    match driver.enter(rt, Entry::Note(note))? {
-        Reply::Done => Ok(()),
-        Reply::NoMemory => Err(Stopped),
-        _ => unreachable!(),
-    }
 }
 
 // A frame comes to the device behind a channel.

@@ -1,14 +1,15 @@
 // What the machine has for devices is taken out and offered to them.
 ghost use Rattle.std.specs.Prelude.{◌≡◌, ◌<◌, map, length, OnOk};
 ghost use Rattle.sim_steps.specs.Stretches.{Carried};
-ghost use Rattle.sim_channels.specs.Channels.{Fits, bench};
+ghost use Rattle.sim_channels.specs.Channels.{Fits, IsSame, bench};
 ghost use Rattle.sim_channels.specs.Delivering.{Delivers, IsPluggedIn};
-ghost use Rattle.sim_channels.specs.Waiting.{IsAtRest, IsHeard, IsHeardThrough, IsOffered, IsTaken, NoneWaits, StaysBut};
+ghost use Rattle.sim_channels.specs.Waiting.{IsAtRest, IsDone, IsHeard, IsHeardThrough, IsOffered, IsQuiet, IsTaken, NoneWaits, StaysBut};
 
 use crate::laws::driving_laws;
 use crate::{Driver, Stopped};
 use device_port::Device;
 use machine_desk::Stage;
+use packet_workers::Gate;
 use std::sync::Wait;
 
 impl<'h> Driver<'h> {
@@ -29,12 +30,12 @@ impl<'h> Driver<'h> {
         requires offered { IsOffered at self.old }
         ensures fits { OnOk result (Fits self.new (map D.meaning devices.new)) }
         ensures carried { OnOk result (Carried (bench self.old (map D.meaning devices.old)) (bench self.new (map D.meaning devices.new))) }
-        ensures taken { OnOk result (IsTaken at self.new) }
+        ensures taken { OnOk result (IsQuiet self.old → IsTaken at self.new) }
         ensures offered { OnOk result (IsOffered at self.new) }
         ensures heard { OnOk result (IsHeard at self.old → IsHeard at self.new) }
-        ensures others { OnOk result (StaysBut at self.old self.new) }
+        ensures others { OnOk result (StaysBut (IsQuiet self.old) at self.old self.new) }
         ensures jobs { OnOk result (NoneWaits self.old.desk → NoneWaits self.new.desk) }
-        ensures footing { self.new.desk.footing ≡ self.old.desk.footing }
+        ensures same { IsSame self.old self.new }
     {
         match self.channels[at].inbound.stage() {
             Stage::Live => self.deliver_plugged(rt, devices, at),
@@ -57,7 +58,8 @@ impl<'h> Driver<'h> {
         ensures fits { OnOk result (Fits self.new (map D.meaning devices.new)) }
         ensures carried { OnOk result (Carried (bench self.old (map D.meaning devices.old)) (bench self.new (map D.meaning devices.new))) }
         ensures rest { OnOk result (IsAtRest self.new) }
-        ensures footing { self.new.desk.footing ≡ self.old.desk.footing }
+        ensures done { OnOk result (NoneWaits self.old.desk → IsDone self.new) }
+        ensures same { IsSame self.old self.new }
     {
         driving_laws();
         for at in 0..devices.len() {
@@ -66,7 +68,34 @@ impl<'h> Driver<'h> {
         Ok(())
     }
 
-    // The same where its session is open.
+    /// Beside workers: waits until no packet waits, and delivers what came of that. Without them there is nothing to wait for.
+    ///
+    /// # Errors
+    ///
+    /// `Stopped`.
+    pub fn catch_up<R: Wait, G: Gate, D: Device>(
+        &mut self,
+        rt: &R,
+        gate: &G,
+        devices: &mut [D],
+    ) -> Result<(), Stopped>
+        requires fits { Fits self.old (map D.meaning devices.old) }
+        requires rest { IsAtRest self.old }
+        ensures fits { OnOk result (Fits self.new (map D.meaning devices.new)) }
+        ensures carried { OnOk result (Carried (bench self.old (map D.meaning devices.old)) (bench self.new (map D.meaning devices.new))) }
+        ensures rest { OnOk result (IsAtRest self.new) }
+        ensures done { OnOk result (IsDone self.new) }
+        ensures same { IsSame self.old self.new }
+    {
+        driving_laws();
+        if self.works_alone() {
+            return Ok(());
+        }
+        self.await_all(rt, gate)?;
+        self.deliver_all(rt, devices)
+    }
+
+    // The same as `deliver` where its session is open.
     fn deliver_plugged<R: Wait, D: Device>(
         &mut self,
         rt: &R,
@@ -79,7 +108,7 @@ impl<'h> Driver<'h> {
         requires offered { IsOffered at self.old }
         ensures done { OnOk result (Delivers at self.old (map D.meaning devices.old) self.new (map D.meaning devices.new)) }
         ensures offered { OnOk result (IsOffered at self.new) }
-        ensures footing { self.new.desk.footing ≡ self.old.desk.footing }
+        ensures same { IsSame self.old self.new }
     {
         self.take_out(rt, at)?;
         while !self.channels[at].to.is_empty() {

@@ -8,7 +8,7 @@ ghost use Rattle.machine_desk.specs.Orders.{Asked, Changes, Renews, Stops, Stops
 ghost use Rattle.machine_desk.specs.Reports.{ReportsBy};
 ghost use Rattle.machine_desk.specs.declared.report.ReportStop.TheVariants as stops;
 
-use crate::Driver;
+use crate::{Crew, Driver};
 use env_cells::Update;
 use machine_desk::{Desk, DeskStop, ReportStop};
 use maple_io::Sink;
@@ -108,11 +108,12 @@ impl<'h> Driver<'h> {
         self.desk.write_report(rt, out)
     }
 
-    /// The desk again, as all is done.
-    pub fn into_desk(self) -> Desk<'h>
-        ensures { result ≡ self.entry.desk }
+    /// The desk again, and who works beside it, as all is done.
+    pub fn into_parts(self) -> (Desk<'h>, Option<Crew<'h>>)
+        ensures desk { result.0 ≡ self.entry.desk }
+        ensures crew { result.1 ≡ self.entry.crew }
     {
-        let Driver { desk, .. } = self;
-        desk
+        let Driver { desk, crew, .. } = self;
+        (desk, crew)
     }
 }

@@ -3,12 +3,12 @@ ghost use Rattle.std.specs.Prelude.{◌≡◌, ℕ, ◌^◌, ◌<◌, [], IfErr,
 ghost use Rattle.std.specs.List.{AllByRecursion};
 ghost use Rattle.sim_steps.specs.Showing.{AllIdle};
 ghost use Rattle.world_steps.specs.Worlds.{messages_for};
-ghost use Rattle.sim_channels.specs.Channels.{Fits, IsAtStart, bench, bench_at_start};
+ghost use Rattle.sim_channels.specs.Channels.{Fits, IsAtStart, MayHave, bench, bench_at_start};
 ghost use Rattle.sim_channels.specs.Delivering.{IsUnused};
 ghost use Rattle.sim_channels.specs.Waiting.{IsAtRest};
 
-use crate::Channel;
 use crate::outbox::{connection_of, messages_for};
+use crate::{Channel, Crew};
 use device_port::Device;
 use machine_desk::{Desk, Inbound};
 use maple_base::{Bytes, NoMemory};
@@ -20,36 +20,43 @@ use std::alloc::Global;
 pub struct Driver<'h> {
     pub(crate) alloc: Global,
     pub(crate) desk: Desk<'h>,
+    /// Who works beside it, if anybody does.
+    pub(crate) crew: Option<Crew<'h>>,
     /// Of each place.
     pub(crate) channels: Vec<Channel>,
 }
 
 impl<'h> Driver<'h> {
-    /// The desk of a machine ahead of its first entry, and these devices, of which none is plugged in.
+    /// The desk of a machine ahead of its first entry, who works beside the driver, and these devices, of which none is
+    /// plugged in.
     ///
     /// # Errors
     ///
-    /// The desk again, where memory runs out, also where there are 2^32 devices or more.
+    /// The desk and the crew again, where memory runs out, also where there are 2^32 devices or more.
     pub fn new<D: Device>(
         alloc: Global,
         desk: Desk<'h>,
+        crew: Option<Crew<'h>>,
         devices: &[D],
-    ) -> Result<Driver<'h>, Desk<'h>>
+    ) -> Result<Driver<'h>, (Desk<'h>, Option<Crew<'h>>)>
         requires start { IsAtStart desk }
+        requires crew { MayHave crew desk.footing.parts desk.now }
         requires idle { AllIdle (map D.meaning devices.now) }
         ensures desk { IfOk result (λ driver. driver.desk ≡ desk.entry) }
+        ensures crew { IfOk result (λ driver. driver.crew ≡ crew.entry) }
         ensures opening { IfOk result (λ driver. bench driver (map D.meaning devices.now) ≡ bench_at_start desk.entry (map D.meaning devices.now)) }
         ensures fits { IfOk result (λ driver. Fits driver (map D.meaning devices.now)) }
         ensures rest { IfOk result IsAtRest }
-        ensures back { IfErr result (λ back. back ≡ desk.entry) }
+        ensures back { IfErr result (λ back. (back.0 ≡ desk.entry) × (back.1 ≡ crew.entry)) }
     {
         match unplugged(alloc, &desk, devices.len()) {
             Ok(channels) => Ok(Driver {
                 alloc,
                 desk,
+                crew,
                 channels,
             }),
-            Err(_) => Err(desk),
+            Err(_) => Err((desk, crew)),
         }
     }
 }

@@ -1,18 +1,17 @@
 // What a device appended is heard.
 ghost use Rattle.std.specs.Prelude.{◌≡◌, ◌^◌, ◌<◌, length, OnOk, IfOk};
-ghost use Rattle.machine_desk.specs.declared.hearing.Heard.TheVariants.{Packet};
 ghost use Rattle.machine_steps.specs.Admitting.{IsHeard};
-ghost use Rattle.sim_channels.specs.Answering.{Answers};
-ghost use Rattle.sim_channels.specs.Channels.{IsAlone, IsKept};
+ghost use Rattle.sim_channels.specs.Channels.{IsKept, IsSame, WorksAlone};
 ghost use Rattle.sim_channels.specs.Waiting.{IsOffered, NoneWaits};
-ghost use Rattle.sim_channels.specs.Passes.{Follows, HearsAt, Passed, WaitsBy, came_of};
+ghost use Rattle.sim_channels.specs.Passes.{Follows, HearsAt, MakesRoomFor, Passed, WaitsBy, came_of, is_packet};
 
 use crate::laws::driving_laws;
 use crate::outbox::connection_of;
 use crate::{Driver, Stopped};
-use core_machine::{Input, JobItem};
-use machine_desk::{Heard, working_laws};
-use packet_workers::{Open, Worked};
+use core_machine::Input;
+use machine_desk::Heard;
+use of10_codec::{Body, Message};
+use packet_workers::Gate;
 use std::sync::Wait;
 
 /// What came from a device.
@@ -28,25 +27,49 @@ pub enum Came {
 }
 
 impl<'h> Driver<'h> {
-    /// What came next from the device with this index is heard, and the packet in it answered.
+    /// What came next from the device with this index is heard, and the packet in it answered, or handed over to who works
+    /// beside the driver; ahead of a packet there is room for it in the machine.
     ///
     /// # Errors
     ///
     /// `Stopped`.
-    pub fn hear_next<R: Wait>(&mut self, rt: &R, at: usize) -> Result<Came, Stopped>
+    pub fn hear_next<R: Wait, G: Gate>(
+        &mut self,
+        rt: &R,
+        gate: &G,
+        at: usize,
+    ) -> Result<Came, Stopped>
         requires kept { IsKept self.old }
         requires within { at < length self.old.channels.items }
-        requires jobs { NoneWaits self.old.desk }
+        requires jobs { WorksAlone self.old → NoneWaits self.old.desk }
         requires offered { IsOffered at self.old }
         ensures passed { IfOk result (λ came. Passed at self.old self.new came) }
-        ensures footing { self.new.desk.footing ≡ self.old.desk.footing }
+        ensures same { IsSame self.old self.new }
     {
         driving_laws();
         let Some(input) = self.channels[at].inbound.next()? else {
             return Ok(Came::Nothing);
         };
+        self.make_room_for(rt, gate, &input)?;
         let heard = self.hear(rt, at, input)?;
-        self.follow(rt, heard)
+        self.follow(rt, gate, heard)
+    }
+
+    // Where a packet came: waits until the machine takes it in.
+    fn make_room_for<R: Wait, G: Gate>(
+        &mut self,
+        rt: &R,
+        gate: &G,
+        input: &Input,
+    ) -> Result<(), Stopped>
+        requires kept { IsKept self.old }
+        ensures room { OnOk result (MakesRoomFor input.now self.old self.new) }
+        ensures same { IsSame self.old self.new }
+    {
+        if !is_packet(input) {
+            return Ok(());
+        }
+        self.make_room(rt, gate)
     }
 
     // An input from the device with this index is heard, whose session may end by it.
@@ -54,9 +77,8 @@ impl<'h> Driver<'h> {
         requires within { at < length self.old.channels.items }
         requires few { length self.old.channels.items < 2 ^ 32 }
         requires heard { IsHeard input }
-        requires alone { IsAlone self.old }
         ensures hears { IfOk result (λ heard. HearsAt at input heard self.old self.new) }
-        ensures footing { self.new.desk.footing ≡ self.old.desk.footing }
+        ensures same { IsSame self.old self.new }
     {
         let connection = connection_of(at);
         Ok(
@@ -65,17 +87,17 @@ impl<'h> Driver<'h> {
         )
     }
 
-    // The packet that was heard is answered.
-    fn follow<R: Wait>(&mut self, rt: &R, heard: Heard) -> Result<Came, Stopped>
-        requires waits { WaitsBy heard self.old.desk.now.jobs }
-        requires alone { IsAlone self.old }
+    // The packet that was heard is answered, or handed over.
+    fn follow<R: Wait, G: Gate>(&mut self, rt: &R, gate: &G, heard: Heard) -> Result<Came, Stopped>
+        requires kept { IsKept self.old }
+        requires waits { WorksAlone self.old → WaitsBy heard self.old.desk.now.jobs }
         ensures came { IfOk result (λ came. came ≡ came_of heard) }
         ensures follows { OnOk result (Follows heard self.old self.new) }
-        ensures footing { self.new.desk.footing ≡ self.old.desk.footing }
+        ensures same { IsSame self.old self.new }
     {
         match heard {
             Heard::Packet(item) => {
-                self.answer(rt, item)?;
+                self.attend(rt, gate, item)?;
                 Ok(Came::Message)
             }
             Heard::Ended => Ok(Came::Ended),
@@ -83,19 +105,17 @@ impl<'h> Driver<'h> {
             Heard::Other => Ok(Came::Message),
         }
     }
+}
 
-    // The packet that waits is answered.
-    fn answer<R: Wait>(&mut self, rt: &R, item: JobItem) -> Result<(), Stopped>
-        requires waits { WaitsBy (Packet item) self.old.desk.now.jobs }
-        requires alone { IsAlone self.old }
-        ensures answers { OnOk result (Answers self.old.desk self.new.desk) }
-        ensures rest { self.new ≡ record self.old { desk = self.new.desk } }
-        ensures footing { self.new.desk.footing ≡ self.old.desk.footing }
-    {
-        working_laws();
-        match self.desk.work(rt, self.alloc, item, &Open) {
-            Worked::NoMemory | Worked::Worn => Err(Stopped),
-            Worked::Answered | Worked::Spent | Worked::NotOpen => Ok(()),
-        }
-    }
+// Whether a packet came.
+fn is_packet(input: &Input) -> bool
+    ensures { result ≡ is_packet input.now }
+{
+    matches!(
+        input,
+        Input::Message(Message {
+            body: Body::PacketIn { .. },
+            ..
+        })
+    )
 }

@@ -3,12 +3,13 @@
 
 mod calling;
 pub mod channel;
+pub mod crew;
 mod deliver;
 mod desk;
 pub mod driver;
-mod entering;
 pub mod hear;
 pub mod laws;
+mod noting;
 mod offering;
 mod outbox;
 mod sessions;
@@ -18,6 +19,7 @@ mod taking;
 mod waiting;
 
 pub use channel::Channel;
+pub use crew::Crew;
 pub use driver::Driver;
 pub use hear::Came;
 pub use laws::driving_laws;

@@ -2,14 +2,13 @@
 ghost use Rattle.std.specs.Prelude.{◌≡◌, ◌<◌, IfOk, OnOk, length, map};
 ghost use Rattle.std.specs.List.{AllByRecursion};
 ghost use Rattle.machine_moves.specs.Sends.{CanBeOffered};
-ghost use Rattle.sim_channels.specs.Channels.{Fits};
-ghost use Rattle.sim_channels.specs.Delivering.{CanOffer, Delivers, GoesOn, IsPluggedIn, OffersFirst, offers_left};
-ghost use Rattle.sim_channels.specs.Waiting.{IsTaken};
+ghost use Rattle.sim_channels.specs.Channels.{Fits, IsSame};
+ghost use Rattle.sim_channels.specs.Delivering.{CanOffer, GoesOn, IsPluggedIn, OffersAt, OffersFirst, offers_left};
 
 use crate::laws::driving_laws;
 use crate::outbox::connection_of;
 use crate::{Channel, Driver, Stopped};
-use core_machine::{Entry, Note, Reply};
+use core_machine::Note;
 use device_port::{Device, Took};
 use maple_base::NoMemory;
 use std::sync::Wait;
@@ -27,11 +26,10 @@ impl<'h> Driver<'h> {
         requires within { at < length devices.old }
         requires plugged { IsPluggedIn at self.old }
         requires can { CanOffer at self.old }
-        requires taken { IsTaken at self.old }
         requires some { 0 < offers_left at self.old }
-        ensures done { OnOk result (Delivers at self.old (map D.meaning devices.old) self.new (map D.meaning devices.new)) }
+        ensures done { OnOk result (OffersAt at self.old (map D.meaning devices.old) self.new (map D.meaning devices.new)) }
         ensures goes_on { IfOk result (λ took. GoesOn took at self.old self.new) }
-        ensures footing { self.new.desk.footing ≡ self.old.desk.footing }
+        ensures same { IsSame self.old self.new }
     {
         driving_laws();
         let failed = offer_first(&mut self.channels[at], &mut devices[at])?;
@@ -39,9 +37,7 @@ impl<'h> Driver<'h> {
             device: connection_of(at),
             failed,
         };
-        let Reply::Done = self.enter(rt, Entry::Note(note))? else {
-            return Err(Stopped);
-        };
+        self.note(rt, note)?;
         if failed {
             self.leave(rt, at)?;
             return Ok(false);

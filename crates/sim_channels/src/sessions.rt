@@ -1,13 +1,17 @@
 // Sessions are opened, and end.
-ghost use Rattle.std.specs.Prelude.{◌≡◌, OnErr, OnOk, true};
+ghost use Rattle.std.specs.Prelude.{◌≡◌, ◌+◌, IfErr, OnErr, OnOk};
+ghost use Rattle.machine_steps.specs.declared.entry.Entry.TheVariants as entries;
+ghost use Rattle.machine_desk.specs.Desks.{WearsOut};
+ghost use Rattle.machine_desk.specs.Orders.{Stops};
 ghost use Rattle.machine_desk.specs.declared.inbound.Stage.TheVariants.{Unopened};
-ghost use Rattle.sim_channels.specs.Channels.{IsKept};
+ghost use Rattle.sim_channels.specs.Channels.{IsKept, IsSame};
 ghost use Rattle.sim_channels.specs.Delivering.{IsPluggedIn, Leaves};
 ghost use Rattle.sim_channels.specs.Staging.{ClosesAt, HasStage, OpensAt};
 
+use crate::Driver;
 use crate::laws::driving_laws;
 use crate::outbox::connection_of;
-use crate::{Driver, Stopped};
+use machine_desk::{DeskStop, Worn};
 use std::sync::Wait;
 
 impl<'h> Driver<'h> {
@@ -15,17 +19,17 @@ impl<'h> Driver<'h> {
     ///
     /// # Errors
     ///
-    /// `Stopped`.
-    pub fn open<R: Wait>(&mut self, rt: &R, at: usize) -> Result<(), Stopped>
+    /// As the desk's `ask`; the channel is as before.
+    pub fn open<R: Wait>(&mut self, rt: &R, at: usize) -> Result<(), DeskStop>
         requires kept { IsKept self.old }
         requires unopened { HasStage at Unopened self.old }
         ensures opens { OnOk result (OpensAt at self.old self.new) }
-        ensures footing { self.new.desk.footing ≡ self.old.desk.footing }
+        ensures stops { IfErr result (λ stop. Stops stop (entries.Open (at + 1)) self.old.desk self.new.desk) }
+        ensures rest { OnErr result (self.new ≡ record self.old { desk = self.new.desk }) }
+        ensures same { IsSame self.old self.new }
     {
-        Ok(
-            self.desk
-                .open(rt, connection_of(at), &mut self.channels[at].inbound)?,
-        )
+        self.desk
+            .open(rt, connection_of(at), &mut self.channels[at].inbound)
     }
 
     /// The session of the device with this index ends, as its link failed or not, and it is left alone from then on. That
@@ -33,28 +37,30 @@ impl<'h> Driver<'h> {
     ///
     /// # Errors
     ///
-    /// `Stopped`, where the hall is worn.
-    pub fn close<R: Wait>(&mut self, rt: &R, at: usize, fault: bool) -> Result<(), Stopped>
+    /// `Worn`; the channel is as before.
+    pub fn close<R: Wait>(&mut self, rt: &R, at: usize, fault: bool) -> Result<(), Worn>
         requires kept { IsKept self.old }
         requires plugged { IsPluggedIn at self.old }
         ensures closes { OnOk result (ClosesAt at fault self.old self.new) }
-        ensures worn { OnErr result (self.new.desk.worn ≡ true) }
-        ensures footing { self.new.desk.footing ≡ self.old.desk.footing }
+        ensures worn { OnErr result (WearsOut self.old.desk self.new.desk) }
+        ensures rest { OnErr result (self.new ≡ record self.old { desk = self.new.desk }) }
+        ensures same { IsSame self.old self.new }
     {
-        Ok(self.desk.close(rt, connection_of(at), &mut self.channels[at].inbound, fault)?)
+        self.desk.close(rt, connection_of(at), &mut self.channels[at].inbound, fault)
     }
 
     /// The device with this index failed: its session ends, and it is left alone from then on.
     ///
     /// # Errors
     ///
-    /// `Stopped`, where the hall is worn.
-    pub fn leave<R: Wait>(&mut self, rt: &R, at: usize) -> Result<(), Stopped>
+    /// `Worn`; the channel is as before.
+    pub fn leave<R: Wait>(&mut self, rt: &R, at: usize) -> Result<(), Worn>
         requires kept { IsKept self.old }
         requires plugged { IsPluggedIn at self.old }
-        ensures worn { OnErr result (self.new.desk.worn ≡ true) }
+        ensures worn { OnErr result (WearsOut self.old.desk self.new.desk) }
+        ensures rest { OnErr result (self.new ≡ record self.old { desk = self.new.desk }) }
         ensures leaves { OnOk result (Leaves at self.old self.new) }
-        ensures footing { self.new.desk.footing ≡ self.old.desk.footing }
+        ensures same { IsSame self.old self.new }
     {
         driving_laws();
         self.close(rt, at, true)

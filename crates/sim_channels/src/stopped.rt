@@ -1,8 +1,9 @@
 // Why the driver stops.
+use desk_jobs::Broken;
 use machine_desk::{DeskStop, Worn};
 use maple_base::NoMemory;
 
-/// Memory ran out, or the hall is worn: the driver's desk tells which.
+/// Memory ran out, for the driver or for who works beside it, or the hall is worn: the driver's desk tells whether it found it so.
 #[derive(Clone, Copy, Debug, PartialEq, Eq)]
 pub struct Stopped;
 
@@ -26,6 +27,14 @@ impl From<Worn> for Stopped {
     ghost from_gives = { λ _ _. Unit {0} };
 
     fn from(_error: Worn) -> Stopped {
+        Stopped
+    }
+}
+
+impl From<Broken> for Stopped {
+    ghost from_gives = { λ _ _. Unit {0} };
+
+    fn from(_error: Broken) -> Stopped {
         Stopped
     }
 }

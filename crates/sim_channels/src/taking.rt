@@ -1,14 +1,16 @@
 // The messages for a device are taken out of the machine.
-ghost use Rattle.std.specs.Prelude.{◌≡◌, OnOk};
-ghost use Rattle.sim_channels.specs.Channels.{IsKept};
-ghost use Rattle.sim_channels.specs.Delivering.{IsPluggedIn, TakesOut};
+ghost use Rattle.std.specs.Prelude.{◌≡◌, IfOk, OnOk};
+ghost use Rattle.sim_channels.specs.Channels.{IsKept, IsSame};
+ghost use Rattle.sim_channels.specs.Delivering.{IsPluggedIn, TakesMessages, TakesOut};
 ghost use Rattle.sim_channels.specs.Waiting.{IsOffered};
 
 use crate::laws::driving_laws;
-use crate::outbox::{connection_of, messages_for};
+use crate::outbox::{connection_of, messages_ahead};
 use crate::{Driver, Stopped};
 use core_machine::{Entry, Reply};
-use message_blocks::Block;
+use machine_desk::{Desk, DeskStop};
+use maple_base::Bytes;
+use message_blocks::{Block, Messages};
 use std::sync::Wait;
 
 impl<'h> Driver<'h> {
@@ -18,18 +20,29 @@ impl<'h> Driver<'h> {
         requires plugged { IsPluggedIn at self.old }
         requires offered { IsOffered at self.old }
         ensures takes { OnOk result (TakesOut at self.old self.new) }
-        ensures footing { self.new.desk.footing ≡ self.old.desk.footing }
+        ensures same { IsSame self.old self.new }
     {
         driving_laws();
-        let connection = connection_of(at);
-        let messages = messages_for(&self.desk, &connection);
-        match self.enter(rt, Entry::TakeOut(connection))? {
-            Reply::Out(bytes) => {
-                self.channels[at].to = Block::new(bytes, messages);
-                Ok(())
-            }
-            Reply::NoMemory => Err(Stopped),
-            _ => unreachable!(),
+        let (bytes, messages) = take_messages(rt, &mut self.desk, connection_of(at))?;
+        self.channels[at].to = Block::new(bytes, messages);
+        Ok(())
+    }
+}
+
+// The messages for a connection are taken out at the desk.
+fn take_messages<R: Wait>(
+    rt: &R,
+    desk: &mut Desk<'_>,
+    connection: u32,
+) -> Result<(Bytes, Messages), DeskStop>
+    ensures takes { IfOk result (λ taken. TakesMessages connection taken.0 taken.1.value desk.old desk.new) }
+    ensures footing { desk.new.footing ≡ desk.old.footing }
+{
+    match desk.ask(rt, Entry::TakeOut(connection))? {
+        Reply::Out(bytes) => {
+            let messages = messages_ahead(&*desk, &connection);
+            Ok((bytes, messages))
         }
+        _ => unreachable!(),
     }
 }

@@ -1,7 +1,7 @@
 // Which devices have a message to deal with.
 ghost use Rattle.std.specs.Prelude.{◌≡◌, ℕ, ◌+◌, ◌<◌, true, false, length, MatchOption, OnOk};
 ghost use Rattle.sim_steps.specs.Benches.{is_plugged as is_plugged_place};
-ghost use Rattle.sim_channels.specs.Channels.{IsKept, is_plugged_in};
+ghost use Rattle.sim_channels.specs.Channels.{IsKept, IsSame, is_plugged_in};
 ghost use Rattle.sim_channels.specs.Turns.{Appends, ChannelMoves, IsLowest, Waits, waits_in};
 
 use crate::{Channel, Driver};
@@ -44,10 +44,12 @@ impl<'h> Driver<'h> {
     /// # Errors
     ///
     /// `NoMemory`.
+    #[tactic(auto, using(crate::proofs::Others::same_but))]
     pub fn append(&mut self, at: usize, bytes: &[u8]) -> Result<(), NoMemory>
         requires { Waits at self.old }
         ensures desk { self.new.desk ≡ self.old.desk }
         ensures moves { OnOk result (ChannelMoves at (Appends bytes.now) self.old self.new) }
+        ensures same { IsSame self.old self.new }
     {
         let channel = &mut self.channels[at];
         channel.inbound.feed(bytes)?;

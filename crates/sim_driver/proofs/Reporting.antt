@@ -1,81 +1,96 @@
 -- One order is followed, and the report is taken and written behind it.
-use Rattle.std.proofs.Common.{◌≡◌, ℕ, List, ◌++◌, sym, ap, ◌∙◌, subst, inl, inr}
-use Rattle.std.specs.Prelude.{OnOk, Result, Ok, Err}
+use Rattle.std.proofs.Common.{◌≡◌, ℕ, Bool, true, false, not, List, [], ◌++◌, refl, sym, ap, ◌∙◌, subst, inl, inr}
+use Rattle.std.specs.Prelude.{OnOk, Option, Some, None, Result, Ok, Err, is_some}
+use Rattle.maple_io.specs.Fronts.{IsFront}
 use Rattle.maple_io.specs.Views.{SinkView, Wrote}
+use Rattle.maple_io.proofs.Pieces.{wrote_nothing}
 use Rattle.device_port.specs.Devices.{Meaning}
-use Rattle.script_text.specs.Orders.{Order}
-use Rattle.script_text.specs.declared.step.Step.{Step}
-use Rattle.script_text.specs.Steps.{order_with}
-use Rattle.sim_steps.specs.Agreeing.{taken_report}
-use Rattle.sim_steps.specs.Benches.{Bench}
-use Rattle.sim_steps.specs.Deeds.{Event}
-use Rattle.sim_steps.specs.Parts.{IsPart}
-use Rattle.sim_steps.specs.Stretches.{Obeyed}
-use Rattle.sim_steps.proofs.Joining.{report_then}
-use Rattle.sim_channels.specs.declared.driver.Driver.{Driver}
-use Rattle.sim_channels.specs.Channels.{EntersAlone, Fits, bench}
-use Rattle.sim_channels.specs.Waiting.{IsAtRest}
-use Rattle.sim_channels.proofs.Alone.{enters_alone}
-use Rattle.sim_channels.proofs.Resting.{rest_is_still}
 use Rattle.machine_desk.specs.declared.report.ReportStop.{ReportStop}
 use Rattle.machine_desk.specs.declared.report.ReportStop.TheVariants.{Failed, NoMemory, Worn}
 use Rattle.machine_desk.specs.Desks.{DeskView, Enters}
-use Rattle.machine_desk.specs.Reports.{ReportsBy, ReportsInPart}
+use Rattle.machine_desk.specs.Reports.{EndsReport, Reports, ReportsBy, ReportsInPart}
 use Rattle.machine_steps.specs.declared.entry.Entry.TheVariants.{TakeReport}
 use Rattle.machine_steps.specs.declared.reply.Reply.TheVariants.{Lines}
+use Rattle.machine_steps.specs.Machine.{State}
 use Rattle.machine_steps.specs.Steps.{Steps}
-use Rattle.maple_io.specs.Fronts.{IsFront}
-use Rattle.sim_driver.specs.Passes.{IsReady, IsReported, IsUnreported, Passed, TakesReport, waiting}
-use Rattle.sim_driver.proofs.Parting.{part_longer}
-use Rattle.sim_driver.proofs.Taking.{bench_devices, taken_fits, taken_lines, taken_rests, taking}
+use Rattle.script_text.specs.Orders.{Order}
+use Rattle.script_text.specs.Orders.Order.{Nothing}
+use Rattle.script_text.specs.declared.step.Step.{Step}
+use Rattle.script_text.specs.Steps.{order_with}
+use Rattle.sim_steps.specs.Agreeing.{taken_report}
+use Rattle.sim_steps.specs.Benches.{Bench, IsSolo}
+use Rattle.sim_steps.specs.Deeds.{Event}
+use Rattle.sim_steps.specs.Parts.{IsPart}
+use Rattle.sim_steps.specs.Stretches.{Carried, Obeyed, Stretch}
+use Rattle.sim_steps.proofs.Joining.{report_then}
+use Rattle.sim_channels.specs.declared.crew.Crew.{Crew}
+use Rattle.sim_channels.specs.declared.driver.Driver.{Driver}
+use Rattle.sim_channels.specs.Channels.{EntersNext, Fits, IsKept, WorksAlone, bench}
+use Rattle.sim_channels.specs.Driving.{DrivingLaws}
+use Rattle.sim_channels.specs.Waiting.{IsAtRest, IsDone}
+use Rattle.sim_channels.proofs.Others.{ahead, enters_next, others_ahead}
+use Rattle.sim_channels.proofs.Resting.{done_is_still, rest_is_calm, rest_is_still}
+use Rattle.sim_driver.specs.Passes.{Breaks, Finished, IsReady, IsReported, IsUnreported, Passed, TakesReport, untaken, waiting}
+use Rattle.sim_driver.proofs.Parting.{Stands, carried_part, nothing_part, part_longer}
+use Rattle.sim_driver.proofs.Taking.{bench_devices, taken_done, taken_fits, taken_lines, taken_rests, taking}
 
 -- a front of this text was written
 abbrev pub WroteFront : List ℕ → SinkView → SinkView → Type 0
 WroteFront text old new = (front : List ℕ) × IsFront front text × Wrote old new front
 
-module _ (o : Order) (a : Bench) (d next : Driver) (taken : TakesReport d next) (ds : List Meaning) (fits : Fits d ds) (rest : IsAtRest d) (h : Obeyed o a (bench d ds)) where
+-- deeds of which none was asked for obey no order
+pub carried_obeyed : (a b : Bench) → Carried a b → Stands b → Obeyed Nothing a b
+carried_obeyed a b k stands = record { events = k.events; part = carried_part a b k stands; none = k.text_is }
+
+-- a driver at rest
+pub rest_stands : (d : Driver) (ds : List Meaning) → IsKept d → IsAtRest d → Stands (bench d ds)
+rest_stands d ds kept rest = (rest_is_calm d ds kept rest, rest_is_still d ds kept rest)
+
+module _ (laws : DrivingLaws) (o : Order) (a : Bench) (d next : Driver) (taken : TakesReport d next) (ds : List Meaning) (fits : Fits d ds) (rest : IsAtRest d)
+    (h : Obeyed o a (bench d ds)) where
   -- with the report taken
+  takes_it : Stretch [] (waiting taken.ahead) (bench d ds) (bench next ds)
+  takes_it = taking laws d next taken ds fits
+
   abbrev events : List Event
-  events = h.events ++ (taking d next taken ds).events
+  events = h.events ++ takes_it.events
 
   fits_then : Fits next ds
-  fits_then = taken_fits d next taken ds fits
+  fits_then = taken_fits laws d next taken ds fits
 
   part : IsPart o a events (bench next ds)
   part =
-      part_longer o a h.events (bench d ds) (waiting d) (bench next ds) h.part (taking d next taken ds) (rest_is_still next ds fits_then (taken_rests d next taken rest))
+      part_longer o a h.events (bench d ds) (waiting taken.ahead) (bench next ds) h.part takes_it
+      (rest_stands next ds fits_then.kept (taken_rests laws d next taken ds fits rest))
 
-  text : taken_report events ≡ waiting d
-  text =
-      report_then h.events (taking d next taken ds).events
-      ∙ ap (λ (bs : List ℕ). bs ++ taken_report (taking d next taken ds).events) h.none
-      ∙ (taking d next taken ds).text_is
+  text : taken_report events ≡ waiting taken.ahead
+  text = report_then h.events takes_it.events ∙ ap (λ (bs : List ℕ). bs ++ taken_report takes_it.events) h.none ∙ takes_it.text_is
 
-  pub reported : (old new : SinkView) → Wrote old new (waiting d) → IsReported o a (bench next ds) old new
+  pub reported : (old new : SinkView) → Wrote old new (waiting taken.ahead) → IsReported o a (bench next ds) old new
   reported old new w = record { events = events; part = part; wrote = subst (Wrote old new) (sym text) w }
 
-  pub unreported : (old new : SinkView) → WroteFront (waiting d) old new → IsUnreported o a (bench next ds) ds old new
+  pub unreported : (old new : SinkView) → WroteFront (waiting taken.ahead) old new → IsUnreported o a (bench next ds) ds old new
   unreported old new (front, is, w) =
       record { events = events; part = part; devices = bench_devices next ds fits_then; front = front; is_front = subst (IsFront front) (sym text) is; wrote = w }
 
 -- ---- as the report is written at the desk
 
 -- what was taken there is what waited
-module _ (d next : Driver) (ds : List Meaning) (same : next ≡ record d { desk = next.desk }) (fits : Fits d ds) (rest : IsAtRest d) where
-  text_is : (bytes : List ℕ) → EntersAlone TakeReport (Lines bytes) d.desk next.desk → bytes ≡ waiting d
-  text_is bytes e = go e.steps
-    where
-      go : Steps d.desk.now TakeReport (Lines bytes) next.desk.now → bytes ≡ waiting d
-      go (inl (told, is)) = let t = told in cc
-      go (inr lacks) = let other = lacks.0 in absurd (cc)
+module _ (laws : DrivingLaws) (d next : Driver) (ds : List Meaning) (same : next ≡ record d { desk = next.desk }) (fits : Fits d ds) (rest : IsAtRest d) where
+  text_is : (m : State) (bytes : List ℕ) → Steps m TakeReport (Lines bytes) next.desk.now → bytes ≡ untaken m
+  text_is m bytes (inl (told, is)) = let t = told in cc
+  text_is m bytes (inr lacks) = let other = lacks.0 in absurd (cc)
 
-  takes : (bytes : List ℕ) → Enters d.desk TakeReport (Lines bytes) next.desk → TakesReport d next × (bytes ≡ waiting d)
+  takes : (bytes : List ℕ) → Enters d.desk TakeReport (Lines bytes) next.desk → (taken : TakesReport d next) × (bytes ≡ waiting taken.ahead)
   takes bytes e =
-      let entered = enters_alone d.desk next.desk TakeReport (Lines bytes) fits.kept.alone e in
-      let is = text_is bytes entered in (
+      let between = ahead d TakeReport (Lines bytes) next.desk fits.kept e in
+      let next_is = enters_next d TakeReport (Lines bytes) next.desk fits.kept e in
+      let is = text_is between.desk.now bytes next_is.steps in (
         record {
-          same = same;
-          enters = subst (λ (bs : List ℕ). EntersAlone TakeReport (Lines bs) d.desk next.desk) is entered;
+          rest = same;
+          ahead = between;
+          others = others_ahead d TakeReport (Lines bytes) next.desk fits.kept e;
+          enters = subst (λ (bs : List ℕ). EntersNext TakeReport (Lines bs) between.desk next.desk) is next_is;
           footing = e.footing;
         },
         is,
@@ -84,23 +99,63 @@ module _ (d next : Driver) (ds : List Meaning) (same : next ≡ record d { desk 
   pub ready_by : (r : Result (Unit {0}) ReportStop) (old new : SinkView) → ReportsBy r d.desk next.desk old new → OnOk r (IsReady next ds)
   ready_by (Ok u) old new w =
       let (taken, is) = takes w.text w.enters in
-      record { fits = taken_fits d next taken ds fits; rest = taken_rests d next taken rest; none_waits = taken_lines d next taken }
+      record {
+        fits = taken_fits laws d next taken ds fits;
+        rest = taken_rests laws d next taken ds fits rest;
+        none_waits = taken_lines laws d next taken;
+      }
   ready_by (Err stop) old new w = tt
 
-  in_part : (o : Order) (a : Bench) (old new : SinkView) → Obeyed o a (bench d ds) → ReportsInPart d.desk next.desk old new → IsUnreported o a (bench next ds) ds old new
-  in_part o a old new h w =
-      let (taken, is) = takes w.text w.enters in
-      unreported o a d next taken ds fits rest h old new (w.front, subst (IsFront w.front) is w.is_front, w.wrote)
+  module _ (o : Order) (a : Bench) (old new : SinkView) (h : Obeyed o a (bench d ds)) where
+    in_part : ReportsInPart d.desk next.desk old new → IsUnreported o a (bench next ds) ds old new
+    in_part w =
+        let (taken, is) = takes w.text w.enters in
+        unreported laws o a d next taken ds fits rest h old new (w.front, subst (IsFront w.front) is w.is_front, w.wrote)
+
+    whole : Reports d.desk next.desk old new → IsReported o a (bench next ds) old new
+    whole w =
+        let (taken, is) = takes w.text w.enters in
+        reported laws o a d next taken ds fits rest h old new (subst (Wrote old new) is w.wrote)
+
+    breaks_by : (stop : ReportStop) → EndsReport stop d.desk next.desk old new → Breaks stop o a next ds old new
+    breaks_by Failed (w, failed) = in_part w
+    breaks_by NoMemory (inl (enters, same)) = inl same
+    breaks_by NoMemory (inr w) = inr (in_part w)
+    breaks_by Worn (wears, same) = (same, ap (λ (v : DeskView). v.worn) wears.same)
 
   pub follows_by : (r : Result (Unit {0}) ReportStop) (step : Step) (bytes : List ℕ) (a : Bench) (old new : SinkView) → Obeyed (order_with step bytes) a (bench d ds)
       → ReportsBy r d.desk next.desk old new → Passed r step bytes a next ds old new
-  follows_by (Ok u) step bytes a old new h w =
-      let (taken, is) = takes w.text w.enters in
-      reported (order_with step bytes) a d next taken ds fits rest h old new (subst (Wrote old new) is w.wrote)
-  follows_by (Err Failed) step bytes a old new h (w, failed) = in_part (order_with step bytes) a old new h w
-  follows_by (Err NoMemory) step bytes a old new h (inl (enters, same)) = inl same
-  follows_by (Err NoMemory) step bytes a old new h (inr w) = inr (in_part (order_with step bytes) a old new h w)
-  follows_by (Err Worn) step bytes a old new h (wears, same) = (same, ap (λ (v : DeskView). v.worn) wears.same)
+  follows_by (Ok u) step bytes a old new h w = whole (order_with step bytes) a old new h w
+  follows_by (Err stop) step bytes a old new h w = breaks_by (order_with step bytes) a old new h stop w
+
+  -- behind all lines, where all is done
+  pub finished_by : (r : Result (Unit {0}) ReportStop) (a : Bench) (old new : SinkView) → Carried a (bench d ds) → IsDone d → (IsSolo a.machine → ⊥)
+      → ReportsBy r d.desk next.desk old new → Finished r a next ds old new
+  finished_by r a old new k done beside w = by r w
+    where
+      h : Obeyed Nothing a (bench d ds)
+      h = carried_obeyed a (bench d ds) k (rest_stands d ds fits.kept rest)
+
+      by : (r : Result (Unit {0}) ReportStop) → ReportsBy r d.desk next.desk old new → Finished r a next ds old new
+      by (Ok u) w =
+          let (taken, is) = takes w.text w.enters in
+          let kept = (taken_fits laws d next taken ds fits).kept in (
+            whole Nothing a old new h w,
+            done_is_still next ds kept (taken_rests laws d next taken ds fits rest) (taken_done laws d next taken ds fits done),
+          )
+      by (Err stop) w = (beside, breaks_by Nothing a old new h stop w)
+
+-- where that was told
+pub alone_by : (crew : Option Crew) (told : Bool) → told ≡ not (is_some crew) → told ≡ true → is_some crew ≡ false
+alone_by None told e is = refl
+alone_by (Some crew) told e is = absurd (cc)
+
+-- who works alone has nothing left to do
+pub finished_alone : (d : Driver) (ds : List Meaning) (to : SinkView) → IsReady d ds → WorksAlone d → Finished (Ok tt) (bench d ds) d ds to to
+finished_alone d ds to ready alone = (
+  record { events = []; part = nothing_part (bench d ds) (rest_stands d ds ready.fits.kept ready.rest); wrote = wrote_nothing to },
+  done_is_still d ds ready.fits.kept ready.rest (ready.rest.done alone),
+)
 
 -- ---- the mark
 
@@ -112,7 +167,7 @@ module _ (d : Driver) where
   pub marked_fits : (ds : List Meaning) → Fits d ds → Fits marked ds
   marked_fits ds h = record {
     kept = record {
-      alone = h.kept.alone;
+      crew = h.kept.crew;
       reached = h.kept.reached;
       numbers = h.kept.numbers;
       stages = h.kept.stages;
@@ -124,4 +179,13 @@ module _ (d : Driver) where
   }
 
   pub marked_rests : IsAtRest d → IsAtRest marked
-  marked_rests h = record { jobs = h.jobs; taken = h.taken; offered = h.offered; heard = h.heard }
+  marked_rests h = record { done = λ alone. (let done = h.done alone in record { jobs = done.jobs; taken = done.taken }); offered = h.offered; heard = h.heard }
+
+  pub marked_ready : (ds : List Meaning) → IsReady d ds → IsReady marked ds
+  marked_ready ds h = record { fits = marked_fits ds h.fits; rest = marked_rests h.rest; none_waits = h.none_waits }
+
+-- who has a crew has workers
+pub beside_by : (d next : Driver) (told : Bool) → next ≡ marked d → told ≡ not (is_some next.crew) → told ≡ false → IsKept d → IsSolo d.desk.now → ⊥
+beside_by d next told same e is kept solo =
+    let crew = ap (λ (x : Driver). is_some x.crew) same ∙ kept.crew.none solo in
+    let no : false ≡ true = sym is ∙ e ∙ ap not crew in absurd (cc)

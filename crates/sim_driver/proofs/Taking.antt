@@ -1,20 +1,23 @@
--- The report is taken: nothing else changes.
+-- The report is taken, behind what others did: nothing else changes.
 use Rattle.std.proofs.Common.{◌≡◌, List, [], ◌∷◌, ◌++◌, length, map, refl, sym, ap, ◌∙◌, subst, inl, inr}
 use Rattle.device_port.specs.Devices.{Meaning}
 use Rattle.machine_steps.specs.declared.entry.Entry.TheVariants as entries
 use Rattle.machine_steps.specs.declared.reply.Reply.TheVariants.{Lines}
-use Rattle.machine_desk.specs.Desks.{DeskView, Footing}
+use Rattle.machine_desk.specs.Desks.{DeskView}
 use Rattle.machine_steps.specs.Machine.{State}
 use Rattle.machine_steps.specs.Steps.{Steps}
 use Rattle.sim_steps.specs.Benches.{Slot}
 use Rattle.sim_steps.specs.Deeds.{turn_by}
 use Rattle.sim_steps.specs.Stretches.{Stretch}
+use Rattle.sim_steps.proofs.Joining.{carried_ahead}
 use Rattle.sim_steps.proofs.Moments.{report_taken}
 use Rattle.sim_channels.specs.declared.channel.Channel.{Channel}
 use Rattle.sim_channels.specs.declared.driver.Driver.{Driver}
 use Rattle.sim_channels.specs.Channels.{Fits, bench, slots_of}
-use Rattle.sim_channels.specs.Waiting.{IsAtRest}
+use Rattle.sim_channels.specs.Driving.{DrivingLaws}
+use Rattle.sim_channels.specs.Waiting.{IsAtRest, IsDone}
 use Rattle.sim_channels.proofs.Keeping.{reached_on}
+use Rattle.sim_channels.proofs.Others.{crew_on, others_carried, others_rest, same_desk, tends_done, tends_fits, tends_of}
 use Rattle.sim_driver.specs.Passes.{TakesReport, waiting}
 use Rattle.sim_driver.specs.Runs.{devices_of}
 
@@ -30,7 +33,7 @@ module _ (d : Driver) (to : DeskView) where
   fits_on : (ds : List Meaning) → to.footing ≡ d.desk.footing → Fits d ds → Fits behind ds
   fits_on ds footing h = record {
     kept = record {
-      alone = ap (λ (f : Footing). f.parts) footing ∙ h.kept.alone;
+      crew = crew_on d behind (same_desk d behind refl footing) refl h.kept.crew;
       reached = reached_on d.desk.now entries.TakeReport (Lines (waiting d)) behind.desk.now h.kept.reached tt (inl (refl, refl));
       numbers = h.kept.numbers;
       stages = λ at k there. let s = h.kept.stages at k there in record { plugged = s.plugged; opened = s.opened };
@@ -41,8 +44,11 @@ module _ (d : Driver) (to : DeskView) where
     waiting = h.waiting;
   }
 
+  done_on : IsDone d → IsDone behind
+  done_on h = record { jobs = h.jobs; taken = h.taken }
+
   rests_on : IsAtRest d → IsAtRest behind
-  rests_on h = record { jobs = h.jobs; taken = h.taken; offered = h.offered; heard = h.heard }
+  rests_on h = record { done = λ alone. done_on (h.done alone); offered = h.offered; heard = h.heard }
 
   -- the deed
   taking_on : (ds : List Meaning) → to.past ≡ d.desk.past ++ turn_by d.desk.now entries.TakeReport (Lines (waiting d)) behind.desk.now ∷ []
@@ -51,31 +57,44 @@ module _ (d : Driver) (to : DeskView) where
       report_taken (waiting d) (bench d ds) (bench behind ds)
       (record { may = tt; admitted = tt; steps = inl (refl, refl); smooth = tt; slots = refl; past = past })
 
-module _ (d next : Driver) (h : TakesReport d next) where
-  now_is : next.desk.now ≡ cleared d.desk.now
+module _ (laws : DrivingLaws) (d next : Driver) (h : TakesReport d next) where
+  now_is : next.desk.now ≡ cleared h.ahead.desk.now
   now_is = go h.enters.steps
     where
-      go : Steps d.desk.now entries.TakeReport (Lines (waiting d)) next.desk.now → next.desk.now ≡ cleared d.desk.now
+      go : Steps h.ahead.desk.now entries.TakeReport (Lines (waiting h.ahead)) next.desk.now → next.desk.now ≡ cleared h.ahead.desk.now
       go (inl (told, is)) = is
       go (inr lacks) = let other = lacks.0 in absurd (cc)
 
-  next_is : next ≡ behind d next.desk
-  next_is = h.same ∙ ap (λ (m : State). record d { desk = record next.desk { now = m } }) now_is
+  next_is : next ≡ behind h.ahead next.desk
+  next_is =
+      h.rest
+      ∙ sym (ap (λ (x : Driver). record x { desk = next.desk }) h.others.rest)
+      ∙ ap (λ (m : State). record h.ahead { desk = record next.desk { now = m } }) now_is
 
-  past_is : next.desk.past ≡ d.desk.past ++ turn_by d.desk.now entries.TakeReport (Lines (waiting d)) (cleared d.desk.now) ∷ []
-  past_is = h.enters.past ∙ ap (λ (m : State). d.desk.past ++ turn_by d.desk.now entries.TakeReport (Lines (waiting d)) m ∷ []) now_is
-
-  pub taken_fits : (ds : List Meaning) → Fits d ds → Fits next ds
-  taken_fits ds fits = subst (λ (x : Driver). Fits x ds) (sym next_is) (fits_on d next.desk ds h.footing fits)
-
-  pub taken_rests : IsAtRest d → IsAtRest next
-  taken_rests rest = subst IsAtRest (sym next_is) (rests_on d next.desk rest)
+  past_is : next.desk.past ≡ h.ahead.desk.past ++ turn_by h.ahead.desk.now entries.TakeReport (Lines (waiting h.ahead)) (cleared h.ahead.desk.now) ∷ []
+  past_is = h.enters.past ∙ ap (λ (m : State). h.ahead.desk.past ++ turn_by h.ahead.desk.now entries.TakeReport (Lines (waiting h.ahead)) m ∷ []) now_is
 
   pub taken_lines : next.desk.now.lines ≡ []
   taken_lines = ap (λ (m : State). m.lines) now_is
 
-  pub taking : (ds : List Meaning) → Stretch [] (waiting d) (bench d ds) (bench next ds)
-  taking ds = subst (λ (x : Driver). Stretch [] (waiting d) (bench d ds) (bench x ds)) (sym next_is) (taking_on d next.desk ds past_is)
+  module _ (ds : List Meaning) (fits : Fits d ds) where
+    pub taken_fits : Fits next ds
+    taken_fits =
+        subst (λ (x : Driver). Fits x ds) (sym next_is) (
+        fits_on h.ahead next.desk ds (h.footing ∙ sym h.others.footing)
+        (tends_fits laws d h.ahead fits.kept (tends_of d h.ahead h.others) ds fits))
+
+    pub taken_rests : IsAtRest d → IsAtRest next
+    taken_rests rest = subst IsAtRest (sym next_is) (rests_on h.ahead next.desk (others_rest laws d h.ahead fits.kept h.others rest))
+
+    -- where all is done others change nothing
+    pub taken_done : IsDone d → IsDone next
+    taken_done done = subst IsDone (sym next_is) (done_on h.ahead next.desk (tends_done laws d h.ahead fits.kept (tends_of d h.ahead h.others) done))
+
+    pub taking : Stretch [] (waiting h.ahead) (bench d ds) (bench next ds)
+    taking =
+        carried_ahead [] (waiting h.ahead) (bench d ds) (bench h.ahead ds) (bench next ds) (others_carried laws d h.ahead fits.kept h.others ds (sym fits.places))
+        (subst (λ (x : Driver). Stretch [] (waiting h.ahead) (bench h.ahead ds) (bench x ds)) (sym next_is) (taking_on h.ahead next.desk ds past_is))
 
 -- the devices of a driver's bench
 devices_in : (ks : List Channel) (ds : List Meaning) → length ks ≡ length ds → map (λ (s : Slot). s.device) (slots_of ks ds) ≡ ds

@@ -1,3 +1,5 @@
--- A reader must believe Runs: what a run of a script is, and how it ends. The deeds, and what follows a script, are sim_steps'. Passes serves private contracts alone.
+-- A reader must believe Runs: what a run of a script is, and how it ends. The deeds, and what follows a script, are sim_steps'. Passes and Commands serve private
+-- contracts alone: an order is obeyed, and followed with its report.
+pub mod Commands
 pub mod Passes
 pub mod Runs

@@ -6,16 +6,17 @@ use Rattle.report_text.specs.Report.{spelled}
 use Rattle.device_port.specs.Devices.{Meaning}
 use Rattle.machine_steps.specs.Sound.{AreInRange}
 use Rattle.script_text.specs.Orders.{Order}
+use Rattle.script_text.specs.Orders.Order.{Nothing}
 use Rattle.script_text.specs.declared.step.Step.{Step}
 use Rattle.script_text.specs.Steps.{order_with}
 use Rattle.sim_steps.specs.Agreeing.{taken_report}
-use Rattle.sim_steps.specs.Benches.{Bench, opening_bench}
+use Rattle.sim_steps.specs.Benches.{Bench, IsSolo, opening_bench}
 use Rattle.sim_steps.specs.Deeds.{Event}
-use Rattle.sim_steps.specs.Parts.{IsPart}
+use Rattle.sim_steps.specs.Parts.{IsPart, IsStill}
 use Rattle.sim_steps.specs.Showing.{AllIdle}
 use Rattle.sim_laws.specs.Laws.{AgreeLaw, HistoryLaw, PastLaw, ReportLaw, WorldLaw}
 use Rattle.sim_channels.specs.declared.driver.Driver.{Driver}
-use Rattle.sim_channels.specs.Channels.{EntersAlone, Fits, bench}
+use Rattle.sim_channels.specs.Channels.{EntersNext, Fits, OthersDid, bench}
 use Rattle.sim_channels.specs.Waiting.{IsAtRest}
 use Rattle.machine_desk.specs.declared.report.ReportStop.{ReportStop}
 use Rattle.machine_desk.specs.declared.report.ReportStop.TheVariants.{Failed, NoMemory, Worn}
@@ -41,13 +42,18 @@ pub record DeedLaws : Type 0 where
   pub past : PastLaw
 
 -- the lines of the report that weren't taken yet
-abbrev pub waiting : Driver → List ℕ
-waiting driver = flat_map spelled driver.desk.now.lines
+abbrev pub untaken : State → List ℕ
+untaken m = flat_map spelled m.lines
 
--- they were taken, and nobody came between
+abbrev pub waiting : Driver → List ℕ
+waiting driver = untaken driver.desk.now
+
+-- they were taken, behind what others did
 pub record TakesReport (old new : Driver) : Type 0 where
-  pub same : new ≡ record old { desk = new.desk }
-  pub enters : EntersAlone TakeReport (Lines (waiting old)) old.desk new.desk
+  pub rest : new ≡ record old { desk = new.desk }
+  pub ahead : Driver
+  pub others : OthersDid old ahead
+  pub enters : EntersNext TakeReport (Lines (waiting ahead)) ahead.desk new.desk
   pub footing : new.desk.footing ≡ old.desk.footing
 
 -- what a desk keeps through a run: which hall it is, by which reference its pass was lent, the machine at first, and the parts
@@ -61,7 +67,7 @@ pub record SameHall (a b : Footing) : Type 0 where
 abbrev pub IsMarked : DeskView → DeskView → Type 0
 IsMarked old new = new.footing ≡ record old.footing { marked = old.past }
 
--- nothing is left to do, and no line of the report waits
+-- the driver has nothing left to do, and no line of the report waits
 pub record IsReady (driver : Driver) (devices : List Meaning) : Type 0 where
   pub fits : Fits driver devices
   pub rest : IsAtRest driver
@@ -80,7 +86,6 @@ pub record IsOpened (driver : Driver) (devices : List Meaning) : Type 0 where
 -- so it is of a hall that was just opened
 pub record IsOpening (k : PassView) (o : Opening) (devices : List Meaning) : Type 0 where
   pub ahead : IsAhead k o
-  pub alone : k.parts ≡ 1024
   pub machine : IsMachineOf o.start.value.policy o.start.value.settings o
   pub ranges : AreInRange o.start.value.settings
   pub idle : AllIdle devices
@@ -127,9 +132,20 @@ pub record IsUnreported (o : Order) (a b : Bench) (after : List Meaning) (old ne
   pub is_front : IsFront front (taken_report events)
   pub wrote : Wrote old new front
 
--- how it ends that a step is followed, with this text behind its line; where memory runs out nothing was written, or memory ran out for the writing
+-- how it ends that an order isn't followed to its end: a front of the report was written; or nothing was, as memory ran out or the hall was found worn. Memory
+-- may run out for the writing too
+abbrev pub Breaks : ReportStop → Order → Bench → Driver → List Meaning → SinkView → SinkView → Type 0
+Breaks Failed o a driver after old new = IsUnreported o a (bench driver after) after old new
+Breaks NoMemory o a driver after old new = (new ≡ old) ⊎ IsUnreported o a (bench driver after) after old new
+Breaks Worn o a driver after old new = (new ≡ old) × (driver.desk.worn ≡ true)
+
+-- how it ends that a step is followed, with this text behind its line
 abbrev pub Passed : Result (Unit {0}) ReportStop → Step → List ℕ → Bench → Driver → List Meaning → SinkView → SinkView → Type 0
 Passed (Ok done) step text a driver after old new = IsReported (order_with step text) a (bench driver after) old new
-Passed (Err Failed) step text a driver after old new = IsUnreported (order_with step text) a (bench driver after) after old new
-Passed (Err NoMemory) step text a driver after old new = (new ≡ old) ⊎ IsUnreported (order_with step text) a (bench driver after) after old new
-Passed (Err Worn) step text a driver after old new = (new ≡ old) × (driver.desk.worn ≡ true)
+Passed (Err stop) step text a driver after old new = Breaks stop (order_with step text) a driver after old new
+
+-- how a run ends behind all lines: nothing is left to do, and all of the report was taken and written; or it breaks off, only
+-- beside workers
+abbrev pub Finished : Result (Unit {0}) ReportStop → Bench → Driver → List Meaning → SinkView → SinkView → Type 0
+Finished (Ok done) a driver after old new = IsReported Nothing a (bench driver after) old new × IsStill (bench driver after)
+Finished (Err stop) a driver after old new = (IsSolo a.machine → ⊥) × Breaks stop Nothing a driver after old new

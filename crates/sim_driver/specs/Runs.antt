@@ -1,5 +1,5 @@
 -- A run of a script over devices, and how it ends.
-use Rattle.std.specs.Prelude.{◌≡◌, ◌⊎◌, ℕ, ◌^◌, ◌≤◌, map, List, [], ◌∷◌, ◌++◌, Option, Some, length}
+use Rattle.std.specs.Prelude.{◌≡◌, ◌⊎◌, ℕ, ◌^◌, ◌≤◌, map, List, [], ◌∷◌, ◌++◌, Option, Some, None, length}
 use Rattle.std.specs.List.{flat_map}
 use Rattle.std.specs.declared.vec.Vec.{Vec}
 use Rattle.maple_base.specs.declared.decision.Settings.{Settings}
@@ -13,10 +13,11 @@ use Rattle.machine_steps.specs.Histories.{Leads, Turn, report_of}
 use Rattle.machine_steps.specs.Machine.{State, opening}
 use Rattle.script_text.specs.Lines.{ended_lines}
 use Rattle.script_text.specs.Orders.{Order, orders_of, refused_from}
+use Rattle.script_text.specs.Orders.Order.{Nothing}
 use Rattle.sim_steps.specs.Agreeing.{AllAgree}
-use Rattle.sim_steps.specs.Benches.{Bench, Slot, opening_bench}
+use Rattle.sim_steps.specs.Benches.{Bench, IsSolo, Slot, opening_bench}
 use Rattle.sim_steps.specs.Deeds.{Event, Runs, turns_of}
-use Rattle.sim_steps.specs.Parts.{Follows, IsPart}
+use Rattle.sim_steps.specs.Parts.{Follows, IsPart, IsStill}
 use Rattle.sim_steps.specs.Showing.{AllKeep}
 use Rattle.sim_laws.specs.Laws.{AreWorldRun}
 use Rattle.sim_driver.specs.declared.drive.SimEnd.{SimEnd}
@@ -75,7 +76,8 @@ devices_of b = map (λ (s : Slot). s.device) b.slots
 
 -- ---- where the script came to its end, or to a line that is refused
 
--- deeds follow all orders, their turns are the history, and the text is their whole report; the devices are those of the last bench
+-- deeds follow all orders, their turns are the history, and the text is their whole report; nothing is left to do, and the devices are those of the last
+-- bench
 pub record IsFollowed (g : Given) (after : List Meaning) (history : List Turn) (text : List ℕ) : Type 0 where
   pub events : List Event
   pub last : Bench
@@ -83,6 +85,7 @@ pub record IsFollowed (g : Given) (after : List Meaning) (history : List Turn) (
   pub follows : Follows (orders g) (opened g) events last
   pub history_is : history ≡ turns_of events
   pub text_is : text ≡ report events
+  pub still : IsStill last
   pub devices : devices_of last ≡ after
 
 -- ---- where a write failed, memory ran out, or the hall was worn
@@ -109,24 +112,35 @@ pub record IsBrokenOff (g : Given) (history : List Turn) (text : List ℕ) : Typ
   pub goes_on : GoesOnFrom g events history
   pub text_is : text ≡ report events
 
--- some first orders were followed, the last of them too, and the text is their whole report, but of the last one's part only a front; the devices are those of
--- the last bench
+-- the order of a part: one of the script's, or none behind all of them
+abbrev pub of_part : Option Order → Order
+of_part None = Nothing
+of_part (Some order) = order
+
+abbrev pub just : Option Order → List Order
+just None = []
+just (Some order) = order ∷ []
+
+-- some first orders were followed, and the last of them or what is done behind all of them, too, and the text is their whole report, but of the last part only
+-- a front; the devices are those of the last bench. Behind all orders something is done only beside workers
 pub record IsUnwritten (g : Given) (after : List Meaning) (history : List Turn) (text : List ℕ) : Type 0 where
   pub ahead : List Order
-  pub order : Order
+  pub order : Option Order
+  pub behind_all : order ≡ None → ahead ≡ orders g
   pub events : List Event
   pub between : Bench
   pub follows : Follows ahead (opened g) events between
   pub part : List Event
   pub last : Bench
-  pub is_part : IsPart order between part last
-  pub are : AreDone g (ahead ++ order ∷ []) (events ++ part) last
+  pub is_part : IsPart (of_part order) between part last
+  pub are : AreDone g (ahead ++ just order) (events ++ part) last
   pub history_is : history ≡ turns_of (events ++ part)
   pub front : List ℕ
   pub rest : List ℕ
   pub report_is : report part ≡ front ++ rest
   pub text_is : text ≡ report events ++ front
   pub devices : devices_of last ≡ after
+  pub beside : order ≡ None → IsSolo last.machine → ⊥
 
 -- the hall read so many entries that it has room for no more
 abbrev pub IsFull : ℕ → Type 0

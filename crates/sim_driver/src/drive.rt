@@ -4,16 +4,18 @@ ghost use Rattle.maple_io.specs.Views.{NoWriteFailed, WriteFailed};
 ghost use Rattle.machine_steps.specs.Sound.{AreInRange};
 ghost use Rattle.sim_steps.specs.Showing.{AllIdle};
 ghost use Rattle.history_lock.specs.Passes.{IsPassOf, known, parts};
+ghost use Rattle.sim_channels.specs.Channels.{SameCrew};
 ghost use Rattle.sim_driver.specs.Passes.{DeedLaws, EndsAt, EndsByPass, IsOpened, IsOpening, SameHall, end_of, given_at, given_over};
 ghost use Rattle.sim_driver.specs.Runs.{Ends, IsAtRefused, given, over, refused_line};
 
-use crate::following::follow;
+use crate::following::{finish, follow};
 use core_machine::Core;
 use device_port::Device;
 use history_lock::{Hall, Pass};
 use machine_desk::{Desk, Opening, ReportStop, close_hall, open_hall};
 use maple_base::Settings;
 use maple_io::Sink;
+use packet_workers::{Gate, Open};
 use policy_lang::Policy;
 use report_text::ScriptRefusal;
 use script_text::{StepStop, next_order};
@@ -106,6 +108,7 @@ fn in_hall<R: Wait, D: Device, O: Sink>(
 ) -> SimEnd
     requires hall { IsPassOf hall pass }
     requires opened { IsOpening (known pass) opening (map D.meaning devices.old) }
+    requires alone { parts pass ≡ 1024 }
     requires numbers { first + length script.now < 2 ^ 32 }
     ensures ends { Ends result (given_over opening (map D.meaning devices.old) script.now first) (map D.meaning devices.new) (O.tells to.old) (O.tells to.new) }
     ensures done { result ≡ SimEnd.Done → refused_line (length devices.old) first script.now ≡ None }
@@ -152,6 +155,7 @@ fn at_desk<'p, R: Wait, D: Device, O: Sink>(
 ) -> Ended<'p>
     requires hall { IsPassOf hall.now pass.now }
     requires opened { IsOpening (known pass.now) opening (map D.meaning devices.old) }
+    requires alone { parts pass.now ≡ 1024 }
     requires numbers { first + length script.now < 2 ^ 32 }
     ensures same_reference { result.pass.ghost_name ≡ pass.entry.ghost_name }
     ensures hall { IsPassOf hall.now result.pass.now × (parts result.pass.now ≡ parts pass.old) }
@@ -163,13 +167,14 @@ fn at_desk<'p, R: Wait, D: Device, O: Sink>(
     ensures spared { result.end ≢ SimEnd.WriteFault → NoWriteFailed (O.tells to.old) (O.tells to.new) }
 {
     deed_laws();
-    match Driver::new(alloc, Desk::new(hall, pass, opening), devices) {
+    match Driver::new(alloc, Desk::new(hall, pass, opening), None, devices) {
         Ok(mut driver) => {
-            let end = run_lines(rt, alloc, &mut driver, script, first, devices, to);
-            let pass = driver.into_desk().end();
+            let end = run_lines(rt, alloc, &Open, &mut driver, script, first, devices, to);
+            let (desk, _) = driver.into_parts();
+            let pass = desk.end();
             Ended { pass, end }
         }
-        Err(desk) => {
+        Err((desk, _)) => {
             let pass = desk.end();
             Ended {
                 pass,
@@ -179,10 +184,11 @@ fn at_desk<'p, R: Wait, D: Device, O: Sink>(
     }
 }
 
-// Runs the lines of a script over a machine ahead of its first entry, and devices.
-fn run_lines<R: Wait, D: Device, O: Sink>(
+// Runs the lines of a script over a machine ahead of its first entry, and devices; behind them all that is left to do is done.
+fn run_lines<R: Wait, G: Gate, D: Device, O: Sink>(
     rt: &R,
     alloc: Global,
+    gate: &G,
     driver: &mut Driver<'_>,
     script: &[u8],
     first: u32,
@@ -192,6 +198,7 @@ fn run_lines<R: Wait, D: Device, O: Sink>(
     requires opened { IsOpened driver.old (map D.meaning devices.old) }
     requires numbers { first + length script.now < 2 ^ 32 }
     ensures same { SameHall driver.old.desk.footing driver.new.desk.footing }
+    ensures crew { SameCrew driver.old.crew driver.new.crew }
     ensures ends { EndsAt result (given_at driver.old.desk (map D.meaning devices.old) script.now first) driver.new.desk
         (map D.meaning devices.new) (O.tells to.old) (O.tells to.new) }
     ensures done { result ≡ SimEnd.Done → refused_line (length devices.old) first script.now ≡ None }
@@ -203,14 +210,17 @@ fn run_lines<R: Wait, D: Device, O: Sink>(
     let places = devices.len() as u32;
     let mut rest = script;
     let mut line = first;
-    while !rest.is_empty() {
+    let end = loop {
+        if rest.is_empty() {
+            break SimEnd::Done;
+        }
         let next = match next_order(alloc, rest, places) {
             Ok(next) => next,
-            Err(StepStop::End) => return SimEnd::Done,
-            Err(StepStop::Refused(kind)) => return SimEnd::Script { line, kind },
+            Err(StepStop::End) => break SimEnd::Done,
+            Err(StepStop::Refused(kind)) => break SimEnd::Script { line, kind },
             Err(StepStop::NoMemory) => return SimEnd::NoMemory,
         };
-        match follow(rt, driver, devices, next.step, next.text, to) {
+        match follow(rt, gate, driver, devices, next.step, next.text, to) {
             Ok(()) => {}
             Err(stop) => {
                 driver.law();
@@ -219,8 +229,14 @@ fn run_lines<R: Wait, D: Device, O: Sink>(
         }
         rest = next.rest;
         line += next.passed as u32;
+    };
+    match finish(rt, gate, driver, devices, to) {
+        Ok(()) => end,
+        Err(stop) => {
+            driver.law();
+            end_of(stop)
+        }
     }
-    SimEnd::Done
 }
 
 // What holds of all deeds.

@@ -1,5 +1,5 @@
 -- One stretch behind another.
-use Rattle.std.proofs.Common.{◌≡◌, ℕ, List, [], ◌∷◌, ◌++◌, append-nil, refl, sym, ap, ◌∙◌, subst}
+use Rattle.std.proofs.Common.{◌≡◌, ℕ, List, [], ◌∷◌, ◌++◌, append-nil, refl, sym, ap, ◌∙◌, subst, inl, inr}
 use Rattle.std.specs.Prelude.{Option, Some, None}
 use Rattle.std.specs.List.{AllByRecursion}
 use Rattle.std.proofs.lemmas.Grind.{flat_map-append}
@@ -7,9 +7,9 @@ use Rattle.std.proofs.lemmas.List.Elements.{filter-append}
 use Rattle.machine_steps.specs.declared.entry.Entry.{Entry}
 use Rattle.script_text.specs.Orders.{Order}
 use Rattle.sim_steps.specs.Agreeing.{taken_report, taken_text}
-use Rattle.sim_steps.specs.Benches.{Bench}
+use Rattle.sim_steps.specs.Benches.{Bench, IsSolo}
 use Rattle.sim_steps.specs.Deeds.{Event, Runs}
-use Rattle.sim_steps.specs.Parts.{FaultsEnd, HadMemory, IsDrained, IsInOrder, IsStill, Obeys, asked_of, failed_in, is_asked}
+use Rattle.sim_steps.specs.Parts.{FaultsEnd, HadMemory, IsCalm, IsDrained, IsInOrder, IsStill, Obeys, asked_of, failed_in, is_asked}
 use Rattle.sim_steps.specs.Stretches.{Asked, Carried, Obeyed, Stretch}
 
 -- ---- lists of deeds
@@ -26,7 +26,8 @@ pub faults_then : (o : Option ℕ) (xs ys : List Event) → FaultsEnd o xs → F
 faults_then None [] ys h k = k
 faults_then (Some c) [] ys h k = absurd h
 faults_then None (e ∷ es) ys h k = (h.0, faults_then (failed_in e.deed) es ys h.1 k)
-faults_then (Some c) (e ∷ es) ys h k = (h.0, faults_then None es ys h.1 k)
+faults_then (Some c) (e ∷ es) ys (inl (ends, rest)) k = inl (ends, faults_then None es ys rest k)
+faults_then (Some c) (e ∷ es) ys (inr (beside, rest)) k = inr (beside, faults_then (Some c) es ys rest k)
 
 pub asked_then : (xs ys : List Event) → asked_of (xs ++ ys) ≡ asked_of xs ++ asked_of ys
 asked_then xs ys = filter-append (λ (e : Event). is_asked e.deed) xs ys
@@ -79,8 +80,8 @@ asked_behind entry a b c h k = record { event = h.event; stretch = carried_behin
 
 -- ---- orders
 
-pub obeyed : (o : Order) (xs : List Event) (a b : Bench) → Stretch xs [] a b → Obeys o a xs → IsStill b → Obeyed o a b
-obeyed o xs a b h obeys still = record {
+pub obeyed : (o : Order) (xs : List Event) (a b : Bench) → Stretch xs [] a b → Obeys o a xs → IsCalm b → (IsSolo b.machine → IsStill b) → Obeyed o a b
+obeyed o xs a b h obeys calm still = record {
   events = h.events;
   part = record {
     runs = h.runs;
@@ -89,6 +90,7 @@ obeyed o xs a b h obeys still = record {
     in_order = h.in_order;
     memory = h.memory;
     faults = h.faults;
+    calm = calm;
     still = still;
   };
   none = h.text_is;

@@ -1,6 +1,7 @@
--- Joining: one stretch behind another. Moments: stretches of one deed, or of a failed call with the session's end behind it. Silent: turns of the machine that touch no device.
+-- Joining: one stretch behind another. Others: what others do. Moments: stretches of one deed, or of a failed call with the session's end behind it. Silent: turns of the machine that touch no device.
 -- Turned: deeds are turns of the machine.
 pub mod Joining
 pub mod Moments
+pub mod Others
 pub mod Silent
 pub mod Turned

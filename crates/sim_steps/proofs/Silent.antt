@@ -3,6 +3,7 @@ use Rattle.std.proofs.Common.{◌≡◌, Bool, true, false, List, [], ◌∷◌,
 use Rattle.std.specs.List.{AllByRecursion}
 use Rattle.std.proofs.lemmas.List.{append_assoc, map-append}
 use Rattle.history_lock.specs.Histories.{AreAllowed}
+use Rattle.maple_base.specs.declared.decision.Settings.{Settings}
 use Rattle.machine_steps.specs.declared.entry.Entry.{Entry}
 use Rattle.machine_steps.specs.declared.entry.Entry.TheVariants as entries
 use Rattle.machine_steps.specs.declared.reply.Reply.{Reply}
@@ -10,17 +11,19 @@ use Rattle.machine_steps.specs.Admitting.{Admits}
 use Rattle.machine_steps.specs.Histories.{IsTurn, Leads, Turn}
 use Rattle.machine_steps.specs.Machine.{State}
 use Rattle.machine_steps.specs.Steps.{Steps}
+use Rattle.machine_steps.proofs.Changes.{changes}
 use Rattle.machine_sharing.specs.Legal.{call_of}
 use Rattle.machine_sharing.specs.Sharing.{Allows, Call}
 use Rattle.world_steps.specs.Worlds.{lacks_memory}
 use Rattle.sim_steps.specs.Agreeing.{taken_text}
-use Rattle.sim_steps.specs.Benches.{Bench}
+use Rattle.sim_steps.specs.Benches.{Bench, IsSolo}
 use Rattle.sim_steps.specs.Deeds.{EntersAt, IsSmooth, turn_by}
 use Rattle.sim_steps.specs.Deeds.Deed.{Enters}
 use Rattle.sim_steps.specs.Parts.{asks}
-use Rattle.sim_steps.specs.Stretches.{Carried}
+use Rattle.sim_steps.specs.Stretches.{Beside, Carried}
 use Rattle.sim_steps.proofs.Joining.{carried_none, carried_then, stretch_between}
-use Rattle.sim_steps.proofs.Moments.{carried_entry, is_plain}
+use Rattle.sim_steps.proofs.Moments.{carried_entry, entered, is_plain}
+use Rattle.sim_steps.proofs.Others.{allows_shared, beside_none, beside_then, lacks_in_run, shared_smooth}
 
 abbrev calls_in : List Turn → List Call
 calls_in turns = map call_of turns
@@ -79,3 +82,33 @@ carried_along a (t ∷ ts) m (same, turn, rest) allowed all =
     let later = subst (λ (log : List Call). AreAllowed Allows log (calls_in ts)) (sym (map-append call_of a.past (t ∷ []))) allowed.1 in
     stretch_between [] [] a (with_turns ts m next) a (with_turns (t ∷ ts) m a) refl (ap (λ (us : List Turn). record a { past = us; machine = m }) (append_assoc a.past (t ∷ []) ts))
     (carried_then a next (with_turns ts m next) (carried_one a t same turn allowed.0 all.0) (carried_along next ts m rest later all.1))
+
+-- ---- what others do
+
+module _ (a : Bench) (t : Turn) (same : t.before ≡ a.machine) (turn : IsTurn t) (beside : IsSolo a.machine → ⊥) where
+  beside_one : Allows (calls_in a.past) t.entry → Beside a (with_turns (t ∷ []) t.behind a)
+  beside_one may =
+      let there = behind a t same turn in
+      let shared = allows_shared (calls_in a.past) t.entry may in
+      let w = ways t.entry t.reply (ahead a t same turn) t.behind may turn.admitted turn.steps (shared_smooth t.entry shared t.before t.reply t.behind turn.steps) in
+      let other : IsSolo t.before → ⊥ = λ solo. beside (subst IsSolo same solo) in
+      subst (λ (x : Bench). Beside x there) (is_at a t same turn) (record {
+        events = entered t.entry t.reply (ahead a t same turn) there ∷ [];
+        runs = (refl, w.enters, refl);
+        all = (record { shared = shared; beside = other }, tt);
+        memory = (λ lacks. record { run = lacks_in_run t.entry shared t.before t.reply t.behind turn.steps lacks; beside = other }, tt);
+      })
+
+-- whatever others do
+pub beside_along : (a : Bench) (turns : List Turn) (m : State) → (IsSolo a.machine → ⊥) → Leads a.machine turns m → AreAllowed Allows (calls_in a.past) (calls_in turns)
+    → Beside a (record a { past = a.past ++ turns; machine = m })
+beside_along a [] m beside leads allowed =
+    subst (λ (x : Bench). Beside a x)
+    (ap (λ (n : State). record a { machine = n }) (sym leads) ∙ ap (λ (ts : List Turn). record a { past = ts; machine = m }) (sym (append-nil a.past))) (beside_none a)
+beside_along a (t ∷ ts) m beside (same, turn, rest) allowed =
+    let next = with_turns (t ∷ []) t.behind a in
+    let later = subst (λ (log : List Call). AreAllowed Allows log (calls_in ts)) (sym (map-append call_of a.past (t ∷ []))) allowed.1 in
+    let settings = (changes t.before t.entry t.reply t.behind turn.steps).settings in
+    let still : IsSolo t.behind → ⊥ = λ solo. beside (ap (λ (n : State). n.settings.workers) (sym same) ∙ ap (λ (s : Settings). s.workers) (sym settings) ∙ solo) in
+    subst (λ (x : Bench). Beside a x) (ap (λ (us : List Turn). record a { past = us; machine = m }) (append_assoc a.past (t ∷ []) ts))
+    (beside_then a next (with_turns ts m next) (beside_one a t same turn beside allowed.0) (beside_along next ts m still rest later))

@@ -61,3 +61,9 @@ pub record MovesAt (c : ℕ) (Moves : Slot → Slot → Type 0) (slots moved : L
 pub record IsPluggedAt (c : ℕ) (b : Bench) (s : Slot) : Type 0 where
   pub plugged : is_plugged c b.machine ≡ true
   pub there : slot_at c b.slots ≡ Some s
+
+-- ---- who drives
+
+-- nobody works beside who drives
+abbrev pub IsSolo : State → Type 0
+IsSolo m = m.settings.workers ≡ 0

@@ -19,8 +19,8 @@ use Rattle.machine_steps.specs.Machine.{was_opened}
 use Rattle.world_steps.specs.Worlds.{lacks_memory, messages_for}
 use Rattle.script_text.specs.Orders.{Order}
 use Rattle.script_text.specs.Orders.Order.{Nothing, Plug, Unplug, Arrival, Turn, Settle, Change, NewPolicy, Rules}
-use Rattle.sim_steps.specs.Benches.{Slot, Bench, IsPluggedAt, is_plugged}
-use Rattle.sim_steps.specs.Deeds.{Deed, Event, Runs, has_failed, reply_in}
+use Rattle.sim_steps.specs.Benches.{Slot, Bench, IsPluggedAt, IsSolo, is_plugged}
+use Rattle.sim_steps.specs.Deeds.{Deed, Event, Runs, entry_in, has_failed, reply_in}
 use Rattle.sim_steps.specs.Deeds.Deed.{Enters, Calls}
 
 -- ---- the deeds that orders ask for themselves; all others carry messages, answer packets, or tell that a device failed
@@ -164,36 +164,77 @@ failed_in deed = None
 abbrev pub IsFault : Deed → Type 0
 IsFault deed = (c : ℕ) × (reply : Reply) × (deed ≡ Enters (entries.Gone c true) reply)
 
--- a session ends by a fault directly behind a call in which its device failed, and nowhere else
+-- entries that who works beside who drives may make at any moment
+abbrev pub is_shared : Entry → Bool
+is_shared entries.ReadPolicy = true
+is_shared (entries.ReadCell cell) = true
+is_shared entries.OpenJobs = true
+is_shared (entries.Commit job run) = true
+is_shared (entries.Decide job) = true
+is_shared entry = false
+
+-- where somebody works beside, such a deed may stand between any two of who drives
+pub record IsBeside (e : Event) : Type 0 where
+  pub shared : is_shared (entry_in e.deed) ≡ true
+  pub beside : IsSolo e.before.machine → ⊥
+
+-- the session of this place ends by a fault
+abbrev pub EndsByFault : ℕ → Deed → Type 0
+EndsByFault c deed = (reply : Reply) × (deed ≡ Enters (entries.Gone c true) reply)
+
+-- a session ends by a fault directly behind a call in which its device failed, but for what others do between, and nowhere else
 abbrev pub FaultsEnd : Option ℕ → List Event → Type 0
 FaultsEnd None [] = Unit {0}
 FaultsEnd (Some c) [] = ⊥
 FaultsEnd None (e ∷ es) = (IsFault e.deed → ⊥) × FaultsEnd (failed_in e.deed) es
-FaultsEnd (Some c) (e ∷ es) = ((reply : Reply) × (e.deed ≡ Enters (entries.Gone c true) reply)) × FaultsEnd None es
+FaultsEnd (Some c) (e ∷ es) = (EndsByFault c e.deed × FaultsEnd None es) ⊎ (IsBeside e × FaultsEnd (Some c) es)
 
 -- nothing more is heard of a stream: it shows no whole message, and no fault
 pub record IsHeardOut (s : Stream) : Type 0 where
   pub unbroken : s.broken ≡ None
   pub open_end : IsOpen s.rest
 
--- no packet waits for an answer; all that the machine has for a plugged place was taken out and offered, and all that came from there was heard
-pub record IsStill (b : Bench) : Type 0 where
-  pub jobs : b.machine.jobs ≡ []
-  pub taken : (c : ℕ) → is_plugged c b.machine ≡ true → messages_for c b.machine ≡ []
+-- all that was taken out for a plugged place was offered, and all that came from there was heard
+pub record IsCalm (b : Bench) : Type 0 where
   pub offered : (c : ℕ) (s : Slot) → IsPluggedAt c b s → s.to ≡ []
   pub heard : (c : ℕ) (s : Slot) → IsPluggedAt c b s → IsHeardOut s.from
 
--- memory didn't run out in a deed
+-- and no packet waits for an answer, and all that the machine has for a plugged place was taken out
+pub record IsStill (b : Bench) : Type 0 where
+  pub jobs : b.machine.jobs ≡ []
+  pub taken : (c : ℕ) → is_plugged c b.machine ≡ true → messages_for c b.machine ≡ []
+  pub calm : IsCalm b
+
+-- runs of the policy and what ends them
+abbrev pub is_of_run : Entry → Bool
+is_of_run entries.ReadPolicy = true
+is_of_run (entries.Commit job run) = true
+is_of_run (entries.Decide job) = true
+is_of_run entry = false
+
+-- memory doesn't run out in a deed, but for a run where somebody works beside
+pub record MayLack (e : Event) : Type 0 where
+  pub run : is_of_run (entry_in e.deed) ≡ true
+  pub beside : IsSolo e.before.machine → ⊥
+
 abbrev pub HadMemory : Event → Type 0
-HadMemory e = lacks_memory (reply_in e.deed) ≡ false
+HadMemory e = lacks_memory (reply_in e.deed) ≡ true → MayLack e
 
--- ahead of a deed that an order asks for, all that the ones before it brought about is done
+-- it is told how a `settle` ended
+abbrev pub tells_settling : Deed → Bool
+tells_settling (Enters (entries.Note (notes.Settled taken)) reply) = true
+tells_settling (Enters (entries.Note (notes.Unsettled taken)) reply) = true
+tells_settling deed = false
+
+-- ahead of a deed that an order asks for all that the ones before it brought about is done; where somebody works beside, ahead of what tells how a `settle`
+-- ended
 abbrev pub IsDrained : Event → Type 0
-IsDrained e = IsStill e.before
+IsDrained e = IsSolo e.before.machine ⊎ (tells_settling e.deed ≡ true) → IsStill e.before
 
--- a place is heard while no packet waits, and all that was taken out for it was offered
+-- a place is heard while all that was taken out for it was offered, and, unless somebody works beside, while no packet waits
 abbrev pub HearsInOrder : Deed → Bench → Type 0
-HearsInOrder (Enters (entries.Heard c input) reply) b = (b.machine.jobs ≡ []) × ((s : Slot) → IsPluggedAt c b s → s.to ≡ [])
+HearsInOrder (Enters (entries.Heard c input) reply) b =
+    (IsSolo b.machine → b.machine.jobs ≡ []) × ((s : Slot) → IsPluggedAt c b s → s.to ≡ [])
 HearsInOrder deed b = Unit {0}
 
 abbrev pub IsInOrder : Event → Type 0
@@ -207,9 +248,10 @@ pub record IsPart (o : Order) (a : Bench) (es : List Event) (b : Bench) : Type 0
   pub in_order : AllByRecursion IsInOrder es
   pub memory : AllByRecursion HadMemory es
   pub faults : FaultsEnd None es
-  pub still : IsStill b
+  pub calm : IsCalm b
+  pub still : IsSolo b.machine → IsStill b
 
--- the deeds follow these orders, part by part; behind them the report may be taken
+-- the deeds follow these orders, part by part; behind them packets may be answered, and the report taken
 abbrev pub Follows : List Order → Bench → List Event → Bench → Type 0
 Follows [] a es b = IsPart Nothing a es b
 Follows (o ∷ os) a es b = (part rest : List Event) × (between : Bench) × (es ≡ part ++ rest) × IsPart o a part between × Follows os between rest b

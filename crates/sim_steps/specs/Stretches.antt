@@ -8,7 +8,7 @@ use Rattle.sim_steps.specs.Agreeing.{taken_report}
 use Rattle.sim_steps.specs.Benches.{Bench}
 use Rattle.sim_steps.specs.Deeds.{Event, Runs}
 use Rattle.sim_steps.specs.Deeds.Deed.{Enters}
-use Rattle.sim_steps.specs.Parts.{FaultsEnd, HadMemory, IsDrained, IsInOrder, IsPart, asked_of}
+use Rattle.sim_steps.specs.Parts.{FaultsEnd, HadMemory, IsBeside, IsDrained, IsInOrder, IsPart, asked_of}
 
 -- deeds lead from one bench to another; of them these were asked for, and this text of the report was taken
 pub record Stretch (asked : List Event) (text : List ℕ) (a b : Bench) : Type 0 where
@@ -37,3 +37,10 @@ pub record Asked (entry : Entry) (a b : Bench) : Type 0 where
   pub stretch : Stretch (event ∷ []) [] a b
   pub reply : Reply
   pub deed : event.deed ≡ Enters entry reply
+
+-- what others do beside who drives, which the order doesn't ask for
+pub record Beside (a b : Bench) : Type 0 where
+  pub events : List Event
+  pub runs : Runs a events b
+  pub all : AllByRecursion IsBeside events
+  pub memory : AllByRecursion HadMemory events

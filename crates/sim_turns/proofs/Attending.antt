@@ -1,9 +1,6 @@
 -- What is known behind all that came from a place, and behind a delivery then.
-use Rattle.std.proofs.Common.{◌≡◌, ℕ, ◌+◌, true, List, [], length, get_or, refl, sym, ap, ◌∙◌, subst, ⊎_elim, arith}
-use Rattle.std.specs.Prelude.{Some, Result, Ok, Err, OnOk}
-use Rattle.std.specs.List.{slice_get}
-use Rattle.std.proofs.lemmas.Bool.{cases_eq}
-use Rattle.std.proofs.lemmas.Option.{slice_get-get_or, slice_get_within}
+use Rattle.std.proofs.Common.{◌≡◌, ℕ, ◌+◌, true, List, [], sym, ap, ◌∙◌, subst, inl}
+use Rattle.std.specs.Prelude.{Result, Ok, Err, OnOk}
 use Rattle.device_port.specs.Devices.{Meaning}
 use Rattle.machine_desk.specs.Desks.{DeskView}
 use Rattle.world_steps.specs.Worlds.{messages_for}
@@ -11,62 +8,71 @@ use Rattle.sim_steps.specs.Benches.{is_plugged}
 use Rattle.sim_steps.specs.Parts.{IsHeardOut}
 use Rattle.sim_channels.specs.declared.channel.Channel.{Channel}
 use Rattle.sim_channels.specs.declared.driver.Driver.{Driver}
-use Rattle.sim_channels.specs.Channels.{Fits, IsKept}
+use Rattle.sim_channels.specs.Channels.{Fits, IsKept, IsSame, WorksAlone}
 use Rattle.sim_channels.specs.Driving.{DrivingLaws}
-use Rattle.sim_channels.specs.Waiting.{IsAtRest, IsAtRestBut, IsHeard, IsHeardThrough, IsOffered, IsTaken, NoneWaits, StaysBut, WhilePlugged}
+use Rattle.sim_channels.specs.Waiting.{IsAtRest, IsAtRestBut, IsDone, IsHeard, IsHeardThrough, IsOffered, IsQuiet, IsTaken, NoneWaits, StaysBut, WhilePlugged}
 use Rattle.sim_channels.specs.Hearing.{KeepsChannels}
 use Rattle.sim_channels.proofs.Delivered.{stays_so, taken_stays}
-use Rattle.sim_channels.proofs.Kept.{plugged_at, waiting_but}
+use Rattle.sim_channels.proofs.Kept.{plugged_at}
+use Rattle.sim_channels.proofs.Others.{alone_back, alone_on}
+use Rattle.sim_channels.proofs.Places.{by_index, while_still}
 use Rattle.sim_channels.proofs.Resting.{plugged_by}
 
 module _ (here : ℕ) (old mid : Driver) (ds : List Meaning) (fits : Fits old ds) (kept : IsKept mid) (keeps : KeepsChannels here old mid) where
-  pub fits_still : Fits mid ds
-  fits_still = record { kept = kept; places = keeps.count ∙ fits.places; waiting = waiting_but old mid ds ds here fits keeps.others (λ n o. refl) own }
-    where
-      own : (k : Channel) (d : Meaning) → slice_get mid.channels.items here ≡ Some k → slice_get ds here ≡ Some d → k.waiting ≡ length d.pending
-      own k d there is =
-          let within = slice_get_within mid.channels.items here k there in
-          let x = get_or old.channels.items here k in
-          let was = slice_get-get_or old.channels.items here k (omega (arith, within, keeps.count)) in
-          keeps.waiting x k was there ∙ fits.waiting here x d was is
-
   -- what holds of each channel
   everywhere : (P : Channel → Type 0) → ((n : ℕ) → (n ≡ here → ⊥) → WhilePlugged P n old) → WhilePlugged P here mid → (n : ℕ) → WhilePlugged P n mid
-  everywhere P was now n = ⊎_elim (λ e. subst (λ m. WhilePlugged P m mid) (sym e) now) (λ o. λ k there plugged. was n o k (sym (keeps.others n o) ∙ there) plugged) (cases_eq n here)
+  everywhere P was now n = by_index n here (λ e. subst (λ m. WhilePlugged P m mid) (sym e) now) (λ o. while_still P n old mid (keeps.others n o) (was n o))
 
-  module _ (rest : IsAtRestBut here old) (jobs : NoneWaits mid.desk) (heard : IsHeard here mid) (offered : IsOffered here mid) where
+  module _ (same : IsSame old mid) (rest : IsAtRestBut here old) (jobs : WorksAlone old → NoneWaits mid.desk) (heard : IsHeard here mid) (offered : IsOffered here mid) where
     pub heard_through : IsHeardThrough mid
     heard_through = record {
-      jobs = jobs;
+      jobs = λ alone. jobs (alone_back old mid same alone);
       offered = everywhere (λ k. k.to ≡ []) (λ n o. rest.offered n) offered;
       heard = everywhere (λ k. IsHeardOut k.inbound.from.stream) rest.heard heard;
     }
 
     -- where the desk is as it was, the machine has no message more for any device
+    taken_where : mid.desk ≡ old.desk → WorksAlone mid → (n : ℕ) → IsTaken n mid
+    taken_where desk alone n k there plugged =
+        let open_now : is_plugged (n + 1) old.desk.now ≡ true = ap (λ (d : DeskView). is_plugged (n + 1) d.now) (sym desk) ∙ plugged_at mid n k kept there plugged in
+        let h = plugged_by old (n + 1) fits.kept open_now in
+        let was = (rest.done (alone_back old mid same alone)).taken in
+        ap (λ (d : DeskView). messages_for (n + 1) d.now) desk ∙ ap (λ m. messages_for m old.desk.now) h.place ∙ was h.at h.channel h.there h.plugged
+
     pub rests_still : mid.desk ≡ old.desk → IsAtRest mid
-    rests_still desk = record { jobs = jobs; taken = taken; offered = heard_through.offered; heard = heard_through.heard }
-      where
-        taken : (n : ℕ) → IsTaken n mid
-        taken n k there plugged =
-            let open_now : is_plugged (n + 1) old.desk.now ≡ true = ap (λ (d : DeskView). is_plugged (n + 1) d.now) (sym desk) ∙ plugged_at mid n k kept there plugged in
-            let h = plugged_by old (n + 1) fits.kept open_now in
-            ap (λ (d : DeskView). messages_for (n + 1) d.now) desk ∙ ap (λ m. messages_for m old.desk.now) h.place ∙ rest.taken h.at h.channel h.there h.plugged
+    rests_still desk = record {
+      done = λ alone. record { jobs = heard_through.jobs alone; taken = taken_where desk alone };
+      offered = heard_through.offered;
+      heard = heard_through.heard;
+    }
 
     -- where all other places stay as they are, what was taken out at one is enough
-    module _ (laws : DrivingLaws) (stays : StaysBut here old mid) (new : Driver) (es : List Meaning) (fits_now : Fits new es) (taken : IsTaken here new) (offered_now : IsOffered here new)
-        (heard_now : IsHeard here mid → IsHeard here new) (others : StaysBut here mid new) (jobs_now : NoneWaits mid.desk → NoneWaits new.desk) where
-      both : StaysBut here old new
-      both = record { sessions = λ c o. others.sessions c o ∙ stays.sessions c o; channels = λ n o. others.channels n o ∙ stays.channels n o }
+    module _ (laws : DrivingLaws) (stays : StaysBut (WorksAlone old) here old mid) (new : Driver) (es : List Meaning) (also : IsSame mid new) (fits_now : Fits new es)
+        (taken : IsQuiet mid → IsTaken here new) (offered_now : IsOffered here new) (heard_now : IsHeard here mid → IsHeard here new) (others : StaysBut (IsQuiet mid) here mid new)
+        (jobs_now : NoneWaits mid.desk → NoneWaits new.desk) where
+      both : StaysBut (WorksAlone old) here old new
+      both = record {
+        sessions = λ alone c o. others.sessions (inl (alone_on old mid same alone)) c o ∙ stays.sessions alone c o;
+        channels = λ n o. others.channels n o ∙ stays.channels n o;
+      }
 
-      at_place : (P : ℕ → Driver → Type 0) → P here new → ((n : ℕ) → (n ≡ here → ⊥) → P n new) → (n : ℕ) → P n new
-      at_place P now beside n = ⊎_elim (λ e. subst (λ m. P m new) (sym e) now) (λ o. beside n o) (cases_eq n here)
+      done_now : WorksAlone new → IsDone new
+      done_now alone =
+          let between = alone_back mid new also alone in
+          let before = alone_back old mid same between in
+          record {
+            jobs = jobs_now (jobs before);
+            taken = λ n. by_index n here (λ e. subst (λ m. IsTaken m new) (sym e) (taken (inl between)))
+                (λ o. taken_stays (WorksAlone old) here old new both n o laws ds es fits fits_now before ((rest.done before).taken n));
+          }
 
       pub at_rest : IsAtRest new
       at_rest = record {
-        jobs = jobs_now jobs;
-        taken = at_place IsTaken taken (λ n o. taken_stays here old new both n o laws ds es fits fits_now (rest.taken n));
-        offered = at_place IsOffered offered_now (λ n o. stays_so here old new both n o (λ k. k.to ≡ []) (rest.offered n));
-        heard = at_place IsHeard (heard_now heard) (λ n o. stays_so here old new both n o (λ k. IsHeardOut k.inbound.from.stream) (rest.heard n o));
+        done = done_now;
+        offered = λ n. by_index n here (λ e. subst (λ m. IsOffered m new) (sym e) offered_now)
+            (λ o. stays_so (WorksAlone old) here old new both n o (λ k. k.to ≡ []) (rest.offered n));
+        heard = λ n. by_index n here (λ e. subst (λ m. IsHeard m new) (sym e) (heard_now heard))
+            (λ o. stays_so (WorksAlone old) here old new both n o (λ k. IsHeardOut k.inbound.from.stream) (rest.heard n o));
       }
 
 -- six facts of one result give another

@@ -1,5 +1,5 @@
 -- A turn in which a message was dealt with, behind its note and with what was appended.
-use Rattle.std.proofs.Common.{◌≡◌, ℕ, ◌+◌, List, [], ◌∷◌, length, refl, sym, ap, ◌∙◌, subst, arith, ⊎_elim}
+use Rattle.std.proofs.Common.{◌≡◌, ℕ, ◌+◌, false, List, [], ◌∷◌, length, refl, sym, ap, ◌∙◌, subst, arith, ⊎_elim}
 use Rattle.std.specs.Prelude.{Some}
 use Rattle.std.specs.List.{slice_get}
 use Rattle.std.proofs.lemmas.Bool.{cases_eq}
@@ -9,26 +9,27 @@ use Rattle.maple_base.specs.declared.device.Turned.{Turned}
 use Rattle.maple_base.specs.declared.device.Turned.TheVariants.{Failed as FailedTurn}
 use Rattle.device_port.specs.Devices.{Meaning}
 use Rattle.device_port.specs.Devices.Call.{Turning}
-use Rattle.machine_desk.specs.Desks.{DeskView}
 use Rattle.machine_steps.specs.declared.entry.Entry.{Entry}
 use Rattle.machine_steps.specs.declared.entry.Entry.TheVariants as entries
 use Rattle.machine_steps.specs.declared.note.Note.TheVariants as notes
+use Rattle.machine_steps.specs.declared.reply.Reply.TheVariants.{Done}
 use Rattle.machine_steps.specs.Machine.{session_at}
 use Rattle.sim_steps.specs.Benches.{Bench}
 use Rattle.sim_steps.specs.Stretches.{Stretch}
 use Rattle.sim_steps.proofs.Moments.{called, stretch_call}
-use Rattle.sim_channels.specs.Channels.{EntersAlone, Fits, IsKept, bench, is_plugged_in, slots_of}
+use Rattle.sim_channels.specs.Channels.{EntersNext, Fits, IsKept, IsSame, bench, is_plugged_in, slots_of}
 use Rattle.sim_channels.specs.Driving.{DrivingLaws}
-use Rattle.sim_channels.specs.Waiting.{IsAtRest, IsAtRestBut, IsOffered, IsTaken as IsTakenOut, StaysBut}
+use Rattle.sim_channels.specs.Waiting.{IsAtRest, IsAtRestBut, IsDone, IsOffered, IsQuiet, IsTaken as IsTakenOut, StaysBut}
 use Rattle.sim_channels.specs.declared.channel.Channel.{Channel}
 use Rattle.sim_channels.specs.declared.driver.Driver.{Driver}
 use Rattle.sim_channels.specs.Turns.{Appends, ChannelMoves, Waits}
 use Rattle.sim_channels.proofs.Keeping.{messages_same, session_same}
 use Rattle.sim_channels.proofs.Kept.{ChannelAt, channel_at, is_as_long, is_beside, is_there, kept_channel, not_fresh, plugged_at, waiting_but}
 use Rattle.sim_channels.proofs.Slots.{set_beside, set_there}
-use Rattle.sim_channels.proofs.Resting.{rest_is_still}
-use Rattle.sim_turns.specs.Taking.{IsTaken, IsTold, NotesTurn, Tires, ToldOver, TurnsAt}
+use Rattle.sim_channels.proofs.Resting.{rest_is_drained}
+use Rattle.sim_turns.specs.Taking.{IsTaken, IsTold, Tires, TurnsAt}
 use Rattle.sim_turns.specs.Turning.{TakesOne}
+use Rattle.sim_turns.proofs.Aside.{Brings}
 use Rattle.sim_turns.proofs.Called.{turned_bench, calls_at, dealt_one, is_dealt}
 use Rattle.sim_turns.proofs.Counted.{NoneOpens, count_le}
 use Rattle.sim_turns.proofs.Rested.{rests_but}
@@ -48,7 +49,8 @@ module _ (at : ℕ) (turned : Turned) (bytes : List ℕ) (before behind : List M
 -- ---- the turn
 
 module _ (laws : DrivingLaws) (at : ℕ) (turned : Turned) (bytes : List ℕ) (old mid new : Driver) (kept : IsKept old) (rest : IsAtRest old) (waits : Waits at old)
-    (taken : IsTaken turned) (other : turned ≡ FailedTurn → ⊥) (note : NotesTurn at turned old mid) (footing : mid.desk.footing ≡ old.desk.footing) (desk : new.desk ≡ mid.desk) (moves : ChannelMoves at (Appends bytes) mid new) where
+    (taken : IsTaken turned) (other : turned ≡ FailedTurn → ⊥) (enters : EntersNext (entries.Note (notes.Turned (at + 1) turned)) Done old.desk mid.desk)
+    (rest_is : mid ≡ record old { desk = mid.desk }) (same : IsSame old new) (desk : new.desk ≡ mid.desk) (moves : ChannelMoves at (Appends bytes) mid new) where
   abbrev Telling : Entry
   Telling = entries.Note (notes.Turned (at + 1) turned)
 
@@ -59,28 +61,28 @@ module _ (laws : DrivingLaws) (at : ℕ) (turned : Turned) (bytes : List ℕ) (o
   L = moves.behind
 
   was : moves.before ≡ K
-  was = same_Some moves.before K (sym moves.there ∙ ap (λ (x : Driver). slice_get x.channels.items at) note.same ∙ waits.there)
+  was = same_Some moves.before K (sym moves.there ∙ ap (λ (x : Driver). slice_get x.channels.items at) rest_is ∙ waits.there)
 
   changes : Appends bytes K L
   changes = subst (λ x. Appends bytes x L) was moves.moves
 
   at_channel : ChannelAt at K L old new
-  at_channel = channel_at at old mid K waits.there note.same L new moves.set_is (ap (λ (d : DeskView). d.footing) desk ∙ footing)
+  at_channel = channel_at at old mid K waits.there rest_is L new moves.set_is same
 
-  noted : EntersAlone Telling note.reply old.desk new.desk
-  noted = subst (EntersAlone Telling note.reply old.desk) (sym desk) note.enters
+  noted : EntersNext Telling Done old.desk new.desk
+  noted = subst (EntersNext Telling Done old.desk) (sym desk) enters
 
   kept_behind : IsKept new
-  kept_behind = kept_channel laws old new Telling note.reply kept tt noted.steps refl refl (λ c. refl) at K L at_channel changes.stage
+  kept_behind = kept_channel laws old new Telling Done kept tt noted.steps refl refl (λ c. refl) at K L at_channel changes.stage
       (not_fresh L (changes.stage ∙ waits.plugged))
 
   -- the machine has no message more for any device
   sessions_stay : (c : ℕ) → session_at c new.desk.now ≡ session_at c old.desk.now
-  sessions_stay c = session_same laws old.desk.now Telling note.reply new.desk.now kept.reached noted.steps refl c refl
+  sessions_stay c = session_same laws old.desk.now Telling Done new.desk.now kept.reached noted.steps refl c refl
 
-  others_stay : StaysBut at old new
+  others_stay : StaysBut (IsQuiet old) at old new
   others_stay = record {
-    sessions = λ c o. sessions_stay c;
+    sessions = λ quiet c o. sessions_stay c;
     channels = λ n o. is_beside at K L old new at_channel n o;
   }
 
@@ -89,14 +91,14 @@ module _ (laws : DrivingLaws) (at : ℕ) (turned : Turned) (bytes : List ℕ) (o
       let is : L ≡ x = same_Some L x (sym (is_there at K L old new at_channel) ∙ there) in
       ap (λ (y : Channel). y.to) (sym is) ∙ changes.to ∙ rest.offered at K waits.there waits.plugged
 
-  taken_out : IsTakenOut at new
-  taken_out x there plugged =
+  taken_out : IsDone old → IsTakenOut at new
+  taken_out done x there plugged =
       messages_same laws (at + 1) old.desk.now new.desk.now kept.reached kept_behind.reached (plugged_at old at K kept waits.there waits.plugged) (sessions_stay (at + 1))
-      ∙ rest.taken at K waits.there waits.plugged
+      ∙ done.taken at K waits.there waits.plugged
 
-  pub dealt_rest : IsAtRestBut at new
+  dealt_rest : IsAtRestBut at new
   dealt_rest =
-      rests_but laws at old new kept kept_behind rest others_stay (laws.none old.desk.now Telling note.reply new.desk.now rest.jobs refl noted.steps) taken_out offered
+      rests_but laws at old new kept kept_behind same rest others_stay (λ done. laws.none old.desk.now Telling Done new.desk.now done.jobs refl noted.steps) taken_out offered
 
   none_opens : NoneOpens old.channels.items new.channels.items
   none_opens n x y e f open_now =
@@ -106,7 +108,7 @@ module _ (laws : DrivingLaws) (at : ℕ) (turned : Turned) (bytes : List ℕ) (o
       ap (λ (z : Channel). is_plugged_in z.inbound.stage) (sym first) ∙ ap is_plugged_in (sym changes.stage) ∙ ap (λ (z : Channel). is_plugged_in z.inbound.stage) is ∙ open_now))
       (λ o. (let is : x ≡ y = same_Some x y (sym e ∙ sym (is_beside at K L old new at_channel n o) ∙ f) in ap (λ (z : Channel). is_plugged_in z.inbound.stage) is ∙ open_now)) (cases_eq n at)
 
-  pub dealt_tires : Tires turned old new
+  dealt_tires : Tires turned old new
   dealt_tires =
       let le = count_le old.channels.items new.channels.items (is_as_long at K L old new at_channel) none_opens in
       let one = dealt_one turned taken other in
@@ -136,21 +138,21 @@ module _ (laws : DrivingLaws) (at : ℕ) (turned : Turned) (bytes : List ℕ) (o
     one : TakesOne (at + 1) turned (bench old before) (bench new behind)
     one =
         let b = turned_bench at turned bytes old before behind fits turns waits taken new.desk L in
-        let event = called (at + 1) (Turning turned bytes) note.reply (bench old before) b in
-        let calls = calls_at at turned bytes old before behind fits turns waits taken new.desk L note.reply changes.to changes.from noted in
+        let event = called (at + 1) (Turning turned bytes) Done (bench old before) b in
+        let calls = calls_at at turned bytes old before behind fits turns waits taken new.desk L changes.to changes.from noted in
         let whole = (is_dealt turned bytes turns.before turns.behind taken other turns.turns).whole in
         record {
           event = event;
           bytes = bytes;
-          reply = note.reply;
+          reply = Done;
           stretch = subst (λ (x : Bench). Stretch (event ∷ []) [] (bench old before) x) bench_is
-              (stretch_call (at + 1) (Turning turned bytes) note.reply (bench old before) b refl (rest_is_still old before fits rest) whole note.memory calls);
-          before = refl;
+              (stretch_call (at + 1) (Turning turned bytes) Done (bench old before) b refl (rest_is_drained old before kept rest false (λ e. absurd (cc))) whole refl calls);
+          before = record { slots = refl; sessions = λ c. refl; alone = λ solo. refl };
           deed = refl;
         }
 
     told : IsTold at turned old new before behind
     told = record { fits = fits_behind; one = one }
 
-  pub dealt_told : ToldOver at turned bytes old new
-  dealt_told before behind fits turns = told before behind fits turns
+  pub dealt_brings : Brings at turned bytes old new
+  dealt_brings = record { rest = dealt_rest; told = told; tires = dealt_tires }

@@ -1,74 +1,120 @@
--- An entry that a script asks for is an event at a bench at rest.
-use Rattle.std.proofs.Common.{◌≡◌, true, false, List, [], length, refl, sym, ap, subst, arith}
+-- An entry that a script asks for is an event, behind what others did.
+use Rattle.std.proofs.Common.{◌≡◌, ℕ, true, false, List, [], ◌∷◌, refl, sym, ap, ◌∙◌, subst, inl, inr}
+use Rattle.std.specs.Prelude.{is_some}
 use Rattle.device_port.specs.Devices.{Meaning}
 use Rattle.machine_steps.specs.declared.entry.Entry.{Entry}
 use Rattle.machine_steps.specs.declared.entry.Entry.TheVariants as entries
 use Rattle.machine_steps.specs.declared.reply.Reply.{Reply}
-use Rattle.machine_steps.specs.declared.reply.Reply.TheVariants.{Overload}
-use Rattle.machine_steps.specs.Admitting.{Admits}
-use Rattle.machine_steps.specs.Effects.{tells_packet}
-use Rattle.machine_steps.specs.Machine.{State}
-use Rattle.machine_steps.specs.Steps.{Steps}
-use Rattle.machine_steps.proofs.Changes.{JobsBy, changes}
-use Rattle.machine_steps.proofs.Changes.JobsBy.{Left, AreMany, Added}
-use Rattle.machine_desk.specs.Orders.{Asks}
+use Rattle.machine_steps.specs.Machine.{State, was_opened}
+use Rattle.machine_steps.specs.Steps.{EndsSession, Opens, Steps, TellsRules, Updates, link_end}
+use Rattle.machine_desk.specs.Desks.{Enters}
 use Rattle.world_steps.specs.Worlds.{lacks_memory}
-use Rattle.sim_steps.specs.Benches.{Slot}
+use Rattle.sim_steps.specs.Benches.{Bench, Slot, is_plugged, slot_at}
 use Rattle.sim_steps.specs.Deeds.{EntersAt, IsSmooth, MayEnter, SlotsBehind}
-use Rattle.sim_steps.specs.Parts.{asks}
+use Rattle.sim_steps.specs.Deeds.Deed.{Enters as EntersBy}
+use Rattle.sim_steps.specs.Parts.{IsDrained, asks, tells_settling}
+use Rattle.sim_steps.proofs.Joining.{carried_ahead}
 use Rattle.sim_steps.proofs.Moments.{entered, stretch_entry}
-use Rattle.sim_channels.specs.Channels.{EntersAlone, IsAlone, bench, slots_of}
-use Rattle.sim_channels.specs.Waiting.{IsAtRest}
+use Rattle.sim_steps.proofs.Others.{carried_beside}
+use Rattle.sim_channels.specs.Channels.{IsKept, bench, slots_of}
+use Rattle.sim_channels.specs.Driving.{DrivingLaws}
+use Rattle.sim_channels.specs.Waiting.{IsAtRest, IsDone}
 use Rattle.sim_channels.specs.declared.driver.Driver.{Driver}
-use Rattle.sim_channels.proofs.Alone.{admits_alone, enters_alone, had_memory}
-use Rattle.sim_channels.proofs.Resting.{rest_is_still}
-use Rattle.sim_turns.specs.Turning.{AskedOver}
+use Rattle.sim_channels.proofs.Others.{ahead, opened_stays, others_ahead, others_beside, others_rest, plugged_stays, tends_done, tends_kept, tends_of}
+use Rattle.sim_channels.proofs.Resting.{rest_is_drained}
+use Rattle.sim_turns.specs.Turning.{IsAsked}
+use Rattle.sim_turns.proofs.Aside.{others_aside}
 
--- ---- what is replied while no packet waits
+-- ---- what an asked entry is
 
-smooth_untold : (r : Reply) → tells_packet r ≡ false → IsSmooth r
-smooth_untold Overload untold = absurd (cc)
-smooth_untold reply untold = tt
-
-smooth_alone : (m : State) (entry : Entry) (reply : Reply) (n : State) → m.jobs ≡ [] → Steps m entry reply n → IsSmooth reply
-smooth_alone m entry reply n none steps = go (changes m entry reply n steps).jobs
+-- its reply tells of no packet
+asked_smooth : (entry : Entry) → asks entry ≡ true → (m : State) (reply : Reply) (n : State) → Steps m entry reply n → IsSmooth reply
+asked_smooth (entries.Open c) asked m reply n h = go h
   where
-    go : JobsBy m entry reply n → IsSmooth reply
-    go (Left untold count left) = smooth_untold reply untold
-    go (AreMany r count many same) = (let few : length m.jobs ≡ 0 = ap length none in absurd (omega (arith, many)))
-    go (Added h t j hearing r from number count jobs) = subst IsSmooth (sym r) tt
-
--- ---- the event
+    go : Opens c m reply n → IsSmooth reply
+    go (inl (was, (r, e))) = subst IsSmooth (sym r) tt
+    go (inr (inl (was, many, r, e))) = subst IsSmooth (sym r) tt
+    go (inr (inr (inl (was, few, r, e)))) = subst IsSmooth (sym r) tt
+    go (inr (inr (inr (r, e)))) = subst IsSmooth (sym r) tt
+asked_smooth (entries.Gone c fault) asked m reply n h = go h
+  where
+    go : EndsSession c (link_end fault) m reply n → IsSmooth reply
+    go (inl (none, (r, e))) = subst IsSmooth (sym r) tt
+    go (inr (s, found, r, e)) = subst IsSmooth (sym r) tt
+asked_smooth (entries.Change u) asked m reply n h = go h
+  where
+    go : Updates u m reply n → IsSmooth reply
+    go (inl (free, r, e)) = subst IsSmooth (sym r) tt
+    go (inr (inl (kind, is, r, e))) = subst IsSmooth (sym r) tt
+    go (inr (inr (r, e))) = subst IsSmooth (sym r) tt
+asked_smooth (entries.NewPolicy p) asked m reply n h = go h
+  where
+    go : Steps m (entries.NewPolicy p) reply n → IsSmooth reply
+    go (inl (r, e)) = subst IsSmooth (sym r) tt
+    go (inr (r, e)) = subst IsSmooth (sym r) tt
+asked_smooth (entries.ReadRules switch) asked m reply n h = go h
+  where
+    go : TellsRules switch m reply n → IsSmooth reply
+    go (inl (rules, put, r, e)) = subst IsSmooth (sym r) tt
+    go (inr (r, e)) = subst IsSmooth (sym r) tt
+asked_smooth (entries.Note note) asked m reply n h = go h
+  where
+    go : Steps m (entries.Note note) reply n → IsSmooth reply
+    go (inl (r, e)) = subst IsSmooth (sym r) tt
+    go (inr (r, e)) = subst IsSmooth (sym r) tt
+asked_smooth entry asked m reply n h = absurd (cc)
 
 asked_slots : (m : State) (entry : Entry) (reply : Reply) (old new : List Slot) → asks entry ≡ true → new ≡ old → SlotsBehind m entry reply old new
 asked_slots m (entries.Heard c input) reply old new asked e = absurd (cc)
 asked_slots m (entries.TakeOut c) reply old new asked e = absurd (cc)
 asked_slots m entry reply old new asked e = e
 
-module _ (entry : Entry) (reply : Reply) (old new : Driver) (rest : IsAtRest old) (asked : asks entry ≡ true) (admitted : Admits old.desk.now entry)
-    (enters : EntersAlone entry reply old.desk new.desk) (same : new ≡ record old { desk = new.desk }) where
-  enters_at : (devices : List Meaning) → MayEnter entry (bench old devices) → EntersAt entry reply (bench old devices) (bench new devices)
-  enters_at devices may = record {
-    may = may;
-    admitted = admitted;
-    steps = enters.steps;
-    smooth = smooth_alone old.desk.now entry reply new.desk.now rest.jobs enters.steps;
-    slots = asked_slots old.desk.now entry reply _ _ asked (ap (λ (x : Driver). slots_of x.channels.items devices) same);
-    past = enters.past;
-  }
+-- it may be made where sessions and places are as they were
+asked_may : (entry : Entry) (a b : Bench) → asks entry ≡ true → b.slots ≡ a.slots → ((c : ℕ) → is_plugged c b.machine ≡ is_plugged c a.machine)
+    → ((c : ℕ) → was_opened c b.machine ≡ was_opened c a.machine) → MayEnter entry a → MayEnter entry b
+asked_may (entries.Open c) a b asked slots plugged opened may = (ap (λ (ss : List Slot). is_some (slot_at c ss)) slots ∙ may.0, opened c ∙ may.1)
+asked_may (entries.Gone c fault) a b asked slots plugged opened may = plugged c ∙ may
+asked_may (entries.Heard c input) a b asked slots plugged opened may = absurd (cc)
+asked_may (entries.TakeOut c) a b asked slots plugged opened may = absurd (cc)
+asked_may (entries.Decide job) a b asked slots plugged opened may = absurd (cc)
+asked_may entry a b asked slots plugged opened may = may
 
-  pub asked_over : lacks_memory reply ≡ false → AskedOver entry reply old new
-  asked_over memory devices fits may = record {
-    event = entered entry reply (bench old devices) (bench new devices);
-    stretch = stretch_entry entry reply (bench old devices) (bench new devices) asked (rest_is_still old devices fits rest) memory (enters_at devices may);
-    before = refl;
-    deed = refl;
-  }
+-- ---- the event
 
--- ---- what was asked at the desk, where nobody else has a part of the machine
+module _ (laws : DrivingLaws) (entry : Entry) (reply : Reply) (old new : Driver) (kept : IsKept old) (enters : Enters old.desk entry reply new.desk)
+    (same : new ≡ record old { desk = new.desk }) (devices : List Meaning) where
+  abbrev Ahead : Driver
+  Ahead = ahead old entry reply new.desk kept enters
 
-pub asked_over_of_asks : (entry : Entry) (reply : Reply) (old new : Driver) → IsAlone old → Asks entry reply old.desk new.desk → IsAtRest old → asks entry ≡ true
-    → new ≡ record old { desk = new.desk } → AskedOver entry reply old new
-asked_over_of_asks entry reply old new alone h rest asked same =
-    asked_over entry reply old new rest asked
-    (admits_alone old.desk new.desk entry reply alone h.enters) (enters_alone old.desk new.desk entry reply alone h.enters) same (had_memory reply h.memory)
+  module _ (rest : IsAtRest old) (asked : asks entry ≡ true) (settled : tells_settling (EntersBy entry reply) ≡ true → IsDone old) where
+    drained : IsDrained (entered entry reply (bench Ahead devices) (bench new devices))
+    drained =
+        let others = others_ahead old entry reply new.desk kept enters in
+        let tends = tends_of old Ahead others in
+        rest_is_drained Ahead devices (tends_kept laws old Ahead kept tends) (others_rest laws old Ahead kept others rest) (tells_settling (EntersBy entry reply))
+        (λ is. tends_done laws old Ahead kept tends (settled is))
+
+    enters_at : MayEnter entry (bench old devices) → EntersAt entry reply (bench Ahead devices) (bench new devices)
+    enters_at may =
+        let tends = tends_of old Ahead (others_ahead old entry reply new.desk kept enters) in
+        record {
+          may = asked_may entry (bench old devices) (bench Ahead devices) asked refl (plugged_stays laws old Ahead kept tends) (opened_stays laws old Ahead kept tends) may;
+          admitted = enters.made.admitted;
+          steps = enters.made.steps;
+          smooth = asked_smooth entry asked enters.between reply new.desk.now enters.made.steps;
+          slots = asked_slots enters.between entry reply _ _ asked (ap (λ (x : Driver). slots_of x.channels.items devices) same);
+          past = enters.past;
+        }
+
+    -- this entry alone was asked for
+    pub asked_over : lacks_memory reply ≡ false → MayEnter entry (bench old devices) → IsAsked entry reply (bench old devices) (bench new devices)
+    asked_over memory may =
+        let event = entered entry reply (bench Ahead devices) (bench new devices) in
+        record {
+          event = event;
+          stretch = carried_ahead (event ∷ []) [] (bench old devices) (bench Ahead devices) (bench new devices)
+              (carried_beside (bench old devices) (bench Ahead devices) (others_beside laws old Ahead kept (others_ahead old entry reply new.desk kept enters) devices))
+              (stretch_entry entry reply (bench Ahead devices) (bench new devices) asked drained memory (enters_at may));
+          before = others_aside laws old Ahead kept (others_ahead old entry reply new.desk kept enters) devices;
+          deed = refl;
+        }

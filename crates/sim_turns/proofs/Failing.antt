@@ -9,13 +9,15 @@ use Rattle.maple_base.specs.declared.device.Turned.TheVariants.{Failed as Failed
 use Rattle.of10_stream.specs.Steps.{fed}
 use Rattle.device_port.specs.Devices.{Meaning, Turns}
 use Rattle.device_port.specs.Devices.Call.{Turning}
+use Rattle.machine_steps.specs.declared.entry.Entry.TheVariants as entries
 use Rattle.machine_steps.specs.declared.note.Note.TheVariants as notes
+use Rattle.machine_steps.specs.declared.reply.Reply.TheVariants.{Done}
 use Rattle.world_steps.specs.Worlds.{messages_for}
 use Rattle.sim_steps.specs.Benches.{Bench}
 use Rattle.sim_steps.specs.Deeds.{CallsAt, has_failed}
 use Rattle.sim_steps.specs.Parts.{has_dealt}
 use Rattle.sim_steps.proofs.Moments.{called, stretch_failed}
-use Rattle.sim_channels.specs.Channels.{Fits, IsKept, bench, is_plugged_in, slots_of}
+use Rattle.sim_channels.specs.Channels.{EntersNext, Fits, IsKept, bench, is_plugged_in, slots_of}
 use Rattle.sim_channels.specs.Delivering.{Leaves}
 use Rattle.sim_channels.specs.Driving.{DrivingLaws}
 use Rattle.sim_channels.specs.Waiting.{IsAtRest, IsAtRestBut}
@@ -23,10 +25,12 @@ use Rattle.sim_channels.specs.declared.channel.Channel.{Channel}
 use Rattle.sim_channels.specs.declared.driver.Driver.{Driver}
 use Rattle.sim_channels.specs.Turns.{Waits}
 use Rattle.sim_channels.proofs.Kept.{all_left, waiting_but}
+use Rattle.sim_channels.proofs.Others.{others_beside}
 use Rattle.sim_channels.proofs.Slots.{set_same}
-use Rattle.sim_channels.proofs.Resting.{rest_is_still}
-use Rattle.sim_turns.specs.Taking.{IsTaken, IsTold, NotesTurn, Tires, ToldOver, TurnsAt, plugged_count}
+use Rattle.sim_channels.proofs.Resting.{rest_is_drained}
+use Rattle.sim_turns.specs.Taking.{IsTaken, IsTold, Tires, TurnsAt, plugged_count}
 use Rattle.sim_turns.specs.Turning.{TakesOne}
+use Rattle.sim_turns.proofs.Aside.{Brings}
 use Rattle.sim_turns.proofs.Called.{turned_bench, calls_at, fed_nothing}
 use Rattle.sim_turns.proofs.Counted.{NoneOpens, count_lt}
 use Rattle.sim_turns.proofs.Dealt.{device_there, devices_beside, devices_long}
@@ -35,30 +39,31 @@ use Rattle.sim_turns.proofs.Pending.{there_is}
 use Rattle.sim_turns.proofs.Rested.{rests_but}
 
 module _ (laws : DrivingLaws) (at : ℕ) (turned : Turned) (bytes : List ℕ) (old mid new : Driver) (kept : IsKept old) (rest : IsAtRest old) (waits : Waits at old)
-    (taken : IsTaken turned) (failed : turned ≡ FailedTurn) (note : NotesTurn at turned old mid) (footing : mid.desk.footing ≡ old.desk.footing) (leaves : Leaves at mid new) where
+    (taken : IsTaken turned) (failed : turned ≡ FailedTurn) (enters : EntersNext (entries.Note (notes.Turned (at + 1) turned)) Done old.desk mid.desk)
+    (same : mid ≡ record old { desk = mid.desk }) (footing : mid.desk.footing ≡ old.desk.footing) (leaves : Leaves at mid new) where
   abbrev K : Channel
   K = waits.channel
 
   channels_same : mid.channels.items ≡ old.channels.items
-  channels_same = ap (λ (x : Driver). x.channels.items) note.same
+  channels_same = ap (λ (x : Driver). x.channels.items) same
 
   -- ---- behind the note
 
-  pub kept_told : IsKept mid
-  kept_told = noted_kept (notes.Turned (at + 1) turned) note.reply old mid note.same note.memory footing note.enters.steps kept
+  kept_told : IsKept mid
+  kept_told = noted_kept laws (notes.Turned (at + 1) turned) old mid kept enters same footing
 
   rest_told : IsAtRest mid
-  rest_told = noted_rest (notes.Turned (at + 1) turned) note.reply old mid note.same note.memory footing note.enters.steps rest
+  rest_told = noted_rest laws (notes.Turned (at + 1) turned) old mid kept enters same footing rest
 
   there_told : slice_get mid.channels.items at ≡ Some K
   there_told = ap (λ ks. slice_get ks at) channels_same ∙ waits.there
 
   -- ---- behind the session's end
 
-  pub failed_rest : IsAtRestBut at new
+  failed_rest : IsAtRestBut at new
   failed_rest =
-      rests_but laws at mid new kept_told leaves.kept rest_told leaves.spares.others (leaves.spares.jobs rest_told.jobs)
-      (all_left (λ k. messages_for (at + 1) new.desk.now ≡ []) at new leaves.left) (all_left (λ k. k.to ≡ []) at new leaves.left)
+      rests_but laws at mid new kept_told leaves.kept leaves.spares.same rest_told leaves.spares.others (λ done. leaves.spares.jobs done.jobs)
+      (λ done. all_left (λ k. messages_for (at + 1) new.desk.now ≡ []) at new leaves.left) (all_left (λ k. k.to ≡ []) at new leaves.left)
 
   left_shut : (y : Channel) → slice_get new.channels.items at ≡ Some y → is_plugged_in y.inbound.stage ≡ false
   left_shut y there = ap is_plugged_in (leaves.left y there)
@@ -68,7 +73,7 @@ module _ (laws : DrivingLaws) (at : ℕ) (turned : Turned) (bytes : List ℕ) (o
       ⊎_elim (λ here. (let g : true ≡ false = sym open_now ∙ left_shut y (ap (slice_get new.channels.items) (sym here) ∙ f) in absurd (cc)))
       (λ o. (let is : x ≡ y = same_Some x y (sym e ∙ sym (leaves.spares.others.channels n o) ∙ f) in ap (λ (z : Channel). is_plugged_in z.inbound.stage) is ∙ open_now)) (cases_eq n at)
 
-  pub failed_tires : Tires turned old new
+  failed_tires : Tires turned old new
   failed_tires =
       let within : at < length mid.channels.items = slice_get_within mid.channels.items at K there_told in
       let l = there_is new.channels.items at (omega (arith, leaves.places)) in
@@ -81,7 +86,7 @@ module _ (laws : DrivingLaws) (at : ℕ) (turned : Turned) (bytes : List ℕ) (o
     fails = subst (λ t. Turns t bytes turns.before turns.behind) failed turns.turns
 
     fits_told : Fits mid before
-    fits_told = noted_fits (notes.Turned (at + 1) turned) note.reply old mid note.same note.memory footing note.enters.steps before fits
+    fits_told = noted_fits laws (notes.Turned (at + 1) turned) old mid kept enters same footing before fits
 
     here : (x : Channel) (d : Meaning) → slice_get new.channels.items at ≡ Some x → slice_get behind at ≡ Some d → x.waiting ≡ length d.pending
     here x d e f =
@@ -104,24 +109,25 @@ module _ (laws : DrivingLaws) (at : ℕ) (turned : Turned) (bytes : List ℕ) (o
     bench_is : turned_bench at turned bytes old before behind fits turns waits taken mid.desk K ≡ bench mid behind
     bench_is = λ i. record { past = mid.desk.past; machine = mid.desk.now; slots = slots_of ((set_same old.channels.items at K waits.there ∙ sym channels_same) i) (sym turns.set_is i) }
 
-    calls : CallsAt (at + 1) (Turning turned bytes) note.reply (bench old before) (bench mid behind)
+    calls : CallsAt (at + 1) (Turning turned bytes) Done (bench old before) (bench mid behind)
     calls =
-        subst (λ (x : Bench). CallsAt (at + 1) (Turning turned bytes) note.reply (bench old before) x) bench_is
-        (calls_at at turned bytes old before behind fits turns waits taken mid.desk K note.reply refl nothing_fed note.enters)
+        subst (λ (x : Bench). CallsAt (at + 1) (Turning turned bytes) Done (bench old before) x) bench_is
+        (calls_at at turned bytes old before behind fits turns waits taken mid.desk K refl nothing_fed enters)
 
     one : TakesOne (at + 1) turned (bench old before) (bench new behind)
     one = record {
-      event = called (at + 1) (Turning turned bytes) note.reply (bench old before) (bench mid behind);
+      event = called (at + 1) (Turning turned bytes) Done (bench old before) (bench mid behind);
       bytes = bytes;
-      reply = note.reply;
-      stretch = stretch_failed (at + 1) (Turning turned bytes) note.reply (bench old before) (bench mid behind) leaves.reply (bench new behind) refl (rest_is_still old before fits rest)
-          (ap (λ t. has_failed (Turning t bytes)) failed) note.memory leaves.memory calls (leaves.enters behind long);
-      before = refl;
+      reply = Done;
+      stretch = stretch_failed (at + 1) (Turning turned bytes) Done (bench old before) (bench mid behind) leaves.reply (bench leaves.ahead behind) (bench new behind)
+          (others_beside laws mid leaves.ahead kept_told leaves.others behind) refl (rest_is_drained old before kept rest false (λ e. absurd (cc)))
+          (ap (λ t. has_failed (Turning t bytes)) failed) refl leaves.memory calls (leaves.enters behind long);
+      before = record { slots = refl; sessions = λ c. refl; alone = λ solo. refl };
       deed = refl;
     }
 
     told : IsTold at turned old new before behind
     told = record { fits = fits_behind; one = one }
 
-  pub failed_told : ToldOver at turned bytes old new
-  failed_told before behind fits turns = told before behind fits turns
+  pub failed_brings : Brings at turned bytes old new
+  failed_brings = record { rest = failed_rest; told = told; tires = failed_tires }

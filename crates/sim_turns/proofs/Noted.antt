@@ -1,67 +1,78 @@
 -- A note adds lines to the report, and leaves all else as it was.
-use Rattle.std.proofs.Common.{◌≡◌, false, List, refl, sym, ap, ◌∙◌, subst, inl, inr}
-use Rattle.report_text.specs.declared.line.Line.{Line}
-use Rattle.device_port.specs.Devices.{Meaning}
-use Rattle.machine_desk.specs.Desks.{DeskView}
+use Rattle.std.proofs.Common.{◌≡◌, ◌+◌, refl, sym, ap, ◌∙◌, inl, inr}
+use Rattle.std.specs.List.{slice_get}
+use Rattle.machine_desk.specs.Desks.{Enters}
 use Rattle.machine_steps.specs.declared.entry.Entry.TheVariants as entries
 use Rattle.machine_steps.specs.declared.note.Note.{Note}
-use Rattle.machine_steps.specs.declared.reply.Reply.{Reply}
 use Rattle.machine_steps.specs.declared.reply.Reply.TheVariants.{Done, NoMemory}
 use Rattle.machine_steps.specs.Machine.{State, tells_all}
 use Rattle.machine_steps.specs.Steps.{Steps, note_lines}
-use Rattle.world_steps.specs.Worlds.{lacks_memory}
-use Rattle.sim_channels.specs.Channels.{Fits, IsKept}
-use Rattle.sim_channels.specs.Waiting.{IsAtRest}
+use Rattle.world_steps.specs.Worlds.{lacks_memory, messages_for}
 use Rattle.sim_channels.specs.declared.driver.Driver.{Driver}
-use Rattle.sim_channels.proofs.Keeping.{reached_on}
-use Rattle.sim_channels.proofs.Kept.{alone_still}
-use Rattle.sim_turns.specs.Turning.{AskedOver, FitsStill}
+use Rattle.sim_channels.specs.Channels.{EntersNext, IsKept, OthersDid}
+use Rattle.sim_channels.specs.Driving.{DrivingLaws}
+use Rattle.sim_channels.specs.Waiting.{IsAtRest, IsDone}
+use Rattle.sim_channels.proofs.Kept.{kept_entry}
+use Rattle.sim_channels.proofs.Others.{ahead, alone_back, enters_next, others_ahead, others_rest, same_desk, tends_fits, tends_kept, tends_of}
+use Rattle.sim_channels.proofs.Places.{fits_same, while_still}
+use Rattle.sim_turns.specs.Turning.{FitsStill}
 
--- ---- these lines are told, and the desk has this beside its machine
+-- where memory doesn't run out for it
+noted : (note : Note) (m n : State) → Steps m (entries.Note note) Done n → n ≡ tells_all (note_lines note) m
+noted note m n (inl (r, e)) = e
+noted note m n (inr (r, e)) = (let f : lacks_memory Done ≡ lacks_memory NoMemory = ap lacks_memory r in absurd (cc))
 
-abbrev pub told : List Line → DeskView → Driver → Driver
-told lines desk driver = record driver { desk = record desk { now = tells_all lines driver.desk.now } }
+-- nobody came between
+module _ (laws : DrivingLaws) (note : Note) (old new : Driver) (kept : IsKept old) (enters : EntersNext (entries.Note note) Done old.desk new.desk)
+    (same : new ≡ record old { desk = new.desk }) (footing : new.desk.footing ≡ old.desk.footing) where
+  now_is : new.desk.now ≡ tells_all (note_lines note) old.desk.now
+  now_is = noted note old.desk.now new.desk.now enters.steps
 
-module _ (note : Note) (desk : DeskView) (driver : Driver) (footing : desk.footing ≡ driver.desk.footing) where
-  abbrev Behind : Driver
-  Behind = told (note_lines note) desk driver
+  items_are : new.channels.items ≡ old.channels.items
+  items_are = ap (λ (x : Driver). x.channels.items) same
 
-  kept_told : IsKept driver → IsKept Behind
-  kept_told h = record {
-    alone = alone_still driver Behind footing h.alone;
-    reached = reached_on driver.desk.now (entries.Note note) Done Behind.desk.now h.reached tt (inl (refl, refl));
-    numbers = h.numbers;
-    stages = λ at k e. (let s = h.stages at k e in record { plugged = s.plugged; opened = s.opened });
-    places_alone = h.places_alone;
-    fresh = h.fresh;
+  pub noted_kept : IsKept new
+  noted_kept = kept_entry laws old new (entries.Note note) Done kept tt enters.steps refl refl (λ c. refl) same footing
+
+  pub noted_fits : FitsStill old new
+  noted_fits devices fits = fits_same old new devices noted_kept items_are fits
+
+  pub noted_done : IsDone old → IsDone new
+  noted_done done = record {
+    jobs = ap (λ (m : State). m.jobs) now_is ∙ done.jobs;
+    taken = λ at k there plugged. ap (messages_for (at + 1)) now_is ∙ done.taken at k (sym (ap (λ ks. slice_get ks at) items_are) ∙ there) plugged;
   }
 
-  fits_told : (devices : List Meaning) → Fits driver devices → Fits Behind devices
-  fits_told devices h = record { kept = kept_told h.kept; places = h.places; waiting = h.waiting }
+  pub noted_rest : IsAtRest old → IsAtRest new
+  noted_rest rest = record {
+    done = λ alone. noted_done (rest.done (alone_back old new (same_desk old new same footing) alone));
+    offered = λ at. while_still _ at old new (ap (λ ks. slice_get ks at) items_are) (rest.offered at);
+    heard = λ at. while_still _ at old new (ap (λ ks. slice_get ks at) items_are) (rest.heard at);
+  }
 
-  rest_told : IsAtRest driver → IsAtRest Behind
-  rest_told h = record { jobs = h.jobs; taken = h.taken; offered = h.offered; heard = h.heard }
+-- behind what others did
+module _ (laws : DrivingLaws) (note : Note) (old new : Driver) (kept : IsKept old) (enters : Enters old.desk (entries.Note note) Done new.desk)
+    (same : new ≡ record old { desk = new.desk }) (footing : new.desk.footing ≡ old.desk.footing) where
+  abbrev pub Ahead : Driver
+  Ahead = ahead old (entries.Note note) Done new.desk kept enters
 
--- ---- so a note does
+  pub others_did : OthersDid old Ahead
+  others_did = others_ahead old (entries.Note note) Done new.desk kept enters
 
-record IsNoted (note : Note) (reply : Reply) (old new : Driver) : Type 0 where
-  done : reply ≡ Done
-  now_is : new ≡ told (note_lines note) new.desk old
+  pub note_next : EntersNext (entries.Note note) Done Ahead.desk new.desk
+  note_next = enters_next old (entries.Note note) Done new.desk kept enters
 
-module _ (note : Note) (reply : Reply) (old new : Driver) (same : new ≡ record old { desk = new.desk }) (memory : lacks_memory reply ≡ false) (footing : new.desk.footing ≡ old.desk.footing) where
-  noted : Steps old.desk.now (entries.Note note) reply new.desk.now → IsNoted note reply old new
-  noted (inl (r, e)) = record { done = r; now_is = same ∙ ap (λ (m : State). record old { desk = record new.desk { now = m } }) e }
-  noted (inr (r, e)) = (let f : lacks_memory reply ≡ lacks_memory NoMemory = ap lacks_memory r in absurd (cc))
+  pub ahead_kept : IsKept Ahead
+  ahead_kept = tends_kept laws old Ahead kept (tends_of old Ahead others_did)
 
-  module _ (steps : Steps old.desk.now (entries.Note note) reply new.desk.now) where
-    pub noted_kept : IsKept old → IsKept new
-    noted_kept h = subst IsKept (sym (noted steps).now_is) (kept_told note new.desk old footing h)
+  pub ahead_rest : IsAtRest old → IsAtRest Ahead
+  ahead_rest rest = others_rest laws old Ahead kept others_did rest
 
-    pub noted_fits : FitsStill old new
-    noted_fits devices h = subst (λ x. Fits x devices) (sym (noted steps).now_is) (fits_told note new.desk old footing devices h)
+  pub told_kept : IsKept new
+  told_kept = noted_kept laws note Ahead new ahead_kept note_next same footing
 
-    pub noted_rest : IsAtRest old → IsAtRest new
-    noted_rest h = subst IsAtRest (sym (noted steps).now_is) (rest_told note new.desk old footing h)
+  pub told_fits : FitsStill old new
+  told_fits devices fits = noted_fits laws note Ahead new ahead_kept note_next same footing devices (tends_fits laws old Ahead kept (tends_of old Ahead others_did) devices fits)
 
-    pub noted_over : AskedOver (entries.Note note) reply old new → AskedOver (entries.Note note) Done old new
-    noted_over h = subst (λ r. AskedOver (entries.Note note) r old new) (noted steps).done h
+  pub told_rest : IsAtRest old → IsAtRest new
+  told_rest rest = noted_rest laws note Ahead new ahead_kept note_next same footing (ahead_rest rest)

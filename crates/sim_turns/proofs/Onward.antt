@@ -6,16 +6,17 @@ use Rattle.std.proofs.lemmas.Option.{same_Some, slice_get_within, slice_get-get_
 use Rattle.sim_steps.proofs.Joining.{carried_none, carried_then}
 use Rattle.sim_channels.specs.declared.channel.Channel.{Channel}
 use Rattle.sim_channels.specs.declared.driver.Driver.{Driver}
-use Rattle.sim_channels.specs.Channels.{IsKept, bench}
+use Rattle.sim_channels.specs.Channels.{IsKept, WorksAlone, bench}
 use Rattle.sim_channels.specs.Waiting.{IsOffered, NoneWaits, StaysBut}
 use Rattle.sim_channels.specs.Hearing.{KeepsChannels}
 use Rattle.sim_channels.specs.Passes.{HasHeard, Passed, is_state}
 use Rattle.sim_channels.specs.declared.hear.Came.{Came}
 use Rattle.sim_channels.specs.declared.hear.Came.TheVariants.{Nothing, State}
+use Rattle.sim_channels.proofs.Others.{alone_on, same_driver, same_then}
 use Rattle.sim_turns.specs.declared.hear.Reach.{Reach}
 use Rattle.sim_turns.specs.declared.hear.Reach.TheVariants.{Anybody, Itself, Nobody}
 
-heard_none : (here : ℕ) (made : Bool) (driver : Driver) → IsKept driver → NoneWaits driver.desk → IsOffered here driver → HasHeard here made driver driver
+heard_none : (here : ℕ) (made : Bool) (driver : Driver) → IsKept driver → (WorksAlone driver → NoneWaits driver.desk) → IsOffered here driver → HasHeard here made driver driver
 heard_none here made driver kept none offered = record {
   kept = kept;
   carried = λ ds long. carried_none (bench driver ds);
@@ -26,7 +27,8 @@ heard_none here made driver kept none offered = record {
     others = λ n other. refl;
     waiting = λ x y was there. ap (λ (z : Channel). z.waiting) (same_Some y x (sym there ∙ was));
   };
-  others = λ untold no_hosts. record { sessions = λ c other. refl; channels = λ n other. refl };
+  others = λ untold no_hosts. record { sessions = λ alone c other. refl; channels = λ n other. refl };
+  same = same_driver driver;
   learning = refl;
 }
 
@@ -41,7 +43,7 @@ heard_then : (here : ℕ) (first second made : Bool) (a b d : Driver) → (made 
 heard_then here first second made a b d by h k = record {
   kept = k.kept;
   carried = λ ds long. carried_then (bench a ds) (bench b ds) (bench d ds) (h.carried ds long) (k.carried ds (long ∙ sym h.channels.count));
-  jobs = k.jobs;
+  jobs = λ alone. k.jobs (alone_on a b h.same alone);
   offered = k.offered;
   channels = record {
     count = k.channels.count ∙ h.channels.count;
@@ -51,7 +53,8 @@ heard_then here first second made a b d by h k = record {
   others = λ untold no_hosts.
       (let s = h.others (by untold).0 no_hosts in
       let t = k.others (by untold).1 (h.learning ∙ no_hosts) in
-      record { sessions = λ c other. t.sessions c other ∙ s.sessions c other; channels = λ n other. t.channels n other ∙ s.channels n other });
+      record { sessions = λ alone c other. t.sessions (alone_on a b h.same alone) c other ∙ s.sessions alone c other; channels = λ n other. t.channels n other ∙ s.channels n other });
+  same = same_then a b d h.same k.same;
   learning = k.learning ∙ h.learning;
 }
 
@@ -81,27 +84,24 @@ all_others e = cc
 -- what the loop over them knows
 pub record HearsOn (here : ℕ) (reach : Reach) (old now : Driver) : Type 0 where
   pub heard : HasHeard here (reaches_all reach) old now
-  pub footing : now.desk.footing ≡ old.desk.footing
   pub nobody : reach ≡ Nobody → now.desk ≡ old.desk
   pub learns : reach ≡ Itself → old.desk.now.policy.learning ≡ false
 
-pub others_stay : (here : ℕ) (reach : Reach) (old now : Driver) → HearsOn here reach old now → reach ≡ Itself → StaysBut here old now
+pub others_stay : (here : ℕ) (reach : Reach) (old now : Driver) → HearsOn here reach old now → reach ≡ Itself → StaysBut (WorksAlone old) here old now
 others_stay here reach old now h e = h.heard.others (ap reaches_all e) (h.learns e)
 
-pub hears_none : (here : ℕ) (driver : Driver) → IsKept driver → NoneWaits driver.desk → IsOffered here driver → HearsOn here Nobody driver driver
+pub hears_none : (here : ℕ) (driver : Driver) → IsKept driver → (WorksAlone driver → NoneWaits driver.desk) → IsOffered here driver → HearsOn here Nobody driver driver
 hears_none here driver kept none offered = record {
   heard = heard_none here false driver kept none offered;
-  footing = refl;
   nobody = λ e. refl;
   learns = λ e. absurd (cc);
 }
 
-module _ (here : ℕ) (reach : Reach) (old mid new : Driver) (h : HearsOn here reach old mid) (footing : new.desk.footing ≡ mid.desk.footing) where
+module _ (here : ℕ) (reach : Reach) (old mid new : Driver) (h : HearsOn here reach old mid) where
   -- nothing could be heard
   pub hears_nothing : Passed here mid new Nothing → HearsOn here reach old new
   hears_nothing p = record {
     heard = heard_then here (reaches_all reach) false (reaches_all reach) old mid new (λ e. (e, refl)) h.heard p.0;
-    footing = footing ∙ h.footing;
     nobody = λ e. p.1.1 ∙ h.nobody e;
     learns = h.learns;
   }
@@ -111,7 +111,6 @@ module _ (here : ℕ) (reach : Reach) (old mid new : Driver) (h : HearsOn here r
       → HearsOn here next old new
   hears_on came next some itself p = record {
     heard = heard_then here (reaches_all reach) (is_state came) (reaches_all next) old mid new (none_made reach next (is_state came) some (λ e. ((itself e).1, (itself e).2))) h.heard p.0;
-    footing = footing ∙ h.footing;
     nobody = λ e. absurd (some e);
     learns = λ e. (itself e).0;
   }

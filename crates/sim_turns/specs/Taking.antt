@@ -1,18 +1,14 @@
 -- Words for private contracts: a turn of a device among the others, some turns one after the other.
-use Rattle.std.specs.Prelude.{◌≡◌, ◌≢◌, ℕ, ◌+◌, ◌<◌, false, if◌then◌else◌, List, [], ◌∷◌, ◌++◌, set, Some}
+use Rattle.std.specs.Prelude.{◌≡◌, ◌≢◌, ℕ, ◌+◌, ◌<◌, if◌then◌else◌, List, [], ◌∷◌, ◌++◌, set, Some}
 use Rattle.std.specs.List.{slice_get, AllByRecursion}
 use Rattle.maple_base.specs.declared.device.Turned.{Turned}
 use Rattle.maple_base.specs.declared.device.Turned.TheVariants.{Processed, Refused as RefusedChange, Failed as FailedTurn, NoMemory as NoMemoryTurn}
 use Rattle.device_port.specs.Devices.{Meaning, Turns}
-use Rattle.machine_steps.specs.declared.entry.Entry.TheVariants as entries
-use Rattle.machine_steps.specs.declared.note.Note.TheVariants as notes
-use Rattle.machine_steps.specs.declared.reply.Reply.{Reply}
-use Rattle.world_steps.specs.Worlds.{lacks_memory}
 use Rattle.sim_steps.specs.Benches.{Bench}
 use Rattle.sim_steps.specs.Deeds.{Event}
 use Rattle.sim_steps.specs.Parts.{IsTurnAt, has_dealt, turns_taken}
 use Rattle.sim_steps.specs.Stretches.{Stretch}
-use Rattle.sim_channels.specs.Channels.{EntersAlone, Fits, bench, is_plugged_in}
+use Rattle.sim_channels.specs.Channels.{Fits, bench, is_plugged_in}
 use Rattle.sim_channels.specs.declared.channel.Channel.{Channel}
 use Rattle.sim_channels.specs.declared.driver.Driver.{Driver}
 use Rattle.sim_turns.specs.Turning.{TakesOne}
@@ -51,13 +47,6 @@ IsTaken (Processed xid) = Unit {0}
 IsTaken (RefusedChange xid) = Unit {0}
 IsTaken FailedTurn = Unit {0}
 IsTaken turned = ⊥
-
--- the machine is told of the turn of the device with this index
-pub record NotesTurn (at : ℕ) (turned : Turned) (old new : Driver) : Type 0 where
-  pub reply : Reply
-  pub memory : lacks_memory reply ≡ false
-  pub same : new ≡ record old { desk = new.desk }
-  pub enters : EntersAlone (entries.Note (notes.Turned (at + 1) turned)) reply old.desk new.desk
 
 -- the device with this index takes a turn, and what that brings about is done
 abbrev pub TakesOneBy : ℕ → Turned → Driver → List Meaning → Driver → List Meaning → Type 0

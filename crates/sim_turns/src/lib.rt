@@ -1,13 +1,13 @@
-//! Turns of devices, what they bring about at once, and entries of the machine that a script asks for.
+//! Turns of devices, what they bring about at once, and what is told of them.
 #![tactic(auto)]
 
-mod asking;
 pub mod attend;
 mod hear;
+mod noting;
 mod settling;
 mod telling;
 mod turning;
 
-pub use asking::{ask, note};
+pub use noting::note;
 pub use settling::settle;
 pub use turning::turn;

@@ -1,12 +1,11 @@
 // What a turn of a device did is told.
-ghost use Rattle.std.specs.Prelude.{◌≡◌, ◌+◌, ◌^◌, ◌<◌, OnOk};
-ghost use Rattle.sim_channels.specs.Channels.{IsAlone, IsKept};
+ghost use Rattle.std.specs.Prelude.{OnOk};
+ghost use Rattle.sim_channels.specs.Channels.{IsKept, IsSame};
 ghost use Rattle.sim_channels.specs.Waiting.{IsAtRest, IsAtRestBut};
 ghost use Rattle.sim_channels.specs.Turns.{Waits};
-ghost use Rattle.sim_turns.specs.Taking.{IsTaken, NotesTurn, Tires, ToldOver};
+ghost use Rattle.sim_turns.specs.Taking.{IsTaken, Tires, ToldOver};
 
-use crate::asking::ask;
-use core_machine::{Entry, Note};
+use core_machine::Note;
 use maple_base::Turned;
 use sim_channels::{Driver, Stopped, connection_of, driving_laws};
 use std::sync::Wait;
@@ -31,10 +30,11 @@ pub(crate) fn tell_turn<R: Wait>(
     ensures rest { OnOk result (IsAtRestBut at driver.new) }
     ensures told { OnOk result (ToldOver at turned bytes.now driver.old driver.new) }
     ensures tires { OnOk result (Tires turned driver.old driver.new) }
-    ensures footing { driver.new.desk.footing ≡ driver.old.desk.footing }
+    ensures same { IsSame driver.old driver.new }
 {
     driving_laws();
-    tell(rt, driver, at, turned)?;
+    let device = connection_of(at);
+    driver.note(rt, Note::Turned { device, turned })?;
     match turned {
         Turned::Failed => {
             driver.leave(rt, at)?;
@@ -42,21 +42,4 @@ pub(crate) fn tell_turn<R: Wait>(
         }
         _ => Ok(driver.append(at, bytes)?),
     }
-}
-
-/// The machine is told what a turn of the device with this index did.
-///
-/// # Errors
-///
-/// `Stopped`.
-fn tell<R: Wait>(rt: &R, driver: &mut Driver<'_>, at: usize, turned: Turned) -> Result<(), Stopped>
-    requires alone { IsAlone driver.old }
-    requires rest { IsAtRest driver.old }
-    requires number { at + 1 < 2 ^ 32 }
-    ensures notes { OnOk result (NotesTurn at turned driver.old driver.new) }
-    ensures footing { driver.new.desk.footing ≡ driver.old.desk.footing }
-{
-    let device = connection_of(at);
-    ask(rt, driver, Entry::Note(Note::Turned { device, turned }))?;
-    Ok(())
 }

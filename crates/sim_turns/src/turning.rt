@@ -4,17 +4,18 @@ ghost use Rattle.script_text.specs.Orders.Order.{Turn};
 ghost use Rattle.script_text.specs.Steps.{IsAmong};
 ghost use Rattle.sim_steps.specs.Parts.{has_dealt};
 ghost use Rattle.sim_steps.specs.Stretches.{Obeyed};
-ghost use Rattle.sim_channels.specs.Channels.{Fits, bench};
+ghost use Rattle.sim_channels.specs.Channels.{Fits, IsSame, bench};
 ghost use Rattle.sim_channels.specs.Waiting.{IsAtRest, IsAtRestBut};
 ghost use Rattle.sim_channels.specs.Turns.{Waits};
 ghost use Rattle.sim_turns.specs.Taking.{IsTold, TakesOneBy, TakesTurnAt, TakesTurnsBy, Tires};
 
-use crate::asking::note;
 use crate::attend::attend;
+use crate::noting::note;
 use crate::telling::tell_turn;
 use core_machine::Note;
 use device_port::Device;
 use maple_base::{NoMemory, Turned};
+use packet_workers::Gate;
 use sim_channels::{Driver, Stopped, driving_laws};
 use std::sync::Wait;
 
@@ -24,8 +25,9 @@ use std::sync::Wait;
 /// # Errors
 ///
 /// `Stopped`.
-pub(crate) fn take_turn<R: Wait, D: Device>(
+pub(crate) fn take_turn<R: Wait, G: Gate, D: Device>(
     rt: &R,
+    gate: &G,
     driver: &mut Driver<'_>,
     devices: &mut [D],
     at: usize,
@@ -37,11 +39,11 @@ pub(crate) fn take_turn<R: Wait, D: Device>(
     ensures rest { OnOk result (IsAtRest driver.new) }
     ensures taken { IfOk result (λ turned. TakesOneBy at turned driver.old (map D.meaning devices.old) driver.new (map D.meaning devices.new)) }
     ensures tires { IfOk result (λ turned. Tires turned driver.old driver.new) }
-    ensures footing { driver.new.desk.footing ≡ driver.old.desk.footing }
+    ensures same { IsSame driver.old driver.new }
 {
     driving_laws();
     let turned = turn_told(rt, driver, devices, at)?;
-    attend(rt, driver, devices, at)?;
+    attend(rt, gate, driver, devices, at)?;
     Ok(turned)
 }
 
@@ -63,7 +65,7 @@ fn turn_told<R: Wait, D: Device>(
     ensures told { IfOk result (λ turned. IsTold at turned driver.old driver.new (map D.meaning devices.old) (map D.meaning devices.new)) }
     ensures rest { OnOk result (IsAtRestBut at driver.new) }
     ensures tires { IfOk result (λ turned. Tires turned driver.old driver.new) }
-    ensures footing { driver.new.desk.footing ≡ driver.old.desk.footing }
+    ensures same { IsSame driver.old driver.new }
 {
     let mut bytes = Vec::new(driver.alloc());
     let turned = turn_at(devices, at, &mut bytes)?;
@@ -103,8 +105,9 @@ pub(crate) fn dealt(turned: Turned) -> u32
 /// # Errors
 ///
 /// `Stopped`.
-pub fn turn<R: Wait, D: Device>(
+pub fn turn<R: Wait, G: Gate, D: Device>(
     rt: &R,
+    gate: &G,
     driver: &mut Driver<'_>,
     devices: &mut [D],
     place: u32,
@@ -116,13 +119,13 @@ pub fn turn<R: Wait, D: Device>(
     ensures fits { OnOk result (Fits driver.new (map D.meaning devices.new)) }
     ensures rest { OnOk result (IsAtRest driver.new) }
     ensures obeyed { OnOk result (Obeyed (Turn place count) (bench driver.old (map D.meaning devices.old)) (bench driver.new (map D.meaning devices.new))) }
-    ensures footing { driver.new.desk.footing ≡ driver.old.desk.footing }
+    ensures same { IsSame driver.old driver.new }
 {
     let at = place as usize - 1;
     if !driver.is_plugged_at(at) {
         return note(rt, driver, Note::Absent(place));
     }
-    let turns = take_turns(rt, driver, devices, at, count)?;
+    let turns = take_turns(rt, gate, driver, devices, at, count)?;
     note(
         rt,
         driver,
@@ -139,8 +142,9 @@ pub fn turn<R: Wait, D: Device>(
 /// # Errors
 ///
 /// `Stopped`.
-fn take_turns<R: Wait, D: Device>(
+fn take_turns<R: Wait, G: Gate, D: Device>(
     rt: &R,
+    gate: &G,
     driver: &mut Driver<'_>,
     devices: &mut [D],
     at: usize,
@@ -154,11 +158,11 @@ fn take_turns<R: Wait, D: Device>(
     ensures taken { IfOk result (λ taken. TakesTurnsBy at taken driver.old (map D.meaning devices.old) driver.new (map D.meaning devices.new)) }
     ensures most { IfOk result (λ taken. taken ≤ most) }
     ensures fewer { IfOk result (λ taken. taken < most → Waits at driver.new → ⊥) }
-    ensures footing { driver.new.desk.footing ≡ driver.old.desk.footing }
+    ensures same { IsSame driver.old driver.new }
 {
     let mut taken = 0;
     while taken < most && driver.is_waiting_at(at) {
-        taken += dealt(take_turn(rt, driver, devices, at)?);
+        taken += dealt(take_turn(rt, gate, driver, devices, at)?);
     }
     Ok(taken)
 }

@@ -14,5 +14,5 @@ returns-in-Err-clause-ends g c =
     let pass = c.end-pass-in-Err.result.now in
     let start = c.args.opening.start.value in
     let P : DeskView → Type 0 = λ d. turns_of d.footing.start (seen pass) ≡ d.past in
-    let past = subst P (c.in-Err.ensures.back ∙ c.new.ensures) c.end-pass-in-Err.ensures.past in
+    let past = subst P (c.in-Err.ensures.back.0 ∙ c.new.ensures) c.end-pass-in-Err.ensures.past in
     never_begun given told devices (number pass) (turns_of start (seen pass)) (past ∙ ap (turns_of start) c.requires.opened.ahead.nothing) (g.O.Sink.tells c.args.to.now)

@@ -1,12 +1,14 @@
-use Rattle.std.proofs.Common.{◌≡◌, ℕ, List, [], length, map, arith, refl, sym, ap, ◌∙◌, subst, rules}
+use Rattle.std.proofs.Common.{◌≡◌, ℕ, true, List, [], length, map, arith, refl, sym, ap, ◌∙◌, subst, rules}
 use Rattle.std.proofs.lemmas.List.{length-map, nil_from_length}
 use Rattle.script_text.specs.Lines.{ended_lines}
-use Rattle.script_text.specs.Orders.{orders_of, refused_from}
+use Rattle.script_text.specs.Orders.{orders_of}
 use Rattle.script_text.specs.Steps.{order_with}
 use Rattle.sim_steps.specs.Benches.{Bench}
+use Rattle.sim_channels.proofs.Others.{crew_then, same_crew}
 use Rattle.sim_driver.specs.declared.drive.SimEnd.{SimEnd}
 use Rattle.sim_driver.specs.Passes.{EndsAt, given_at}
-use Rattle.sim_driver.proofs.Going.{Known, broken_off, first_refused, followed, marked_hall, none_refused, stopped, went_further, went_none}
+use Rattle.sim_driver.proofs.Going.{Known, broken_off, followed, is_whole, marked_hall, stopped_behind, stopped_in, went_further, went_none}
+use Rattle.sim_driver.proofs.drive.run_lines.Goals.{then-is_empty, else-is_empty+in-Err-End, else-is_empty+in-Err-Refused}
 use Rattle.sim_driver.proofs.drive.run_lines.Goals as goal
 
 pub overflow_cast-places : goal.overflow_cast-places
@@ -20,6 +22,7 @@ loop-rest-init g c =
     let known : Known given = record { laws = c.deed_laws.ensures; ranges = c.requires.opened.ranges; idle = c.requires.opened.idle } in
     record {
       ready = c.requires.opened.ready;
+      crew = same_crew c.args.driver.now.crew;
       same = record { place = refl; name = refl; start = refl; parts = refl };
       went =
           went_none given (length c.args.devices.now) (g.O.Sink.tells c.args.to.now) c.args.driver.now devices known (length-map c.args.devices.now g.D.Device.meaning) c.requires.opened.opening;
@@ -41,35 +44,15 @@ loop-rest-preserved g c = record {
   ready = c.in-Ok-follow.ensures.ready;
   went =
       went_further (g.O.Sink.tells c.follow.new.to) c.follow.new.driver (map g.D.Device.meaning c.follow.new.all) (order_with c.in-Ok.next.step c.in-Ok.next.text.now) c.in-Ok.next.passed
-      (ended_lines c.in-Ok.next.rest.now) c.loop-rest.invariant.went c.in-Ok.ensures.order c.in-Ok-follow.ensures.follows c.in-Ok-follow.ensures.ready.none_waits;
+      (ended_lines c.in-Ok.next.rest.now) c.loop-rest.invariant.went c.in-Ok.ensures.order c.in-Ok-follow.ensures.follows c.in-Ok-follow.ensures.ready;
+  crew = crew_then c.args.driver.now.crew c.loop-rest.driver.crew c.follow.new.driver.crew c.loop-rest.invariant.crew c.follow.ensures.crew;
   same = marked_hall c.args.driver.now.desk.footing c.loop-rest.driver.desk c.follow.new.driver.desk c.loop-rest.invariant.same c.follow.ensures.marked;
   spared = c.in-Ok-follow.ensures.spared (λ e. cc) ∙ c.loop-rest.invariant.spared;
   numbers = omega (arith, c.loop-rest.invariant.numbers, c.in-Ok.ensures.within);
 }
 
-pub returns-in-Err-End-clause-ends : goal.returns-in-Err-End-clause-ends
-returns-in-Err-End-clause-ends g c =
-    let stop = rw c.in-Err-End.field-0-is at c.in-Err-End.ensures.stop in
-    followed c.loop-rest.invariant.went stop.orders c.loop-rest.invariant.ready.fits
-
-pub returns-in-Err-End-clause-done : goal.returns-in-Err-End-clause-done
-returns-in-Err-End-clause-done g c =
-    λ e. none_refused c.loop-rest.invariant.went ((rw c.in-Err-End.field-0-is at c.in-Err-End.ensures.stop).refused_is c.loop-rest.line)
-
-pub returns-in-Err-End-clause-spared : goal.returns-in-Err-End-clause-spared
-returns-in-Err-End-clause-spared g c = λ n. c.loop-rest.invariant.spared
-
-pub returns-in-Err-Refused-clause-ends : goal.returns-in-Err-Refused-clause-ends
-returns-in-Err-Refused-clause-ends g c =
-    let stop = rw c.in-Err-Refused.field-0-is at c.in-Err-Refused.ensures.stop in
-    followed c.loop-rest.invariant.went stop.orders c.loop-rest.invariant.ready.fits
-
-pub returns-in-Err-Refused-clause-script : goal.returns-in-Err-Refused-clause-script
-returns-in-Err-Refused-clause-script g c =
-    first_refused c.loop-rest.invariant.went (c.in-Err-Refused.kind-is) (rw c.in-Err-Refused.field-0-is at c.in-Err-Refused.ensures.stop)
-
-pub returns-in-Err-Refused-clause-spared : goal.returns-in-Err-Refused-clause-spared
-returns-in-Err-Refused-clause-spared g c = λ n. c.loop-rest.invariant.spared
+pub returns-in-Err-NoMemory-clause-crew : goal.returns-in-Err-NoMemory-clause-crew
+returns-in-Err-NoMemory-clause-crew g c = c.loop-rest.invariant.crew
 
 pub returns-in-Err-NoMemory-clause-ends : goal.returns-in-Err-NoMemory-clause-ends
 returns-in-Err-NoMemory-clause-ends g c = broken_off c.loop-rest.invariant.went
@@ -77,18 +60,8 @@ returns-in-Err-NoMemory-clause-ends g c = broken_off c.loop-rest.invariant.went
 pub returns-in-Err-NoMemory-clause-spared : goal.returns-in-Err-NoMemory-clause-spared
 returns-in-Err-NoMemory-clause-spared g c = λ n. c.loop-rest.invariant.spared
 
-pub returns-clause-ends : goal.returns-clause-ends
-returns-clause-ends g c =
-    let ended : c.loop-rest.rest.now ≡ [] = nil_from_length c.loop-rest.rest.now (search rules) in
-    followed c.loop-rest.invariant.went (ap (λ (text : List ℕ). orders_of (length c.args.devices.now) (ended_lines text)) ended) c.loop-rest.invariant.ready.fits
-
-pub returns-clause-done : goal.returns-clause-done
-returns-clause-done g c =
-    let ended : c.loop-rest.rest.now ≡ [] = nil_from_length c.loop-rest.rest.now (search rules) in
-    λ e. none_refused c.loop-rest.invariant.went (ap (λ (text : List ℕ). refused_from (length c.args.devices.now) c.loop-rest.line (ended_lines text)) ended)
-
-pub returns-clause-spared : goal.returns-clause-spared
-returns-clause-spared g c = λ n. c.loop-rest.invariant.spared
+pub returns-in-Err-clause-crew : goal.returns-in-Err-clause-crew
+returns-in-Err-clause-crew g c = crew_then c.args.driver.now.crew c.loop-rest.driver.crew c.follow.new.driver.crew c.loop-rest.invariant.crew c.follow.ensures.crew
 
 pub returns-in-Err-clause-ends : goal.returns-in-Err-clause-ends
 returns-in-Err-clause-ends g c =
@@ -97,5 +70,48 @@ returns-in-Err-clause-ends g c =
     let to = g.O.Sink.tells c.follow.new.to in
     let start = c.loop-rest.invariant.same.start ∙ c.requires.opened.start ∙ ap (λ (b : Bench). b.machine) c.requires.opened.opening in
     subst (λ (end : SimEnd). EndsAt end given c.follow.new.driver.desk after (g.O.Sink.tells c.args.to.now) to) (sym c.end_of.ensures) (
-    stopped c.loop-rest.invariant.went c.follow.new.driver c.law.ensures c.follow.ensures.marked start to after c.in-Ok.next.step c.in-Ok.next.text.now c.in-Ok.next.passed
+    stopped_in c.loop-rest.invariant.went c.follow.new.driver c.law.ensures c.follow.ensures.marked start to after c.in-Ok.next.step c.in-Ok.next.text.now c.in-Ok.next.passed
     (ended_lines c.in-Ok.next.rest.now) c.in-Err.stop (rw c.in-Err.is at c.follow.ensures.follows) c.in-Ok.ensures.order)
+
+pub returns-in-Ok-finish-clause-crew : goal.returns-in-Ok-finish-clause-crew
+returns-in-Ok-finish-clause-crew g c = crew_then c.args.driver.now.crew c.loop-rest.driver.crew c.finish.new.driver.crew c.loop-rest.invariant.crew c.finish.ensures.crew
+
+pub returns-in-Ok-finish-clause-ends : goal.returns-in-Ok-finish-clause-ends
+returns-in-Ok-finish-clause-ends g c =
+    let none : orders_of (length c.args.devices.now) (ended_lines c.loop-rest.rest.now) ≡ [] =
+    elim c.if-is_empty.branch [
+      | then-is_empty w ↦
+          (let ended : c.loop-rest.rest.now ≡ [] = nil_from_length c.loop-rest.rest.now (search rules) in
+          ap (λ (text : List ℕ). orders_of (length c.args.devices.now) (ended_lines text)) ended)
+      | else-is_empty+in-Err-End w ↦ (rw w.in-Err-End.field-0-is at w.in-Err-End.ensures.stop).orders
+      | else-is_empty+in-Err-Refused w ↦ (rw w.in-Err-Refused.field-0-is at w.in-Err-Refused.ensures.stop).orders
+    ] in
+    let is : is_whole c.if-is_empty.end ≡ true =
+    elim c.if-is_empty.branch [
+      | then-is_empty w ↦ ap is_whole w.end-is
+      | else-is_empty+in-Err-End w ↦ ap is_whole w.end-is
+      | else-is_empty+in-Err-Refused w ↦ ap is_whole w.end-is
+    ] in
+    followed c.loop-rest.invariant.went c.finish.new.driver (map g.D.Device.meaning c.finish.new.all) (g.O.Sink.tells c.finish.new.to) c.in-Ok-finish.ensures.ready c.in-Ok-finish.ensures.finished
+    none c.if-is_empty.end is
+
+pub returns-in-Err-finish-clause-crew : goal.returns-in-Err-finish-clause-crew
+returns-in-Err-finish-clause-crew g c = crew_then c.args.driver.now.crew c.loop-rest.driver.crew c.finish.new.driver.crew c.loop-rest.invariant.crew c.finish.ensures.crew
+
+pub returns-in-Err-finish-clause-ends : goal.returns-in-Err-finish-clause-ends
+returns-in-Err-finish-clause-ends g c =
+    let none : orders_of (length c.args.devices.now) (ended_lines c.loop-rest.rest.now) ≡ [] =
+    elim c.if-is_empty.branch [
+      | then-is_empty w ↦
+          (let ended : c.loop-rest.rest.now ≡ [] = nil_from_length c.loop-rest.rest.now (search rules) in
+          ap (λ (text : List ℕ). orders_of (length c.args.devices.now) (ended_lines text)) ended)
+      | else-is_empty+in-Err-End w ↦ (rw w.in-Err-End.field-0-is at w.in-Err-End.ensures.stop).orders
+      | else-is_empty+in-Err-Refused w ↦ (rw w.in-Err-Refused.field-0-is at w.in-Err-Refused.ensures.stop).orders
+    ] in
+    let given = given_at c.args.driver.now.desk (map g.D.Device.meaning c.args.devices.now) c.args.script.now c.args.first in
+    let after = map g.D.Device.meaning c.finish.new.all in
+    let to = g.O.Sink.tells c.finish.new.to in
+    let start = c.loop-rest.invariant.same.start ∙ c.requires.opened.start ∙ ap (λ (b : Bench). b.machine) c.requires.opened.opening in
+    subst (λ (end : SimEnd). EndsAt end given c.finish.new.driver.desk after (g.O.Sink.tells c.args.to.now) to) (sym c.end_of-in-Err-finish.ensures) (
+    stopped_behind c.loop-rest.invariant.went c.finish.new.driver c.law-in-Err-finish.ensures c.finish.ensures.marked start to after c.in-Err-finish.stop none
+    (rw c.in-Err-finish.is at c.finish.ensures.finished))

@@ -17,7 +17,7 @@ obey-requires-clause-rest g c = subst IsAtRest (sym {b = marked c.args.driver.no
 
 pub returns-clause-ready : goal.returns-clause-ready
 returns-clause-ready g c =
-    ready_by c.obey.new.driver c.write_report.new.self (map g.D.Device.meaning c.obey.new.devices) c.write_report.ensures.rest c.in-Ok.ensures.fits c.in-Ok.ensures.rest c.write_report.result
+    ready_by c.driving_laws.ensures c.obey.new.driver c.write_report.new.self (map g.D.Device.meaning c.obey.new.devices) c.write_report.ensures.rest c.in-Ok.ensures.fits c.in-Ok.ensures.rest c.write_report.result
     (g.O.Sink.tells c.args.to.now) (g.O.Sink.tells c.write_report.new.out) c.write_report.ensures.reports
 
 pub returns-clause-follows : goal.returns-clause-follows
@@ -26,5 +26,5 @@ returns-clause-follows g c =
     let before = map g.D.Device.meaning c.args.all.now in
     let after = map g.D.Device.meaning c.obey.new.devices in
     let P : Driver → Type 0 = λ d. Obeyed order (bench d before) (bench c.obey.new.driver after) in
-    follows_by c.obey.new.driver c.write_report.new.self after c.write_report.ensures.rest c.in-Ok.ensures.fits c.in-Ok.ensures.rest c.write_report.result c.args.step c.args.text.now
+    follows_by c.driving_laws.ensures c.obey.new.driver c.write_report.new.self after c.write_report.ensures.rest c.in-Ok.ensures.fits c.in-Ok.ensures.rest c.write_report.result c.args.step c.args.text.now
     (bench c.args.driver.now before) (g.O.Sink.tells c.args.to.now) (g.O.Sink.tells c.write_report.new.out) (subst P c.mark.ensures c.in-Ok.ensures.obeyed) c.write_report.ensures.reports

@@ -1,6 +1,6 @@
 use Rattle.std.proofs.Common.{refl, sym, subst, ◌∙◌}
 use Rattle.sim_channels.specs.Passes.{Passed}
-use Rattle.sim_channels.specs.declared.hear.Came.TheVariants.{Ended, Message, Nothing}
+use Rattle.sim_channels.specs.declared.hear.Came.TheVariants.{Ended, Message}
 use Rattle.sim_turns.proofs.Onward.{hears_none, hears_nothing, hears_on, hears_state, others_stay}
 use Rattle.sim_turns.proofs.hear.hear_all.Goals as goal
 
@@ -15,7 +15,7 @@ returns-in-Nothing g c =
     let new = c.hear_next.new.self in
     let reach = c.loop-reach.reach in
     let passed = subst (Passed here mid new) c.in-Nothing.is c.in_ok-hear_next.ensures.passed in
-    let h = hears_nothing here reach old mid new c.loop-reach.invariant c.in_ok-hear_next.ensures.footing passed in
+    let h = hears_nothing here reach old mid new c.loop-reach.invariant passed in
     record {
       kept = h.heard.kept;
       carried = h.heard.carried;
@@ -25,7 +25,7 @@ returns-in-Nothing g c =
       channels = h.heard.channels;
       nobody = λ e. h.nobody (cc);
       itself = λ e. others_stay here reach old new h (cc);
-      footing = h.footing;
+      same = h.heard.same;
     }
 
 pub returns-in-Ended : goal.returns-in-Ended
@@ -38,7 +38,7 @@ returns-in-Ended g c =
     let next = c.further.result in
     let learns = c.learning-learning.ensures in
     let passed = subst (Passed here mid new) c.in-Ended.is c.in_ok-hear_next.ensures.passed in
-    let h = hears_on here reach old mid new c.loop-reach.invariant c.in_ok-hear_next.ensures.footing Ended next c.further.ensures.some
+    let h = hears_on here reach old mid new c.loop-reach.invariant Ended next c.further.ensures.some
     (λ e. (let by = c.further.ensures.itself e in (sym learns ∙ by.0, by.1, refl))) passed in
     record {
       kept = h.heard.kept;
@@ -49,14 +49,14 @@ returns-in-Ended g c =
       channels = h.heard.channels;
       nobody = λ e. absurd (c.further.ensures.some (cc));
       itself = λ e. others_stay here next old new h (cc);
-      footing = h.footing;
+      same = h.heard.same;
     }
 
 pub loop-reach-preserved-in-Message : goal.loop-reach-preserved-in-Message
 loop-reach-preserved-in-Message g c =
     let mid = c.loop-reach.driver in
     let new = c.hear_next.new.self in
-    hears_on c.args.at c.loop-reach.reach c.args.driver.now mid new c.loop-reach.invariant c.in_ok-hear_next.ensures.footing Message c.further-reach.result c.further-reach.ensures.some
+    hears_on c.args.at c.loop-reach.reach c.args.driver.now mid new c.loop-reach.invariant Message c.further-reach.result c.further-reach.ensures.some
     (λ e. (let by = c.further-reach.ensures.itself e in (sym c.learning-learning.ensures ∙ by.0, by.1, refl)))
     (subst (Passed c.args.at mid new) c.in-Message.is c.in_ok-hear_next.ensures.passed)
 
@@ -64,5 +64,5 @@ pub loop-reach-preserved : goal.loop-reach-preserved
 loop-reach-preserved g c =
     let mid = c.loop-reach.driver in
     let new = c.hear_next.new.self in
-    hears_state c.args.at c.loop-reach.reach c.args.driver.now mid new c.loop-reach.invariant c.in_ok-hear_next.ensures.footing
+    hears_state c.args.at c.loop-reach.reach c.args.driver.now mid new c.loop-reach.invariant
     (subst (Passed c.args.at mid new) c.in-State.is c.in_ok-hear_next.ensures.passed)

@@ -1,6 +1,7 @@
-use Rattle.std.proofs.Common.{◌+◌, ℕ, map, sym, ◌∙◌, subst, arith}
+use Rattle.std.proofs.Common.{◌+◌, ℕ, map, sym, subst, arith}
 use Rattle.sim_steps.specs.Parts.{IsTurnAt}
 use Rattle.sim_channels.specs.Channels.{bench}
+use Rattle.sim_channels.proofs.Others.{same_then}
 use Rattle.sim_turns.specs.Taking.{TakesSome}
 use Rattle.sim_turns.proofs.Obeyed.{takes_more, turn_at_place}
 use Rattle.sim_turns.proofs.turning.take_turns.Goals as goal
@@ -17,7 +18,7 @@ loop-taken-preserved g c =
     record {
       fits = h.fits;
       rest = h.rest;
-      footing = h.footing ∙ c.loop-taken.invariant.footing;
+      same = same_then c.args.driver.now c.loop-taken.driver c.take_turn.new.driver c.loop-taken.invariant.same c.take_turn.ensures.same;
       some = subst (λ (n : ℕ). TakesSome (IsTurnAt place) (c.loop-taken.taken + n) a d) (sym c.dealt.ensures.dealt)
           (takes_more (IsTurnAt place) c.loop-taken.taken a b d place turned c.loop-taken.invariant.some h.taken (turn_at_place place turned b d h.taken));
       most = omega arith;

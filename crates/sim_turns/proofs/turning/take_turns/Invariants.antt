@@ -1,6 +1,6 @@
-use Rattle.std.proofs.Common.{◌≡◌, ◌+◌, ◌-◌, ◌≤◌, map}
+use Rattle.std.proofs.Common.{◌+◌, ◌-◌, ◌≤◌, map}
 use Rattle.sim_steps.specs.Parts.{IsTurnAt}
-use Rattle.sim_channels.specs.Channels.{Fits, bench}
+use Rattle.sim_channels.specs.Channels.{Fits, IsSame, bench}
 use Rattle.sim_channels.specs.Waiting.{IsAtRest}
 use Rattle.sim_turns.specs.Taking.{TakesSome, plugged_count}
 use Rattle.sim_turns.proofs.turning.take_turns.Given as goal
@@ -9,7 +9,7 @@ abbrev pub invariant-loop-taken : goal.invariant-loop-taken
 invariant-loop-taken g l = record {
   fits : Fits l.driver (map g.D.Device.meaning l.devices);
   rest : IsAtRest l.driver;
-  footing : l.driver.desk.footing ≡ l.fn.driver.desk.footing;
+  same : IsSame l.fn.driver l.driver;
   some : TakesSome (IsTurnAt (l.at + 1)) l.taken (bench l.fn.driver (map g.D.Device.meaning l.fn.devices)) (bench l.driver (map g.D.Device.meaning l.devices));
   most : l.taken ≤ l.most;
 }

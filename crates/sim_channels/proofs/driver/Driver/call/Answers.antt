@@ -1,7 +1,9 @@
-use Rattle.std.proofs.Common.{ap, ◌∙◌, arith}
+use Rattle.std.proofs.Common.{sym, ap, ◌∙◌, subst, arith}
 use Rattle.std.proofs.lemmas.List.{length-map}
 use Rattle.sim_channels.specs.declared.driver.Driver.{Driver}
+use Rattle.sim_channels.specs.Channels.{SameCrew}
 use Rattle.sim_channels.proofs.Looking.{is_called}
+use Rattle.sim_channels.proofs.Others.{same_crew}
 use Rattle.sim_channels.proofs.driver.Driver.call.Goals as goal
 
 pub connection_of-device-requires : goal.connection_of-device-requires
@@ -15,8 +17,10 @@ connection_of-device-requires g c =
 pub returns-clause-called : goal.returns-clause-called
 returns-clause-called g c =
     let h = c.requires in
-    let told = c.in_ok-tell.ensures in
-    is_called g.D.Device.meaning c.driving_laws.ensures c.args.self.now c.tell.new.driver c.args.devices.now c.args.at c.args.port c.args.frame c.items.result.now c.in_ok-seen.seen
+    let told = c.note.ensures in
+    let old = c.args.self.now in
+    let new = c.note.new.self in
+    is_called g.D.Device.meaning c.driving_laws.ensures old new c.args.devices.now c.args.at c.args.port c.args.frame c.items.result.now c.in_ok-seen.seen
     c.connection_of-device.result c.index_mut.result.now c.look_up.new.channel c.index-devices-at.result c.look_up.new.device c.has_failed-failed.result h.fits h.rest h.plugged h.within
-    c.index_mut.ensures.value c.index-devices-at.is c.items.ensures c.in_ok-seen.ensures (ap (λ (x : Driver). x.channels.items) told.same) told.footing
-    c.connection_of-device.ensures told.enters c.has_failed-failed.ensures
+    c.index_mut.ensures.value c.index-devices-at.is c.items.ensures c.in_ok-seen.ensures (ap (λ (x : Driver). x.channels.items) told.rest)
+    (record { footing = told.footing; crew = subst (SameCrew old.crew) (sym (ap (λ (x : Driver). x.crew) told.rest)) (same_crew old.crew) }) c.connection_of-device.ensures c.in_ok-note.ensures.notes c.has_failed-failed.ensures

@@ -15,7 +15,6 @@ loop-self-preserved g c =
           (map g.D.Device.meaning c.offer_next.new.devices) c.loop-self.invariant.done c.in_ok-offer_next.ensures.done;
       plugged = on.plugged;
       can = on.can;
-      footing = c.in_ok-offer_next.ensures.footing ∙ c.loop-self.invariant.footing;
     }
 
 pub returns-clause-offered : goal.returns-clause-offered

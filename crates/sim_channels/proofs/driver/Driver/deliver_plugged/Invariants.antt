@@ -1,4 +1,4 @@
-use Rattle.std.proofs.Common.{◌≡◌, map}
+use Rattle.std.proofs.Common.{map}
 use Rattle.sim_channels.specs.Delivering.{CanOffer, Delivers, IsPluggedIn, offers_left}
 use Rattle.sim_channels.proofs.driver.Driver.deliver_plugged.Given as goal
 
@@ -7,7 +7,6 @@ invariant-loop-self g l = record {
   done : Delivers l.at l.fn.self (map g.D.Device.meaning l.fn.devices) l.self (map g.D.Device.meaning l.devices);
   plugged : IsPluggedIn l.at l.self;
   can : CanOffer l.at l.self;
-  footing : l.self.desk.footing ≡ l.fn.self.desk.footing;
 }
 
 abbrev pub decreases-loop-self : goal.decreases-loop-self

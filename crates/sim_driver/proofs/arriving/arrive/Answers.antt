@@ -1,0 +1,35 @@
+use Rattle.std.proofs.Common.{ap, ◌∙◌}
+use Rattle.machine_steps.specs.declared.note.Note.TheVariants as notes
+use Rattle.script_text.specs.Orders.Order.{Arrival}
+use Rattle.sim_steps.specs.Parts.{JustLooks}
+use Rattle.sim_channels.specs.Channels.{is_plugged_in}
+use Rattle.sim_driver.proofs.Calling.{obeyed_looked}
+use Rattle.sim_driver.proofs.Doing.{if_absent, obeyed_noted, of_ok, on_ok, others_closed, staged_there}
+use Rattle.sim_driver.proofs.arriving.arrive.Goals as goal
+
+pub returns-in_ok-look-in-Live-clause-obeyed : goal.returns-in_ok-look-in-Live-clause-obeyed
+returns-in_ok-look-in-Live-clause-obeyed g c =
+    let r = c.attend.result in
+    let done = c.attend.ensures in
+    let d = c.args.driver.now in
+    let h = c.requires in
+    let place = c.args.place in
+    let at = c.index_of-at.result in
+    let staged = staged_there d place at c.stage.result h.fits.kept c.index_of-at.ensures c.stage.ensures in
+    on_ok r (λ u e.
+    obeyed_looked d _ c.look.new.driver _ c.attend.new.driver _ place at c.args.port c.args.frame c.index_of-at.ensures (staged.plugged ∙ ap is_plugged_in c.in-Live.is)
+    c.in_ok-look-in-Live.ensures.looked (of_ok _ r u e done.carried) (of_ok _ r u e done.fits).kept (of_ok _ r u e done.rest))
+
+pub returns-in_default-clause-obeyed : goal.returns-in_default-clause-obeyed
+returns-in_default-clause-obeyed g c =
+    let r = c.note.result in
+    let d = c.args.driver.now in
+    let h = c.requires in
+    let place = c.args.place in
+    let port = c.args.port in
+    let frame = c.args.frame in
+    let staged = staged_there d place c.index_of-at.result c.stage.result h.fits.kept c.index_of-at.ensures c.stage.ensures in
+    on_ok r (λ u e.
+    obeyed_noted (Arrival place port frame) (notes.Absent place) d c.note.new.driver _
+    (λ es just. if_absent place d.desk.now (JustLooks place port frame es) (staged.plugged ∙ others_closed _ c.in_default.not-Live) es just) h.fits
+    (of_ok _ r u e c.note.ensures.told) (of_ok _ r u e c.note.ensures.kept) (of_ok _ r u e c.note.ensures.rest))

@@ -1,0 +1,21 @@
+use Rattle.std.proofs.Common.{false, refl}
+use Rattle.sim_driver.proofs.Sessions.{asked_closed, closed, rest_left}
+use Rattle.sim_driver.proofs.plugging.close.Goals as goal
+
+pub returns-clause-changes : goal.returns-clause-changes
+returns-clause-changes g c =
+    let h = c.requires in
+    let done = c.in_ok-close.ensures in
+    closed c.driving_laws.ensures c.args.driver.now c.close.new.self c.args.at h.kept done.same false h.live done.closes
+
+pub returns-clause-asked : goal.returns-clause-asked
+returns-clause-asked g c =
+    let h = c.requires in
+    let done = c.in_ok-close.ensures in
+    asked_closed c.driving_laws.ensures c.args.driver.now c.close.new.self c.args.at h.kept done.same false h.live done.closes refl h.rest
+
+pub returns-clause-rest : goal.returns-clause-rest
+returns-clause-rest g c =
+    let h = c.requires in
+    let done = c.in_ok-close.ensures in
+    rest_left c.driving_laws.ensures c.args.driver.now c.close.new.self c.args.at h.kept done.same false h.live done.closes h.rest

@@ -1,0 +1,25 @@
+use Rattle.sim_channels.proofs.Others.{same_desk}
+use Rattle.sim_turns.proofs.Entered.{asked_over}
+use Rattle.sim_turns.proofs.Noted.{told_fits, told_kept, told_rest}
+use Rattle.sim_turns.proofs.noting.note.Goals as goal
+use Rattle.std.proofs.Common.{refl}
+use Rattle.machine_steps.specs.declared.entry.Entry.TheVariants as entries
+use Rattle.machine_steps.specs.declared.reply.Reply.TheVariants.{Done}
+
+pub returns : goal.returns
+returns g c =
+    let laws = c.driving_laws.ensures in
+    let note = c.args.note in
+    let old = c.args.driver.now in
+    let new = c.note.new.self in
+    let h = c.requires in
+    let enters = c.in_ok-note.ensures.notes in
+    let rest = c.note.ensures.rest in
+    let footing = c.note.ensures.footing in
+    record {
+      kept = told_kept laws note old new h.kept enters rest footing;
+      fits = told_fits laws note old new h.kept enters rest footing;
+      rest = told_rest laws note old new h.kept enters rest footing h.rest;
+      told = λ devices fits. asked_over laws (entries.Note note) Done old new h.kept enters rest devices h.rest refl h.settled refl h.may;
+      same = same_desk old new rest footing;
+    }
