@@ -1,5 +1,5 @@
 -- The work on a packet at the desk.
-use Rattle.std.proofs.Common.{◌≡◌, ℕ, ◌^◌, ◌≤◌, Bool, true, false, List, [], ◌++◌, ap, append-nil, refl, subst, sym, ◌∙◌}
+use Rattle.std.proofs.Common.{◌≡◌, ◌≢◌, ℕ, ◌^◌, ◌≤◌, Bool, true, false, List, [], ◌++◌, ap, append-nil, refl, subst, sym, ◌∙◌}
 use Rattle.std.proofs.lemmas.List.{append_cancel_left}
 use denote.Enum.Bare.{sameb}
 use Rattle.atomic_table.specs.Seated.{TableId}
@@ -67,6 +67,10 @@ full_by how.Answered n h worn = absurd (cc)
 full_by how.Spent n h worn = absurd (cc)
 full_by how.NotOpen n h worn = absurd (cc)
 full_by how.NoMemory n h worn = absurd (cc)
+
+-- and whether memory sufficed
+pub not_lacking : (worked : Worked) → sameb the_type worked how.NoMemory ≡ false → worked ≢ how.NoMemory
+not_lacking worked enough lacks = let is : sameb the_type worked how.NoMemory ≡ true = ap (λ w. sameb the_type w how.NoMemory) lacks in cc
 
 wears_by : (worked : Worked) (a b : DeskView) → a.worn ≡ false → b.worn ≡ is_worn worked → IsWornBy worked b.number → WearsBy worked a b
 wears_by Worn a b well worn h = (worn, h)

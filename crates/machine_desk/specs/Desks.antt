@@ -1,11 +1,13 @@
 -- What who drives the machine knows of it, and what an entry at the desk does.
-use Rattle.std.specs.Prelude.{◌≡◌, ℕ, ◌^◌, ◌<◌, ◌≤◌, Bool, true, List, [], ◌∷◌, ◌++◌, length, map, Some, IsTrue}
+use Rattle.std.specs.Prelude.{◌≡◌, ◌≢◌, ℕ, ◌^◌, ◌<◌, ◌≤◌, Bool, true, false, List, [], ◌∷◌, ◌++◌, length, map, Some, IsTrue}
+use Rattle.std.specs.List.{AllByRecursion}
 use Rattle.atomic_table.specs.Seated.{TableId}
 use Rattle.history_lock.specs.declared.view.Known.{Known}
-use Rattle.history_lock.specs.Histories.{AreAllowed, Replays, StartsWith, state_behind}
+use Rattle.history_lock.specs.Histories.{AllAt, AreAllowed, Replays, StartsWith, state_behind}
 use Rattle.machine_steps.specs.declared.entry.Entry.{Entry}
 use Rattle.machine_steps.specs.declared.entry.Entry.TheVariants.{NewPolicy}
 use Rattle.machine_steps.specs.declared.reply.Reply.{Reply}
+use Rattle.machine_steps.specs.declared.reply.Reply.TheVariants.{NoMemory}
 use Rattle.machine_steps.specs.Histories.{IsTurn, Leads, Turn}
 use Rattle.machine_steps.specs.Machine.{State}
 use Rattle.machine_steps.specs.Sound.{IsSound}
@@ -57,9 +59,20 @@ pub record IsTold (learning : Bool) (budget : ℕ) (now : State) : Type 0 where
   pub learning_is : learning ≡ now.policy.learning
   pub budget_is : budget ≡ now.settings.budget
 
--- both, of what a pass knows, which has seen all that it had seen at the mark
-abbrev pub IsDriven : Known State Entry Reply → Known State Entry Reply → State → Bool → Bool → ℕ → Type 0
-IsDriven mark k start worn learning budget = IsDesk k start worn × IsTold learning budget (state_behind start k.seen) × StartsWith k.seen mark.seen
+-- memory sufficed for the calls at these positions of a history
+pub record HadMemory (seen : List Call) (own : List ℕ) : Type 0 where
+  pub calls : List Call
+  pub at : AllAt seen own calls
+  pub memory : AllByRecursion (λ (e : Call). e.reply ≢ NoMemory) calls
+
+-- memory didn't run out in a call of the pass's own, unless the desk has that so
+abbrev pub IsMemoryTold : Bool → Known State Entry Reply → Type 0
+IsMemoryTold lacked k = lacked ≡ false → HadMemory k.seen k.own
+
+-- all of it, of what a pass knows, which has seen all that it had seen at the mark
+abbrev pub IsDriven : Known State Entry Reply → Known State Entry Reply → State → Bool → Bool → Bool → ℕ → Type 0
+IsDriven mark k start worn lacked learning budget =
+    IsDesk k start worn × IsTold learning budget (state_behind start k.seen) × StartsWith k.seen mark.seen × IsMemoryTold lacked k
 
 -- the desk's machine is sound, and its turns are a legal history of the one that it was at first, which begins with those ahead of the mark
 pub record DeskLaw (d : DeskView) : Type 0 where

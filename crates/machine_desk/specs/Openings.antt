@@ -7,11 +7,12 @@ use Rattle.machine_steps.specs.Sound.{IsSound}
 use Rattle.packet_workers.specs.Adding.{PassView}
 use Rattle.machine_desk.specs.declared.opening.Opening.{Opening}
 
--- of a hall whose machine was sound, a pass that leads and has seen nothing of it yet
+-- of a hall whose machine was sound, a pass that leads, has seen nothing of it yet and made no call
 pub record IsAhead (k : PassView) (o : Opening) : Type 0 where
   pub leads : IsTrue k.leads
   pub opens : k.opening ≡ Some o.start.value
   pub nothing : k.seen ≡ []
+  pub none : k.own ≡ []
   pub sound : IsSound o.start.value
   pub learning : o.learning ≡ o.start.value.policy.learning
   pub budget : o.budget ≡ o.start.value.settings.budget

@@ -1,11 +1,11 @@
 // Who drives the machine, by the pass that leads.
-ghost use Rattle.std.specs.Prelude.{◌≡◌, false, if◌then◌else◌, IfOk, IsTrue, OnErr, OnOk, Some};
+ghost use Rattle.std.specs.Prelude.{◌≡◌, ◌≢◌, false, true, if◌then◌else◌, IfOk, IsTrue, OnErr, OnOk, Some};
 ghost use Rattle.history_lock.specs.Passes.{IsPassOf, hall as place_of, known, leads, number, opening, own, parts, seen};
 ghost use Rattle.machine_moves.specs.Told.{is_new_state};
 ghost use Rattle.machine_steps.specs.Admitting.{Admits};
 ghost use Rattle.machine_sharing.specs.Legal.{turns_of};
 ghost use Rattle.machine_desk.specs.Openings.{IsAhead};
-ghost use Rattle.machine_desk.specs.Desks.{DeskLaw, Enters, WearsOut, learning_behind, view_by};
+ghost use Rattle.machine_desk.specs.Desks.{DeskLaw, Enters, HadMemory, WearsOut, calls_of, learning_behind, view_by};
 ghost use Rattle.machine_desk.specs.Working.{Works};
 
 use crate::laws::desk_laws;
@@ -33,6 +33,7 @@ pub struct Desk<'h> {
     learning: bool,
     budget: u32,
     worn: bool,
+    lacked: bool,
 }
 
 impl<'h> Model for Desk<'h> {
@@ -49,7 +50,7 @@ impl<'h> Model for Desk<'h> {
 
     ghost view = { λ d. view_by (place_of d.pass.now) d.pass.ghost_name (known d.pass.now) (known d.mark.value) d.start.value d.worn };
 
-    ghost invariant = { λ d. IsPassOf d.hall.now d.pass.now × IsDriven (known d.mark.value) (known d.pass.now) d.start.value d.worn d.learning d.budget };
+    ghost invariant = { λ d. IsPassOf d.hall.now d.pass.now × IsDriven (known d.mark.value) (known d.pass.now) d.start.value d.worn d.lacked d.learning d.budget };
 }
 
 impl<'h> Desk<'h> {
@@ -73,6 +74,7 @@ impl<'h> Desk<'h> {
             learning,
             budget,
             worn: false,
+            lacked: false,
         }
     }
 
@@ -96,6 +98,7 @@ impl<'h> Desk<'h> {
         match self.hall.call(rt, self.pass, entry) {
             Ok(reply) => {
                 self.learning = accepted(&reply, learning, self.learning);
+                self.lacked |= lacks_memory(&reply);
                 Ok(reply)
             }
             Err(_) => {
@@ -122,6 +125,7 @@ impl<'h> Desk<'h> {
         }
         let worked = work(rt, alloc, self.hall, self.pass, self.budget, item, gate);
         self.worn = worked == Worked::Worn;
+        self.lacked |= worked == Worked::NoMemory;
         worked
     }
 
@@ -144,6 +148,14 @@ impl<'h> Desk<'h> {
         ensures { result ≡ self.now.worn }
     {
         self.worn
+    }
+
+    /// Whether memory sufficed for all calls of the desk's own.
+    pub fn had_memory(&self) -> bool
+        ensures { result ≡ true → HadMemory (calls_of self.now.past) self.now.own }
+    {
+        desk_laws();
+        !self.lacked
     }
 
     /// What holds of each desk: its machine is sound, its turns are a legal history, and a worn one has read so.
@@ -177,6 +189,13 @@ fn learning_behind(entry: &Entry, learning: bool) -> bool
         Entry::NewPolicy(policy) => policy.learning(),
         _ => learning,
     }
+}
+
+// Whether a reply tells that memory ran out.
+fn lacks_memory(reply: &Reply) -> bool
+    ensures { result ≡ false → reply.now ≢ Reply.NoMemory }
+{
+    matches!(reply, Reply::NoMemory)
 }
 
 // One of these two, by whether a reply tells of a new state.

@@ -1,6 +1,8 @@
 // A hall is opened, and the desk in it.
 ghost use Rattle.std.specs.Prelude.{◌≡◌, ◌≤◌, IfOk, length};
-ghost use Rattle.history_lock.specs.Passes.{IsPassOf, known, number, parts, seen};
+ghost use Rattle.history_lock.specs.Histories.{AreAllPositions, HasSeenLegal};
+ghost use Rattle.history_lock.specs.Passes.{IsPassOf, known, number, own, parts, seen};
+ghost use Rattle.machine_sharing.specs.Sharing.{Turns};
 ghost use Rattle.machine_steps.specs.Sound.{AreInRange};
 ghost use Rattle.machine_desk.specs.Openings.{IsAhead, IsMachineOf};
 
@@ -55,11 +57,14 @@ pub fn open_hall(
     }
 }
 
-/// Closes a hall, with the pass that has all parts. It has as many entries as a call read, or more.
+/// Closes a hall, with the pass that has all parts. What that has seen is a legal history, in which all calls are its own,
+/// and which has as many entries as a call read, or more.
 pub fn close_hall(hall: Hall<Core>, pass: Pass<Core>)
     requires hall { IsPassOf hall pass }
     requires all { parts pass ≡ 1024 }
     ensures enough { number pass ≤ length (seen pass) }
+    ensures legal { HasSeenLegal Turns (known pass) }
+    ensures all_own { AreAllPositions (length (seen pass)) (own pass) }
 {
     hall.close(pass);
 }

@@ -9,7 +9,7 @@ use Rattle.maple_text.specs.Numbers.{number_of}
 use Rattle.maple_top.specs.declared.words.Command.{Command}
 use Rattle.maple_top.specs.declared.words.Command.TheVariants.{Sim}
 use Rattle.maple_top.specs.declared.words.Setting.{Setting}
-use Rattle.maple_top.specs.declared.words.Setting.TheVariants.{Budget, Capacity, Levels}
+use Rattle.maple_top.specs.declared.words.Setting.TheVariants.{Budget, Capacity, Levels, Workers}
 use Rattle.maple_top.specs.declared.words.Chosen.{Chosen}
 use Rattle.maple_top.specs.Due.{AreWords}
 use Rattle.maple_top.specs.Words.{within, value_of, once, with_setting, setting_given, setting_named, options, option_last, option_first, none_chosen, settings_of, check_alone, command_of, IsCommand}
@@ -18,54 +18,54 @@ both_true : (a b : Bool) → (a && b) ≡ true → (a ≡ true) × (b ≡ true)
 both_true true b h = (refl, h)
 both_true false b h = absurd (cc)
 
--- a number from 1 to this
-record InRange (most n : ℕ) : Type 0 where
-  some : 1 ≤ n
+-- a number from this to that
+record InRange (least most n : ℕ) : Type 0 where
+  some : least ≤ n
   few : n ≤ most
 
-abbrev IsIn : ℕ → Option ℕ → Type 0
-IsIn most o = IfSome o (λ n. InRange most n)
+abbrev IsIn : ℕ → ℕ → Option ℕ → Type 0
+IsIn least most o = IfSome o (λ n. InRange least most n)
 
 -- what was chosen is in its range
 record AreIn (c : Chosen) : Type 0 where
-  budget : IsIn 65536 c.budget
-  capacity : IsIn 65535 c.capacity
-  levels : IsIn 65000 c.levels
+  budget : IsIn 1 65536 c.budget
+  capacity : IsIn 1 65535 c.capacity
+  levels : IsIn 1 65000 c.levels
+  workers : IsIn 0 16 c.workers
 
-in_within : (most n : ℕ) → IsIn most (within most n)
-in_within most n =
+in_within : (least most n : ℕ) → IsIn least most (within least most n)
+in_within least most n =
     ⊎_elim
-    (λ t. let b = both_true (nat_le 1 n) (nat_le n most) t in subst (λ v. IsIn most (cond v (Some n) None)) (sym t) (record { some = let h = b.0 in grind (arith, nat_tests); few = let h = b.1 in grind (arith, nat_tests) }))
-    (λ f. subst (λ v. IsIn most (cond v (Some n) None)) (sym f) tt)
-    (cases_Bool (nat_le 1 n && nat_le n most))
+    (λ t. let b = both_true (nat_le least n) (nat_le n most) t in subst (λ v. IsIn least most (cond v (Some n) None)) (sym t) (record { some = let h = b.0 in grind (arith, nat_tests); few = let h = b.1 in grind (arith, nat_tests) }))
+    (λ f. subst (λ v. IsIn least most (cond v (Some n) None)) (sym f) tt)
+    (cases_Bool (nat_le least n && nat_le n most))
 
-of_number : (most : ℕ) (o : Option ℕ) → IsIn most (option_and_then (within most) o)
-of_number most None = tt
-of_number most (Some n) = in_within most n
+of_number : (least most : ℕ) (o : Option ℕ) → IsIn least most (option_and_then (within least most) o)
+of_number least most None = tt
+of_number least most (Some n) = in_within least most n
 
-of_value : (most : ℕ) (word : List ℕ) → IsIn most (value_of most word)
-of_value most word = elim (nat_le (length word) 20) as (λ v. IsIn most (cond v (option_and_then (within most) (number_of word)) None)) [ true ↦ of_number most (number_of word) | false ↦ tt ]
+of_value : (least most : ℕ) (word : List ℕ) → IsIn least most (value_of least most word)
+of_value least most word =
+    elim (nat_le (length word) 20) as (λ v. IsIn least most (cond v (option_and_then (within least most) (number_of word)) None)) [
+      | true ↦ of_number least most (number_of word)
+      | false ↦ tt
+    ]
 
-of_once : (most : ℕ) (old new : Option ℕ) → IsIn most new → IsIn most (once old new)
-of_once most None new h = h
-of_once most (Some n) new h = tt
+-- what a value gives for a setting, and what is chosen then
+module _ (least most : ℕ) (value : List ℕ) (set : ℕ → Chosen) (in_set : (n : ℕ) → InRange least most n → AreIn (set n)) where
+  of_once : (before : Option ℕ) → IfSome (option_map set (once before (value_of least most value))) AreIn
+  of_once (Some n) = tt
+  of_once None = put (value_of least most value) (of_value least most value)
+    where
+      put : (o : Option ℕ) → IsIn least most o → IfSome (option_map set o) AreIn
+      put None i = tt
+      put (Some n) i = in_set n i
 
 of_setting : (s : Setting) (value : List ℕ) (c : Chosen) → AreIn c → IfSome (with_setting s value c) AreIn
-of_setting Budget value c h = put (once c.budget (value_of 65536 value)) (of_once 65536 c.budget (value_of 65536 value) (of_value 65536 value))
-  where
-    put : (o : Option ℕ) → IsIn 65536 o → IfSome (option_map (λ n. record { budget = Some n; capacity = c.capacity; levels = c.levels }) o) AreIn
-    put None i = tt
-    put (Some n) i = record { budget = i; capacity = h.capacity; levels = h.levels }
-of_setting Capacity value c h = put (once c.capacity (value_of 65535 value)) (of_once 65535 c.capacity (value_of 65535 value) (of_value 65535 value))
-  where
-    put : (o : Option ℕ) → IsIn 65535 o → IfSome (option_map (λ n. record { budget = c.budget; capacity = Some n; levels = c.levels }) o) AreIn
-    put None i = tt
-    put (Some n) i = record { budget = h.budget; capacity = i; levels = h.levels }
-of_setting Levels value c h = put (once c.levels (value_of 65000 value)) (of_once 65000 c.levels (value_of 65000 value) (of_value 65000 value))
-  where
-    put : (o : Option ℕ) → IsIn 65000 o → IfSome (option_map (λ n. record { budget = c.budget; capacity = c.capacity; levels = Some n }) o) AreIn
-    put None i = tt
-    put (Some n) i = record { budget = h.budget; capacity = h.capacity; levels = i }
+of_setting Budget value c h = of_once 1 65536 value (λ n. record c { budget = Some n }) (λ n i. record { budget = i; capacity = h.capacity; levels = h.levels; workers = h.workers }) c.budget
+of_setting Capacity value c h = of_once 1 65535 value (λ n. record c { capacity = Some n }) (λ n i. record { budget = h.budget; capacity = i; levels = h.levels; workers = h.workers }) c.capacity
+of_setting Levels value c h = of_once 1 65000 value (λ n. record c { levels = Some n }) (λ n i. record { budget = h.budget; capacity = h.capacity; levels = i; workers = h.workers }) c.levels
+of_setting Workers value c h = of_once 0 16 value (λ n. record c { workers = Some n }) (λ n i. record { budget = h.budget; capacity = h.capacity; levels = h.levels; workers = i }) c.workers
 
 then_in : (o : Option Chosen) (next : Chosen → Option Chosen) → IfSome o AreIn → ((d : Chosen) → AreIn d → IfSome (next d) AreIn) → IfSome (option_and_then next o) AreIn
 then_in None next h f = tt
@@ -86,22 +86,24 @@ of_options (w ∷ []) c h = of_last (setting_given w) c h
 of_options (w ∷ v ∷ ws) c h = of_first (setting_given w) (setting_named w) v c (options (v ∷ ws)) (options ws) (λ d i. of_options (v ∷ ws) d i) (λ d i. of_options ws d i) h
 
 of_chosen : (c : Chosen) → AreIn c → IsCommand (Sim (settings_of c))
-of_chosen c h =
-    record {
-      some_budget = some_of 4096 c.budget 65536 (omega arith) h.budget;
-      budget = few_of 4096 c.budget 65536 (omega arith) h.budget;
-      capacity = few_of 1024 c.capacity 65535 (omega arith) h.capacity;
-      some_levels = some_of 32768 c.levels 65000 (omega arith) h.levels;
-      levels = few_of 32768 c.levels 65000 (omega arith) h.levels;
-    }
+of_chosen c h = (
+  record {
+    some_budget = some_of 1 65536 4096 c.budget (omega arith) h.budget;
+    budget = few_of 1 65536 4096 c.budget (omega arith) h.budget;
+    capacity = few_of 1 65535 1024 c.capacity (omega arith) h.capacity;
+    some_levels = some_of 1 65000 32768 c.levels (omega arith) h.levels;
+    levels = few_of 1 65000 32768 c.levels (omega arith) h.levels;
+  },
+  few_of 0 16 0 c.workers (omega arith) h.workers,
+)
   where
-    some_of : (usual : ℕ) (o : Option ℕ) (most : ℕ) → 1 ≤ usual → IsIn most o → 1 ≤ unwrap_or o usual
-    some_of usual None most u h = u
-    some_of usual (Some n) most u h = h.some
+    some_of : (least most usual : ℕ) (o : Option ℕ) → least ≤ usual → IsIn least most o → least ≤ unwrap_or o usual
+    some_of least most usual None u h = u
+    some_of least most usual (Some n) u h = h.some
 
-    few_of : (usual : ℕ) (o : Option ℕ) (most : ℕ) → usual ≤ most → IsIn most o → unwrap_or o usual ≤ most
-    few_of usual None most u h = u
-    few_of usual (Some n) most u h = h.few
+    few_of : (least most usual : ℕ) (o : Option ℕ) → usual ≤ most → IsIn least most o → unwrap_or o usual ≤ most
+    few_of least most usual None u h = u
+    few_of least most usual (Some n) u h = h.few
 
 of_sim : (o : Option Chosen) → IfSome o AreIn → IfSome (option_map (λ c. Sim (settings_of c)) o) IsCommand
 of_sim None h = tt
@@ -115,7 +117,7 @@ of_words : (ws : List (List ℕ)) → IfSome (command_of ws) IsCommand
 of_words [] = tt
 of_words (w ∷ ws) =
     elim (bytes_eq w (codes "sim")) as (λ v. IfSome (cond v (option_map (λ c. Sim (settings_of c)) (options ws none_chosen)) (cond (bytes_eq w (codes "check")) (check_alone ws) None)) IsCommand) [
-      | true ↦ of_sim (options ws none_chosen) (of_options ws none_chosen (record { budget = tt; capacity = tt; levels = tt }))
+      | true ↦ of_sim (options ws none_chosen) (of_options ws none_chosen (record { budget = tt; capacity = tt; levels = tt; workers = tt }))
       | false ↦ elim (bytes_eq w (codes "check")) as (λ v. IfSome (cond v (check_alone ws) None) IsCommand) [ true ↦ of_check ws | false ↦ tt ]
     ]
 

@@ -104,8 +104,15 @@ module _ (source left : SourceView) (old new : SinkView) (after : List Meaning) 
 
   right : (policy : Policy) (command : Command) (text : List ℕ) → IsReportOf policy command (given heard) program_devices after text
       → IsRightText policy command (given heard) text
-  right policy (Sim settings) text (report, (history, followed), text_is) =
-      record { after = after; history = history; report = report; followed = followed; text_is = text_is; world = followed.run.world devices_keep }
+  right policy (Sim settings) text (report, (history, e), text_is) = record {
+    after = after;
+    history = history;
+    report = report;
+    followed = e.ends;
+    memory = e.memory tt;
+    text_is = text_is;
+    world = e.ends.run.world devices_keep;
+  }
   right policy Check text r = r.1
 
   reports : (s : Status) → tells_end heard ≡ true → IsDue s (length program_devices) words (given heard) → (text : List ℕ) → IsReport words (given heard) program_devices after text

@@ -60,6 +60,11 @@ module _ (g : Given) (after : List Meaning) (old mid new : SinkView) (report : L
   told f TooLong e = whole TooLong (due_of (refused_of g)) e
   told f Worn e = absurd (never_worn (refused_of g) e.0)
 
+-- a run that came to a refused line ended as one that came to the end of its script
+pub at_refused : {g : Given} {after : List Meaning} {old mid : SinkView} {line : ℕ} {kind : ScriptRefusal} → WroteSome old mid (HasEnded (ends.Script line kind) g after)
+    → WroteSome old mid (HasEnded ends.Done g after)
+at_refused (report, (history, e), wrote) = (report, (history, record { ends = e.ends; memory = e.memory }), wrote)
+
 -- a run came to the end of its script, or to its first refused line, and the last line was begun
 pub ended : (g : Given) (after : List Meaning) (old mid new : SinkView) (refused : Option (ℕ × ScriptRefusal)) (s : Status) → refused_of g ≡ refused
     → WroteSome old mid (HasEnded ends.Done g after) → mid.failed ≡ old.failed → Ends mid new (due_of refused) (end_of refused) s → RunsScript g after old new s

@@ -12,7 +12,7 @@ use Rattle.machine_steps.specs.Histories.{Turn}
 use Rattle.model_switch.specs.States.{meaning_of, opened}
 use Rattle.sim_laws.specs.Laws.{AreWorldRun}
 use Rattle.sim_driver.specs.declared.drive.SimEnd.TheVariants as ends
-use Rattle.sim_driver.specs.Runs.{IsFollowed}
+use Rattle.sim_driver.specs.Runs.{AllHadMemory, IsFollowed}
 use Rattle.maple_top.specs.declared.status.Status.{Status}
 use Rattle.maple_top.specs.declared.status.Status.TheVariants.{Done, Usage, Policy as PolicyRefused, Script, ReadFault, WriteFault, NoMemory, TooLong, Worn}
 use Rattle.maple_top.specs.declared.words.Command.{Command}
@@ -35,12 +35,13 @@ unfoldable pub program_devices : List Meaning
 program_devices = devices_to 64
 
 -- the text is the report of deeds that follow the script, up to its end or its first refused line, and then the last line. The deeds are a run of the world,
--- which is right: each rule that a ready session's switch hits decides as plain evaluation does
+-- which is right: each rule that a ready session's switch hits decides as plain evaluation does; memory sufficed for each turn of the machine
 pub record IsRightReport (policy : Policy) (settings : Settings) (input text : List ℕ) : Type 0 where
   pub after : List Meaning
   pub history : List Turn
   pub report : List ℕ
   pub followed : IsFollowed (run_given policy settings program_devices input) after history report
+  pub memory : AllHadMemory history
   pub text_is : text ≡ report ++ end_of (refused_of (run_given policy settings program_devices input))
   pub world : AreWorldRun policy settings program_devices followed.events followed.last
 

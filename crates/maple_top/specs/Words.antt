@@ -1,16 +1,17 @@
 -- The words of a command line: `sim` and its options, or `check` alone. An option is two words, `--name value`, or one, `--name=value`; each stands at most
 -- once, in any order.
-use Rattle.std.specs.Prelude.{ℕ, ◌&&◌, ◌==◌, nat_le, if◌then◌else◌, List, [], ◌∷◌, length, Option, Some, None, unwrap_or, codes}
+use Rattle.std.specs.Prelude.{ℕ, ◌≤◌, ◌&&◌, ◌==◌, nat_le, if◌then◌else◌, List, [], ◌∷◌, length, Option, Some, None, unwrap_or, codes}
 use Rattle.std.specs.Option.{option_and_then, option_map}
 use Rattle.std.specs.Str.{bytes_eq}
 use Rattle.maple_base.specs.Limits.{most_budget}
 use Rattle.maple_text.specs.Numbers.{number_of}
 use Rattle.maple_base.specs.declared.decision.Settings.{Settings}
 use Rattle.machine_steps.specs.Sound.{AreInRange}
+use Rattle.sim_driver.specs.Runs.{most_workers}
 use Rattle.maple_top.specs.declared.words.Command.{Command}
 use Rattle.maple_top.specs.declared.words.Command.TheVariants.{Sim, Check}
 use Rattle.maple_top.specs.declared.words.Setting.{Setting}
-use Rattle.maple_top.specs.declared.words.Setting.TheVariants.{Budget, Capacity, Levels}
+use Rattle.maple_top.specs.declared.words.Setting.TheVariants.{Budget, Capacity, Levels, Workers}
 use Rattle.maple_top.specs.declared.words.Chosen.{Chosen}
 
 -- the most rules of a switch, and the most levels of their priorities
@@ -20,13 +21,13 @@ most_capacity = 65535
 abbrev pub most_levels : ℕ
 most_levels = 65000
 
--- the number, where it is from 1 to this
-abbrev pub within : ℕ → ℕ → Option ℕ
-within most n = if nat_le 1 n && nat_le n most then Some n else None
+-- the number, where it is from this to that
+abbrev pub within : ℕ → ℕ → ℕ → Option ℕ
+within least most n = if nat_le least n && nat_le n most then Some n else None
 
--- the number that a value spells, from 1 to this: 1 to 20 decimal digits
-abbrev pub value_of : ℕ → List ℕ → Option ℕ
-value_of most word = if nat_le (length word) 20 then option_and_then (within most) (number_of word) else None
+-- the number that a value spells, from this to that: 1 to 20 decimal digits
+abbrev pub value_of : ℕ → ℕ → List ℕ → Option ℕ
+value_of least most word = if nat_le (length word) 20 then option_and_then (within least most) (number_of word) else None
 
 -- a setting is chosen at most once
 abbrev pub once : Option ℕ → Option ℕ → Option ℕ
@@ -35,9 +36,10 @@ once (Some n) value = None
 
 -- the settings chosen so far, with the one that a value gives
 abbrev pub with_setting : Setting → List ℕ → Chosen → Option Chosen
-with_setting Budget value c = option_map (λ n. record { budget = Some n; capacity = c.capacity; levels = c.levels }) (once c.budget (value_of most_budget value))
-with_setting Capacity value c = option_map (λ n. record { budget = c.budget; capacity = Some n; levels = c.levels }) (once c.capacity (value_of most_capacity value))
-with_setting Levels value c = option_map (λ n. record { budget = c.budget; capacity = c.capacity; levels = Some n }) (once c.levels (value_of most_levels value))
+with_setting Budget value c = option_map (λ n. record c { budget = Some n }) (once c.budget (value_of 1 most_budget value))
+with_setting Capacity value c = option_map (λ n. record c { capacity = Some n }) (once c.capacity (value_of 1 most_capacity value))
+with_setting Levels value c = option_map (λ n. record c { levels = Some n }) (once c.levels (value_of 1 most_levels value))
+with_setting Workers value c = option_map (λ n. record c { workers = Some n }) (once c.workers (value_of 0 most_workers value))
 
 -- what a word has behind this text, where it begins with it
 abbrev pub behind_text : List ℕ → List ℕ → Option (List ℕ)
@@ -50,13 +52,14 @@ abbrev pub name_of : Setting → List ℕ
 name_of Budget = codes "--budget"
 name_of Capacity = codes "--capacity"
 name_of Levels = codes "--levels"
+name_of Workers = codes "--workers"
 
 abbrev pub named : Setting → Option Setting → List ℕ → Option Setting
 named s others word = if bytes_eq word (name_of s) then Some s else others
 
 -- the setting that a word names
 abbrev pub setting_named : List ℕ → Option Setting
-setting_named word = named Budget (named Capacity (named Levels None word) word) word
+setting_named word = named Budget (named Capacity (named Levels (named Workers None word) word) word) word
 
 abbrev pub first_of : Setting → Option (List ℕ) → Option (Setting × List ℕ) → Option (Setting × List ℕ)
 first_of s (Some value) others = Some (s, value)
@@ -66,7 +69,8 @@ first_of s None others = others
 abbrev pub setting_given : List ℕ → Option (Setting × List ℕ)
 setting_given word =
     first_of Budget (behind_text (codes "--budget=") word)
-    (first_of Capacity (behind_text (codes "--capacity=") word) (first_of Levels (behind_text (codes "--levels=") word) None))
+    (first_of Capacity (behind_text (codes "--capacity=") word)
+    (first_of Levels (behind_text (codes "--levels=") word) (first_of Workers (behind_text (codes "--workers=") word) None)))
 
 -- the last word is an option with its value behind `=`
 abbrev pub option_last : Option (Setting × List ℕ) → Chosen → Option Chosen
@@ -87,12 +91,17 @@ options (w ∷ []) c = option_last (setting_given w) c
 options (w ∷ v ∷ ws) c = option_first (setting_given w) (setting_named w) v c (options (v ∷ ws)) (options ws)
 
 abbrev pub none_chosen : Chosen
-none_chosen = record { budget = None; capacity = None; levels = None }
+none_chosen = record { budget = None; capacity = None; levels = None; workers = None }
 
--- a setting that isn't chosen is its default; no thread works besides the driver
+-- a setting that isn't chosen is its default
 abbrev pub settings_of : Chosen → Settings
 settings_of c =
-    record { capacity = unwrap_or c.capacity 1024; levels = unwrap_or c.levels 32768; budget = unwrap_or c.budget 4096; workers = 0 }
+    record {
+      capacity = unwrap_or c.capacity 1024;
+      levels = unwrap_or c.levels 32768;
+      budget = unwrap_or c.budget 4096;
+      workers = unwrap_or c.workers 0;
+    }
 
 -- `check` has no options
 abbrev pub check_alone : List (List ℕ) → Option Command
@@ -108,5 +117,5 @@ command_of (w ∷ ws) =
 
 -- the settings of a command are in their ranges
 abbrev pub IsCommand : Command → Type 0
-IsCommand (Sim settings) = AreInRange settings
+IsCommand (Sim settings) = AreInRange settings × (settings.workers ≤ most_workers)
 IsCommand Check = Unit {0}

@@ -15,6 +15,7 @@ use crate::top::maple;
 use device_port::Device;
 use maple_base::{NoMemory, Words};
 use maple_io::{ReadSource, Sink, Source, WriteSink};
+use packet_workers::Open;
 use std::alloc::{AllocError, Global};
 use std::io::{Read, Write};
 use std::sync::Wait;
@@ -94,7 +95,7 @@ fn run_made<R: Threads + Wait + Copy + Send + Sync, I: Source, O: Sink>(
         push_next(&mut devices, device, place)?;
         place += 1;
     }
-    Ok(maple(rt, alloc, words, from, to, &mut devices))
+    Ok(maple(rt, alloc, words, from, to, &mut devices, &Open))
 }
 
 // Puts the program's next device behind those of the places up to this one.

@@ -19,6 +19,7 @@ use crate::words::{Command, command_of};
 use device_port::Device;
 use maple_base::Words;
 use maple_io::{Sink, Source};
+use packet_workers::Gate;
 use script_text::split_at_mark;
 use std::alloc::Global;
 use std::sync::Wait;
@@ -29,16 +30,18 @@ use std::thread::Threads;
 /// Both commands read the input to its end: a policy, a line `%%`, and a script. The word `sim` runs
 /// the script over the controller's machine and the devices, and writes what comes of each line, and
 /// then a last line. Its options bound the steps that the policy may take for a packet (`--budget`),
-/// the rules of a switch (`--capacity`) and the levels of their priorities (`--levels`). The word
-/// `check`, alone, writes the printed form of the policy, and looks at no script. Where the policy is
-/// refused both write where and why.
-pub fn maple<R: Threads + Wait + Copy + Send + Sync, I: Source, O: Sink>(
+/// the rules of a switch (`--capacity`) and the levels of their priorities (`--levels`), and say how
+/// many workers answer packets beside the driver (`--workers`); each packet's work is told to the gate.
+/// The word `check`, alone, writes the printed form of the policy, and looks at no script. Where the
+/// policy is refused both write where and why.
+pub fn maple<R: Threads + Wait + Copy + Send + Sync, I: Source, O: Sink, G: Gate + Sync>(
     rt: &R,
     alloc: Global,
     words: &Words,
     input: &mut I,
     output: &mut O,
     devices: &mut Vec<Box<dyn Device + Send>>,
+    gate: &G,
 ) -> Status
     // No message waits in any device.
     requires idle { AllIdle (map meaning devices.old.items) }
@@ -88,17 +91,18 @@ pub fn maple<R: Threads + Wait + Copy + Send + Sync, I: Source, O: Sink>(
     ensures write_fault { result ≡ Status.WriteFault → WriteFailed (O.tells output.old) (O.tells output.new) }
     ensures cut { CutsBy (I.tells input.old) (I.tells input.new) result words.now (over meaning devices.old) (O.tells output.old) (O.tells output.new) }
 {
-    run_words(rt, alloc, words, input, output, devices)
+    run_words(rt, alloc, words, input, output, devices, gate)
 }
 
 // Runs these words from a source to a sink, over all devices.
-fn run_words<R: Wait, D: Device, I: Source, O: Sink>(
+fn run_words<R: Threads + Wait + Sync, D: Device, I: Source, O: Sink, G: Gate + Sync>(
     rt: &R,
     alloc: Global,
     words: &Words,
     from: &mut I,
     to: &mut O,
     all: &mut [D],
+    gate: &G,
 ) -> Status
     requires idle { AllIdle (map D.meaning all.old) }
     ensures run { IsRunBy (I.tells from.old) (I.tells from.new) (O.tells to.old) (O.tells to.new) (map D.meaning all.old)
@@ -119,7 +123,7 @@ fn run_words<R: Wait, D: Device, I: Source, O: Sink>(
         return finish(to, Status::Usage);
     };
     match read_all(alloc, from) {
-        Ok(text) => run_text(rt, alloc, command, &text, to, all),
+        Ok(text) => run_text(rt, alloc, command, &text, to, all, gate),
         Err(ReadStop::Failed) => finish(to, Status::ReadFault),
         Err(ReadStop::TooLong) => finish(to, Status::TooLong),
         Err(ReadStop::NoMemory) => Status::NoMemory,
@@ -127,13 +131,14 @@ fn run_words<R: Wait, D: Device, I: Source, O: Sink>(
 }
 
 // Runs an input that was read to its end.
-fn run_text<R: Wait, D: Device, O: Sink>(
+fn run_text<R: Threads + Wait + Sync, D: Device, O: Sink, G: Gate + Sync>(
     rt: &R,
     alloc: Global,
     command: Command,
     text: &[u8],
     to: &mut O,
     all: &mut [D],
+    gate: &G,
 ) -> Status
     requires ranges { IsCommand command }
     requires fit { IsFit text.now }
@@ -149,7 +154,7 @@ fn run_text<R: Wait, D: Device, O: Sink>(
             Command::Check => put_policy(alloc, &policy, to),
             Command::Sim(settings) => {
                 let first = lines as u32 + 1;
-                run_script(rt, alloc, policy, settings, first, script, all, to)
+                run_script(rt, alloc, policy, settings, first, script, all, gate, to)
             }
         },
         Err(PolicyStop::Refused(line)) => refuse_policy(alloc, to, &line),

@@ -6,6 +6,7 @@ ghost use Rattle.maple_top.specs.WordViews.{given_of};
 
 use maple_base::{Bytes, MOST_BUDGET, Settings, Words};
 use maple_text::number_of;
+use sim_driver::MOST_WORKERS;
 
 /// The most rules of a switch, and of its levels.
 const MOST_CAPACITY: u32 = 65_535;
@@ -33,6 +34,8 @@ pub enum Setting {
     Capacity,
     /// `--levels`: the most levels of priorities of its rules.
     Levels,
+    /// `--workers`: how many workers answer packets beside the driver.
+    Workers,
 }
 
 /// The settings that options chose.
@@ -41,12 +44,14 @@ pub struct Chosen {
     pub budget: Option<u32>,
     pub capacity: Option<u32>,
     pub levels: Option<u32>,
+    pub workers: Option<u32>,
 }
 
 /// The command that these words give: `sim` with its options, or `check` alone. The options are
-/// `--budget` (1 to 65,536, and 4,096 without it), `--capacity` (1 to 65,535, and 1,024 without it) and
-/// `--levels` (1 to 65,000, and 32,768 without it), each at most once, with its value as the next word
-/// or behind `=`. A value has 1 to 20 decimal digits. `None` exactly where the words are others.
+/// `--budget` (1 to 65,536, and 4,096 without it), `--capacity` (1 to 65,535, and 1,024 without it),
+/// `--levels` (1 to 65,000, and 32,768 without it) and `--workers` (0 to 16, and 0 without it), each at
+/// most once, with its value as the next word or behind `=`. A value has 1 to 20 decimal digits. `None`
+/// exactly where the words are others.
 pub fn command_of(words: &Words) -> Option<Command>
     ensures { result ≡ command_of words.now }
 {
@@ -56,6 +61,7 @@ pub fn command_of(words: &Words) -> Option<Command>
                 budget: None,
                 capacity: None,
                 levels: None,
+                workers: None,
             };
             Some(Command::Sim(settings_of(options(words, none)?)))
         }
@@ -81,7 +87,7 @@ fn settings_of(chosen: Chosen) -> Settings
         capacity: chosen.capacity.unwrap_or(1_024),
         levels: chosen.levels.unwrap_or(32_768),
         budget: chosen.budget.unwrap_or(4_096),
-        workers: 0,
+        workers: chosen.workers.unwrap_or(0),
     }
 }
 
@@ -108,37 +114,24 @@ fn options(words: &[Bytes], chosen: Chosen) -> Option<Chosen>
 fn with_setting(setting: Setting, value: &[u8], chosen: Chosen) -> Option<Chosen>
     ensures { result ≡ with_setting setting value.now chosen }
 {
-    let Chosen {
-        budget,
-        capacity,
-        levels,
-    } = chosen;
-    match setting {
-        Setting::Budget => {
-            let budget = Some(once(budget, value_of(MOST_BUDGET, value))?);
-            Some(Chosen {
-                budget,
-                capacity,
-                levels,
-            })
-        }
-        Setting::Capacity => {
-            let capacity = Some(once(capacity, value_of(MOST_CAPACITY, value))?);
-            Some(Chosen {
-                budget,
-                capacity,
-                levels,
-            })
-        }
-        Setting::Levels => {
-            let levels = Some(once(levels, value_of(MOST_LEVELS, value))?);
-            Some(Chosen {
-                budget,
-                capacity,
-                levels,
-            })
-        }
-    }
+    Some(match setting {
+        Setting::Budget => Chosen {
+            budget: Some(once(chosen.budget, value_of(1, MOST_BUDGET, value))?),
+            ..chosen
+        },
+        Setting::Capacity => Chosen {
+            capacity: Some(once(chosen.capacity, value_of(1, MOST_CAPACITY, value))?),
+            ..chosen
+        },
+        Setting::Levels => Chosen {
+            levels: Some(once(chosen.levels, value_of(1, MOST_LEVELS, value))?),
+            ..chosen
+        },
+        Setting::Workers => Chosen {
+            workers: Some(once(chosen.workers, value_of(0, MOST_WORKERS, value))?),
+            ..chosen
+        },
+    })
 }
 
 fn once(before: Option<u32>, value: Option<u32>) -> Option<u32>
@@ -160,6 +153,8 @@ fn setting_named(word: &[u8]) -> Option<Setting>
         Some(Setting::Capacity)
     } else if word == b"--levels".as_slice() {
         Some(Setting::Levels)
+    } else if word == b"--workers".as_slice() {
+        Some(Setting::Workers)
     } else {
         None
     }
@@ -175,8 +170,11 @@ fn setting_given(word: &[u8]) -> Option<(Setting, &[u8])>
     if let Some(value) = behind_text(b"--capacity=", word) {
         return Some((Setting::Capacity, value));
     }
-    let value = behind_text(b"--levels=", word)?;
-    Some((Setting::Levels, value))
+    if let Some(value) = behind_text(b"--levels=", word) {
+        return Some((Setting::Levels, value));
+    }
+    let value = behind_text(b"--workers=", word)?;
+    Some((Setting::Workers, value))
 }
 
 // What a word has behind this text, where it begins with it.
@@ -186,19 +184,19 @@ fn behind_text<'a>(text: &[u8], word: &'a [u8]) -> Option<&'a [u8]>
     word.strip_prefix(text)
 }
 
-fn value_of(most: u32, word: &[u8]) -> Option<u32>
-    ensures { result ≡ value_of most word.now }
+fn value_of(least: u32, most: u32, word: &[u8]) -> Option<u32>
+    ensures { result ≡ value_of least most word.now }
 {
     if word.len() > DIGITS {
         return None;
     }
-    within(most, number_of(word)?)
+    within(least, most, number_of(word)?)
 }
 
-fn within(most: u32, number: u64) -> Option<u32>
-    ensures { result ≡ within most number }
+fn within(least: u32, most: u32, number: u64) -> Option<u32>
+    ensures { result ≡ within least most number }
 {
-    if 1 <= number && number <= most as u64 {
+    if least as u64 <= number && number <= most as u64 {
         Some(number as u32)
     } else {
         None

@@ -7,6 +7,7 @@ use device_port::Device;
 use maple_base::NoMemory;
 use maple_io::{MemSink, MemSource};
 use maple_top::{maple, program_device, push_idle};
+use packet_workers::Open;
 use std::alloc::{AllocError, Global};
 use std::sync::Wait;
 use std::thread::Threads;
@@ -60,7 +61,7 @@ pub fn outcome_of<R: Threads + Wait + Copy + Send + Sync>(
             Kind::Failing(call) => push_idle(&mut boxes, Box::new(alloc, failing(alloc, call)?)?)?,
         }
     }
-    let status = maple(rt, alloc, &words, &mut source, &mut sink, &mut boxes).number();
+    let status = maple(rt, alloc, &words, &mut source, &mut sink, &mut boxes, &Open).number();
     Ok(Outcome { status, sink })
 }
 

@@ -32,12 +32,12 @@ use Rattle.sim_channels.proofs.Keeping.{reached_along, reached_sound}
 
 pub same_crew : (c : Option Crew) → SameCrew c c
 same_crew None = tt
-same_crew (Some c) = record { jobs = refl; name = refl; is = λ h. h; shares = λ h. refl }
+same_crew (Some c) = record { jobs = refl; lobby = refl; name = refl; is = λ h. h; shares = λ h. refl }
 
 pub crew_then : (a b c : Option Crew) → SameCrew a b → SameCrew b c → SameCrew a c
 crew_then None None None h k = tt
 crew_then (Some a) (Some b) (Some c) h k =
-    record { jobs = k.jobs ∙ h.jobs; name = k.name ∙ h.name; is = λ x. k.is (h.is x); shares = λ x. k.shares (h.is x) ∙ h.shares x }
+    record { jobs = k.jobs ∙ h.jobs; lobby = k.lobby ∙ h.lobby; name = k.name ∙ h.name; is = λ x. k.is (h.is x); shares = λ x. k.shares (h.is x) ∙ h.shares x }
 crew_then None None (Some c) h k = absurd k
 crew_then None (Some b) c h k = absurd h
 crew_then (Some a) None c h k = absurd h

@@ -408,7 +408,7 @@ waits_by c (NewState state pruned) jobs w = tt
 waits_by c other jobs w = tt
 
 pub room_for : (input : Input) (old new : Driver) (result : Result (Unit {0}) Stopped) → OnOk result (MakesRoom old new) → OnOk result (MakesRoomFor input old new)
-room_for input old new (Ok done) h = record { tends = h.tends; alone = h.alone; room = λ packet. h.room }
+room_for input old new (Ok done) h = record { tends = h.tends; alone = h.alone; room = λ packet. h.room; asked = λ packet. h.asked }
 room_for input old new (Err stopped) h = tt
 
 -- the driver whose channel gave the input

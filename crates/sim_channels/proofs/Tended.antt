@@ -1,6 +1,6 @@
 -- What the driver does with others about packets that wait: which parts its pass has then, and what that leaves.
 use Rattle.std.proofs.Common.{◌≡◌, ◌⊎◌, ℕ, ◌<◌, Bool, true, false, List, [], ◌∷◌, length, append-nil, refl, sym, ap, ◌∙◌, subst, inl, inr}
-use Rattle.std.specs.Prelude.{Option, Some, is_some}
+use Rattle.std.specs.Prelude.{Option, None, Some, is_some}
 use Rattle.std.specs.List.{slice_get}
 use Rattle.device_port.specs.Devices.{Meaning}
 use Rattle.machine_steps.specs.Machine.{session_at}
@@ -8,7 +8,7 @@ use Rattle.machine_steps.specs.Sound.{IsSound}
 use Rattle.machine_steps.specs.Waiting.{Waiting}
 use Rattle.worker_crew.specs.declared.gave_up.GaveUp.{GaveUp}
 use Rattle.worker_crew.specs.declared.gave_up.GaveUp.TheVariants as gave_up
-use Rattle.worker_crew.specs.Takers.{shares}
+use Rattle.worker_crew.specs.Takers.{places, shares}
 use Rattle.packet_workers.specs.declared.worked.Worked.{Worked}
 use Rattle.machine_desk.specs.Desks.{DeskView}
 use Rattle.machine_desk.specs.Working.{RoundsArePlain, RoundsClose, Works}
@@ -17,7 +17,8 @@ use Rattle.machine_desk.specs.declared.hearing.Heard.TheVariants as heards
 use Rattle.desk_jobs.specs.declared.tending.Broken.{Broken}
 use Rattle.desk_jobs.specs.declared.tending.Broken.TheVariants.{Own, Worker}
 use Rattle.desk_jobs.specs.Laws.{Meanwhile, NothingIsLeft, RoomStays, TendingIsAllowed}
-use Rattle.desk_jobs.specs.Tending.{Done, FailsToAsk, FailsToWork, GoesOn, Reaches, Room, Rounds, Sight, Stops, Until, at}
+use Rattle.desk_jobs.specs.declared.tending.Handed.{Handed}
+use Rattle.desk_jobs.specs.Tending.{Done, FailsToAsk, FailsToWork, GoesOn, HandsOver, Reaches, Room, Rounds, Sight, Stops, Until, at}
 use Rattle.sim_steps.specs.Stretches.{Carried}
 use Rattle.sim_steps.proofs.Joining.{carried_none, carried_then}
 use Rattle.sim_steps.proofs.Others.{carried_beside}
@@ -26,7 +27,7 @@ use Rattle.sim_channels.specs.declared.driver.Driver.{Driver}
 use Rattle.sim_channels.specs.Answering.{IsWhole}
 use Rattle.sim_channels.specs.Channels.{CarriedOver, IsCrew, IsKept, SameCrew, Tends, WorksAlone, bench}
 use Rattle.sim_channels.specs.Driving.{DrivingLaws}
-use Rattle.sim_channels.specs.Passes.{Attends, AwaitsAll, HasHeard, HearsBy, MakesRoom, WaitsBy, came_of, rest_at, rest_in}
+use Rattle.sim_channels.specs.Passes.{Attends, AwaitsAll, Beside, BySights, HasHeard, HearsBy, IsInHand, MakesRoom, WaitsBy, came_of, rest_at, rest_in}
 use Rattle.sim_channels.proofs.Answering.{answers_by}
 use Rattle.sim_channels.proofs.Keeping.{reached_sound}
 use Rattle.sim_channels.proofs.Others.{alone_on, channel_stays, items_stay, same_desk, same_driver, same_then, tends_beside, tends_channel, tends_kept, tends_learning}
@@ -73,9 +74,9 @@ tends_still driver = record { meanwhile = none_between driver.desk; rest = refl;
 
 -- ---- a crew's pass
 
-pub crew_still : (o : Option Crew) (c d : Crew) → o ≡ Some c → d.jobs ≡ c.jobs → d.taker.ghost_name ≡ c.taker.ghost_name → IsCrew d → shares d.taker.now ≡ shares c.taker.now → SameCrew o (Some d)
-crew_still o c d is jobs name still same =
-    subst (λ (x : Option Crew). SameCrew x (Some d)) (sym is) (record { jobs = jobs; name = name; is = λ was. still; shares = λ was. same })
+pub crew_still : (o : Option Crew) (c d : Crew) → o ≡ Some c → d.jobs ≡ c.jobs → d.lobby ≡ c.lobby → d.taker.ghost_name ≡ c.taker.ghost_name → IsCrew d → shares d.taker.now ≡ shares c.taker.now → SameCrew o (Some d)
+crew_still o c d is jobs lobby name still same =
+    subst (λ (x : Option Crew). SameCrew x (Some d)) (sym is) (record { jobs = jobs; lobby = lobby; name = name; is = λ was. still; shares = λ was. same })
 
 module _ (laws : DrivingLaws) (allowed : TendingIsAllowed) (old : Driver) (desk : DeskView) (c d : Crew) (kept : IsKept old) (is : old.crew ≡ Some c) (same : SameCrew old.crew (Some d))
     (footing : desk.footing ≡ old.desk.footing) where
@@ -97,29 +98,58 @@ module _ (laws : DrivingLaws) (allowed : TendingIsAllowed) (old : Driver) (desk 
   sound : Meanwhile old.desk desk → IsSound desk.now
   sound meanwhile = reached_sound laws desk.now (tends_kept laws old Later kept (tends meanwhile)).reached
 
+  -- of these crews it holds of what is known by their passes
+  sights : (R : ℕ → Sight → Sight → Type 0) → R (places c.jobs.now) before behind → Beside R old Later
+  sights R r = subst (λ (o : Option Crew). BySights R old.desk desk o (Some d)) (sym is) r
+
   pub room_by : RoomStays → Reaches Room before behind → MakesRoom old Later
   room_by stays r =
       let meanwhile = allowed.reaches Room before behind r in
-      record { tends = tends meanwhile; alone = λ none. absurd (beside none); room = λ e m. inr (stays before behind e (sound meanwhile) r m) }
+      record {
+        tends = tends meanwhile;
+        alone = λ none. absurd (beside none);
+        room = λ e m. inr (stays before behind e (sound meanwhile) r m);
+        asked = sights (λ n s t. Reaches Room s t) r;
+      }
 
   pub done_by : NothingIsLeft → Reaches Done before behind → AwaitsAll old Later
   done_by left r =
       let meanwhile = allowed.reaches Done before behind r in
-      record { tends = tends meanwhile; alone = λ none. absurd (beside none); none = inr (left before behind desk (sound meanwhile) r (none_between desk)).1 }
+      record {
+        tends = tends meanwhile;
+        alone = λ none. absurd (beside none);
+        none = inr (left before behind desk (sound meanwhile) r (none_between desk)).1;
+        asked = sights (λ n s t. Reaches Done s t) r;
+      }
 
 -- without one
 
+no_sights : (R : ℕ → Sight → Sight → Type 0) (a b : DeskView) (c d : Option Crew) → is_some c ≡ false → BySights R a b c d
+no_sights R a b None d none = tt
+no_sights R a b (Some c) d none = absurd (cc)
+
 pub room_alone : (driver : Driver) → WorksAlone driver → MakesRoom driver driver
-room_alone driver none = record { tends = tends_still driver; alone = λ alone. refl; room = λ d m. inl none }
+room_alone driver none = record {
+  tends = tends_still driver;
+  alone = λ alone. refl;
+  room = λ d m. inl none;
+  asked = no_sights (λ n s t. Reaches Room s t) driver.desk driver.desk driver.crew driver.crew none;
+}
 
 pub done_alone : (driver : Driver) → WorksAlone driver → AwaitsAll driver driver
-done_alone driver none = record { tends = tends_still driver; alone = λ alone. refl; none = inl none }
+done_alone driver none = record {
+  tends = tends_still driver;
+  alone = λ alone. refl;
+  none = inl none;
+  asked = no_sights (λ n s t. Reaches Done s t) driver.desk driver.desk driver.crew driver.crew none;
+}
 
-pub worked_alone : (old : Driver) (desk : DeskView) (item : Waiting) (worked : Worked) → RoundsArePlain → RoundsClose → IsKept old → desk.footing ≡ old.desk.footing
-    → (WorksAlone old → WaitsBy (heards.Packet item) old.desk.now.jobs) → Works item worked old.desk desk → IsWhole worked → Attends old (record old { desk = desk })
-worked_alone old desk item worked plain close kept footing waits works whole = record {
+pub worked_alone : (old : Driver) (desk : DeskView) (item : Waiting) (worked : Worked) → RoundsArePlain → RoundsClose → IsKept old → WorksAlone old → desk.footing ≡ old.desk.footing
+    → (WorksAlone old → WaitsBy (heards.Packet item) old.desk.now.jobs) → Works item worked old.desk desk → IsWhole worked → Attends item old (record old { desk = desk })
+worked_alone old desk item worked plain close kept alone footing waits works whole = record {
   tends = record { meanwhile = worked_between item worked old.desk desk works; rest = refl; same = same_desk old (record old { desk = desk }) refl footing };
   answers = λ none. answers_by plain close item worked old.desk desk (kept.crew.alone none) (waits none) works whole;
+  hands = no_sights (λ n s t. (handed : Handed) × HandsOver handed item n s t × IsInHand handed) old.desk desk old.crew old.crew alone;
 }
 
 -- somebody works beside, or nobody

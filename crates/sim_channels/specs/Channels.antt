@@ -86,9 +86,10 @@ pub record MayHave (crew : Option Crew) (parts : ℕ) (m : State) : Type 0 where
 abbrev pub WorksAlone : Driver → Type 0
 WorksAlone driver = is_some driver.crew ≡ false
 
--- a crew's pass is the one that was lent, with as many parts of the same queue
+-- a crew's pass is the one that was lent, with as many parts of the same queue, and its lobby is the same
 pub record IsCrewStill (old new : Crew) : Type 0 where
   pub jobs : new.jobs ≡ old.jobs
+  pub lobby : new.lobby ≡ old.lobby
   pub name : new.taker.ghost_name ≡ old.taker.ghost_name
   pub is : IsCrew old → IsCrew new
   pub shares : IsCrew old → shares new.taker.now ≡ shares old.taker.now
@@ -98,7 +99,7 @@ SameCrew None None = Unit {0}
 SameCrew (Some old) (Some new) = IsCrewStill old new
 SameCrew old new = ⊥
 
--- what no call of the driver changes: its footing, and who works beside it
+-- what no call of the driver but `mark` changes: its footing, and who works beside it
 pub record IsSame (old new : Driver) : Type 0 where
   pub footing : new.desk.footing ≡ old.desk.footing
   pub crew : SameCrew old.crew new.crew

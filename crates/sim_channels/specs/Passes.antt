@@ -8,16 +8,22 @@ use Rattle.of10_codec.specs.declared.message.Body.TheVariants as body
 use Rattle.machine_steps.specs.declared.job.Job.{Job}
 use Rattle.machine_steps.specs.Machine.{most_jobs}
 use Rattle.machine_steps.specs.Steps.{item_of}
+use Rattle.machine_steps.specs.Waiting.{Waiting}
 use Rattle.machine_desk.specs.Desks.{DeskView}
 use Rattle.machine_desk.specs.Hearing.{Hears}
+use Rattle.desk_jobs.specs.declared.tending.Handed.{Handed}
+use Rattle.desk_jobs.specs.declared.tending.Handed.TheVariants.{Queued, Worked}
 use Rattle.desk_jobs.specs.Laws.{Meanwhile}
+use Rattle.desk_jobs.specs.Tending.{Done, HandsOver, Reaches, Room, Sight, at}
 use Rattle.machine_desk.specs.declared.inbound.Inbound.{Inbound}
 use Rattle.machine_desk.specs.declared.hearing.Heard.{Heard}
 use Rattle.machine_desk.specs.declared.hearing.Heard.TheVariants as heard
-use Rattle.sim_channels.specs.Answering.{Answers}
+use Rattle.worker_crew.specs.Takers.{places}
+use Rattle.sim_channels.specs.Answering.{Answers, IsWhole}
 use Rattle.sim_channels.specs.Channels.{CarriedOver, IsKept, IsSame, Tends, WorksAlone}
 use Rattle.sim_channels.specs.Waiting.{IsHeard, IsOffered, NoneWaits, StaysBut}
 use Rattle.sim_channels.specs.declared.channel.Channel.{Channel}
+use Rattle.sim_channels.specs.declared.crew.Crew.{Crew}
 use Rattle.sim_channels.specs.declared.driver.Driver.{Driver}
 use Rattle.sim_channels.specs.Hearing.{KeepsChannels}
 use Rattle.sim_channels.specs.declared.hear.Came.{Came}
@@ -48,14 +54,28 @@ abbrev pub WaitsBy : Heard → List Job → Type 0
 WaitsBy (heard.Packet item) jobs = (j : Job) × (jobs ≡ j ∷ []) × (item ≡ item_of j)
 WaitsBy rest jobs = Unit {0}
 
+-- with a crew ahead and behind, this holds of its queue's places and of what the driver knows ahead and behind
+abbrev pub BySights : (ℕ → Sight → Sight → Type 0) → DeskView → DeskView → Option Crew → Option Crew → Type 0
+BySights R a b (Some c) (Some d) = R (places c.jobs.now) (at a c.taker.now) (at b d.taker.now)
+BySights R a b c d = Unit {0}
+
+abbrev pub Beside : (ℕ → Sight → Sight → Type 0) → Driver → Driver → Type 0
+Beside R old new = BySights R old.desk new.desk old.crew new.crew
+
+-- it is in the queue, or was worked to the end
+abbrev pub IsInHand : Handed → Type 0
+IsInHand Queued = Unit {0}
+IsInHand (Worked worked) = IsWhole worked
+
 -- a packet is answered, or handed over to who works beside
-pub record Attends (old new : Driver) : Type 0 where
+pub record Attends (item : Waiting) (old new : Driver) : Type 0 where
   pub tends : Tends old new
   pub answers : WorksAlone old → Answers old.desk new.desk
+  pub hands : Beside (λ n s t. (handed : Handed) × HandsOver handed item n s t × IsInHand handed) old new
 
 -- what is done about an input
 abbrev pub Follows : Heard → Driver → Driver → Type 0
-Follows (heard.Packet item) old new = Attends old new
+Follows (heard.Packet item) old new = Attends item old new
 Follows rest old new = new ≡ old
 
 -- no packet waits, where somebody works beside
@@ -63,18 +83,21 @@ pub record AwaitsAll (old new : Driver) : Type 0 where
   pub tends : Tends old new
   pub alone : WorksAlone old → new ≡ old
   pub none : WorksAlone old ⊎ NoneWaits new.desk
+  pub asked : Beside (λ n s t. Reaches Done s t) old new
 
 -- there is room for a packet, whatever others do until it is heard
 pub record MakesRoom (old new : Driver) : Type 0 where
   pub tends : Tends old new
   pub alone : WorksAlone old → new ≡ old
   pub room : (d : DeskView) → Meanwhile new.desk d → WorksAlone old ⊎ (length d.now.jobs < most_jobs)
+  pub asked : Beside (λ n s t. Reaches Room s t) old new
 
 -- the same where a packet came
 pub record MakesRoomFor (input : Input) (old new : Driver) : Type 0 where
   pub tends : Tends old new
   pub alone : WorksAlone old → new ≡ old
   pub room : is_packet input ≡ true → (d : DeskView) → Meanwhile new.desk d → WorksAlone old ⊎ (length d.now.jobs < most_jobs)
+  pub asked : is_packet input ≡ true → Beside (λ n s t. Reaches Room s t) old new
 
 -- what is told of an input
 abbrev pub came_of : Heard → Came

@@ -32,8 +32,18 @@ impl<'h> Crew<'h> {
     ) -> Crew<'h>
         ensures jobs { result.jobs ≡ jobs.entry }
         ensures taker { (result.taker.now ≡ taker.old) × (result.taker.ghost_name ≡ taker.entry.ghost_name) }
+        ensures lobby { result.lobby ≡ lobby.entry }
     {
         Crew { jobs, taker, lobby }
+    }
+
+    /// The pass again, which is lent no longer.
+    pub fn end(self) -> &'h mut JobPass<JobItem>
+        ensures reference { result.ghost_name ≡ self.entry.taker.ghost_name }
+        ensures taker { result.now ≡ self.entry.taker.now }
+    {
+        let Crew { taker, .. } = self;
+        taker
     }
 }
 
@@ -89,7 +99,7 @@ impl<'h> Driver<'h> {
         }
     }
 
-    // A packet that waits is answered, or handed over to the workers, of whom none may have room for it.
+    // A packet that waits is answered, or handed over to the workers; where their queue is full the driver answers it.
     pub(crate) fn attend<R: Wait, G: Gate>(
         &mut self,
         rt: &R,
@@ -98,7 +108,7 @@ impl<'h> Driver<'h> {
     ) -> Result<(), Stopped>
         requires kept { IsKept self.old }
         requires waits { WorksAlone self.old → WaitsBy (Packet item) self.old.desk.now.jobs }
-        ensures attends { OnOk result (Attends self.old self.new) }
+        ensures attends { OnOk result (Attends item self.old self.new) }
         ensures same { IsSame self.old self.new }
     {
         working_laws();

@@ -1,9 +1,9 @@
 // What the driver's desk tells and does, for who runs a script.
-ghost use Rattle.std.specs.Prelude.{◌≡◌, ◌≢◌, Err, IfErr, IfOk, OnOk};
+ghost use Rattle.std.specs.Prelude.{◌≡◌, ◌≢◌, true, Err, IfErr, IfOk, OnOk};
 ghost use Rattle.machine_steps.specs.Admitting.{IsOperators};
 ghost use Rattle.machine_steps.specs.declared.entry.Entry.TheVariants as entries;
 ghost use Rattle.maple_io.specs.Views.{NoWriteFailed};
-ghost use Rattle.machine_desk.specs.Desks.{DeskLaw};
+ghost use Rattle.machine_desk.specs.Desks.{DeskLaw, HadMemory, calls_of};
 ghost use Rattle.machine_desk.specs.Orders.{Asked, Changes, Renews, Stops, StopsRenewing};
 ghost use Rattle.machine_desk.specs.Reports.{ReportsBy};
 ghost use Rattle.machine_desk.specs.declared.report.ReportStop.TheVariants as stops;
@@ -35,6 +35,13 @@ impl<'h> Driver<'h> {
         ensures { result ≡ self.now.desk.worn }
     {
         self.desk.is_worn()
+    }
+
+    /// Whether memory sufficed for all calls of the desk's own.
+    pub fn had_memory(&self) -> bool
+        ensures { result ≡ true → HadMemory (calls_of self.now.desk.past) self.now.desk.own }
+    {
+        self.desk.had_memory()
     }
 
     /// What holds of each desk.

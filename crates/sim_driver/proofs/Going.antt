@@ -31,7 +31,7 @@ use Rattle.sim_channels.specs.Channels.{bench}
 use Rattle.sim_driver.specs.declared.drive.SimEnd.{SimEnd}
 use Rattle.sim_driver.specs.declared.drive.SimEnd.TheVariants as ends
 use Rattle.sim_driver.specs.Passes.{Breaks, DeedLaws, EndsAt, Finished, IsMarked, IsReady, IsReported, IsUnreported, Passed, SameHall, end_of, untaken}
-use Rattle.sim_driver.specs.Runs.{Ends, EndsOver, EndsWith, Given, GoesOnFrom, IsBrokenOff, IsFollowed, IsRunOf, IsUnwritten, just, of_part, opened, orders, report}
+use Rattle.sim_driver.specs.Runs.{AllHadMemory, Ends, EndsOver, EndsWith, Given, GoesOnFrom, IsBrokenOff, IsFollowed, IsRunOf, IsToEnd, IsUnwritten, just, of_part, opened, orders, report}
 use Rattle.sim_driver.proofs.Parting.{Parts, Stands, part_follows, parts_follow, parts_run, parts_then}
 use Rattle.sim_driver.proofs.Taking.{bench_devices}
 
@@ -120,7 +120,7 @@ ends_whole ends.Done is g after number history text h = h
 ends_whole (ends.Script line kind) is g after number history text h = h
 ends_whole end is g after number history text h = absurd (cc)
 
-run_of : (g : Given) → Known g → (es : List Event) (b : Bench) → Runs (opened g) es b → IsRunOf g es b
+pub run_of : (g : Given) → Known g → (es : List Event) (b : Bench) → Runs (opened g) es b → IsRunOf g es b
 run_of g known es b runs = record {
   runs = runs;
   history = known.laws.history g.policy g.settings g.devices es b runs;
@@ -128,7 +128,7 @@ run_of g known es b runs = record {
   world = λ keep. known.laws.world g.policy g.settings g.devices es b known.ranges keep known.idle runs;
 }
 
-settings_stay : (m : State) (ts : List Turn) (n : State) → Steady m ts n → n.settings ≡ m.settings
+pub settings_stay : (m : State) (ts : List Turn) (n : State) → Steady m ts n → n.settings ≡ m.settings
 settings_stay m [] n same = ap (λ (x : State). x.settings) same
 settings_stay m (t ∷ ts) n (same, turn, rest) =
     settings_stay t.behind ts n rest ∙ (changes t.before t.entry t.reply t.behind turn.steps).settings ∙ ap (λ (x : State). x.settings) same
@@ -140,7 +140,7 @@ report_whole g known es b runs none =
     ∙ ap (λ (ls : List Line). taken_report es ++ flat_map spelled ls) none
     ∙ append-nil (taken_report es)
 
-report_append : (es fs : List Event) → report (es ++ fs) ≡ report es ++ report fs
+pub report_append : (es fs : List Event) → report (es ++ fs) ≡ report es ++ report fs
 report_append es fs =
     let lines : Turn → List Line = λ (t : Turn). said t.before t.entry t.behind in
     ap (λ (ts : List Turn). flat_map spelled (report_of ts)) (flat_map-append (λ (e : Event). turn_of e ∷ []) es fs)
@@ -360,9 +360,17 @@ never_begun g known after number history none old =
 
 -- a front of it was read
 pub closed : (end : SimEnd) (g : Given) (after : List Meaning) (number : ℕ) (history : List Turn) (old new : SinkView) → number ≤ length history
-    → EndsOver end g after number history old new → Ends end g after old new
-closed ends.Done g after number history old new few (text, e, wrote) = (text, (history, e), wrote)
-closed (ends.Script line kind) g after number history old new few (text, e, wrote) = (text, (history, e), wrote)
-closed ends.WriteFault g after number history old new few (text, e, wrote) = (text, (history, e), wrote)
-closed ends.NoMemory g after number history old new few (text, e, wrote) = (text, (history, e), wrote)
-closed ends.Worn g after number history old new few (text, (e, full), wrote) = (text, (history, (e, omega (arith, full, few))), wrote)
+    → (IsToEnd end → AllHadMemory history) → EndsOver end g after number history old new → Ends end g after old new
+closed end g after number history old new few memory (text, e, wrote) = (text, (history, record { ends = go end e; memory = memory }), wrote)
+  where
+    go : (end : SimEnd) → EndsWith end g after number history text → EndsWith end g after (length history) history text
+    go ends.Done e = e
+    go (ends.Script line kind) e = e
+    go ends.WriteFault e = e
+    go ends.NoMemory e = e
+    go ends.Worn (e, full) = (e, omega (arith, full, few))
+
+-- no hall was opened
+pub never_opened : (g : Given) → Known g → (after : List Meaning) (old : SinkView) → Ends ends.NoMemory g after old old
+never_opened g known after old =
+    closed ends.NoMemory g after 0 [] old old (omega arith) (λ whole. absurd whole) (never_begun g known after 0 [] refl old)

@@ -1,9 +1,11 @@
 -- One order is followed, and the report is taken and written behind it.
-use Rattle.std.specs.Prelude.{◌≡◌, ◌⊎◌, ℕ, true, List, [], Result, Ok, Err}
+use Rattle.std.specs.Prelude.{◌≡◌, ◌≢◌, ◌⊎◌, ℕ, Bool, true, false, List, [], Option, None, Result, Ok, Err}
 use Rattle.std.specs.List.{flat_map}
-use Rattle.maple_io.specs.Views.{SinkView, Wrote}
+use Rattle.maple_io.specs.Views.{NoWriteFailed, SinkView, WriteFailed, Wrote}
+use Rattle.report_text.specs.declared.line.ScriptRefusal.{ScriptRefusal}
 use Rattle.report_text.specs.Report.{spelled}
 use Rattle.device_port.specs.Devices.{Meaning}
+use Rattle.machine_steps.specs.Histories.{Turn}
 use Rattle.machine_steps.specs.Sound.{AreInRange}
 use Rattle.script_text.specs.Orders.{Order}
 use Rattle.script_text.specs.Orders.Order.{Nothing}
@@ -16,11 +18,11 @@ use Rattle.sim_steps.specs.Parts.{IsPart, IsStill}
 use Rattle.sim_steps.specs.Showing.{AllIdle}
 use Rattle.sim_laws.specs.Laws.{AgreeLaw, HistoryLaw, PastLaw, ReportLaw, WorldLaw}
 use Rattle.sim_channels.specs.declared.driver.Driver.{Driver}
-use Rattle.sim_channels.specs.Channels.{EntersNext, Fits, OthersDid, bench}
+use Rattle.sim_channels.specs.Channels.{EntersNext, Fits, IsAtStart, OthersDid, bench}
 use Rattle.sim_channels.specs.Waiting.{IsAtRest}
 use Rattle.machine_desk.specs.declared.report.ReportStop.{ReportStop}
 use Rattle.machine_desk.specs.declared.report.ReportStop.TheVariants.{Failed, NoMemory, Worn}
-use Rattle.machine_desk.specs.Desks.{DeskView, Footing}
+use Rattle.machine_desk.specs.Desks.{DeskView, Footing, HadMemory, calls_of}
 use Rattle.machine_steps.specs.declared.entry.Entry.TheVariants.{TakeReport}
 use Rattle.machine_steps.specs.declared.reply.Reply.TheVariants.{Lines}
 use Rattle.maple_io.specs.Fronts.{IsFront}
@@ -31,7 +33,10 @@ use Rattle.machine_steps.specs.Machine.{State}
 use Rattle.machine_sharing.specs.Legal.{turns_of}
 use Rattle.sim_driver.specs.declared.drive.SimEnd.{SimEnd}
 use Rattle.sim_driver.specs.declared.drive.SimEnd.TheVariants as ends
-use Rattle.sim_driver.specs.Runs.{EndsOver, Given, devices_of, given}
+use Rattle.sim_driver.specs.declared.drive.SimEnd.TheVariants.{Done, WriteFault}
+use Rattle.sim_driver.specs.Runs.{EndsOver, Given, IsAtRefused, IsToEnd, devices_of, given}
+use Rattle.worker_crew.specs.declared.gave_up.GaveUp.TheVariants as gave_up
+use Rattle.worker_crew.specs.Tasks.{Worked}
 
 -- what holds of all deeds
 pub record DeedLaws : Type 0 where
@@ -83,6 +88,12 @@ pub record IsOpened (driver : Driver) (devices : List Meaning) : Type 0 where
   pub ranges : AreInRange driver.desk.now.settings
   pub idle : AllIdle devices
 
+-- so it is at the desk, and the devices have nothing to do
+pub record IsOpenedAt (desk : DeskView) (devices : List Meaning) : Type 0 where
+  pub start : IsAtStart desk
+  pub footing : desk.footing.start ≡ desk.now
+  pub idle : AllIdle devices
+
 -- so it is of a hall that was just opened
 pub record IsOpening (k : PassView) (o : Opening) (devices : List Meaning) : Type 0 where
   pub ahead : IsAhead k o
@@ -106,9 +117,38 @@ given_at desk devices script first = given_by desk.now devices script first
 abbrev pub EndsAt : SimEnd → Given → DeskView → List Meaning → SinkView → SinkView → Type 0
 EndsAt end g desk after old new = EndsOver end g after desk.number desk.past old new
 
+-- what is known of a run by who drove it, who made the calls at these positions of a history, of which so many were read: how it ends, that memory sufficed for
+-- these calls where it came to its end, and what each end tells
+pub record Drove (end : SimEnd) (g : Given) (refused : Option (ℕ × ScriptRefusal)) (after : List Meaning) (number : ℕ) (history : List Turn) (own : List ℕ)
+    (old new : SinkView) : Type 0 where
+  pub ends : EndsOver end g after number history old new
+  pub memory : IsToEnd end → HadMemory (calls_of history) own
+  pub done : end ≡ Done → refused ≡ None
+  pub script : IsAtRefused end refused
+  pub fault : end ≡ WriteFault → WriteFailed old new
+  pub spared : end ≢ WriteFault → NoWriteFailed old new
+
+-- by what the desk knows
+abbrev pub DroveAt : SimEnd → Given → Option (ℕ × ScriptRefusal) → DeskView → List Meaning → SinkView → SinkView → Type 0
+DroveAt end g refused desk after old new = Drove end g refused after desk.number desk.past desk.own old new
+
 -- by what its pass has seen of the hall
-abbrev pub EndsByPass : SimEnd → Given → State → List Meaning → PassView → SinkView → SinkView → Type 0
-EndsByPass end g start after k old new = EndsOver end g after k.number (turns_of start k.seen) old new
+abbrev pub DroveBy : SimEnd → Given → Option (ℕ × ScriptRefusal) → State → List Meaning → PassView → SinkView → SinkView → Type 0
+DroveBy end g refused start after k old new = Drove end g refused after k.number (turns_of start k.seen) k.own old new
+
+-- how a run ends whose lines ended so, by whether memory sufficed for the calls of who drove it
+abbrev pub with_memory : SimEnd → Bool → SimEnd
+with_memory ends.Done false = ends.NoMemory
+with_memory (ends.Script line kind) false = ends.NoMemory
+with_memory end had = end
+
+-- how a run ends whose workers ended so: where the script came to its end, as the first of them that gave up
+abbrev pub joined : SimEnd → Worked → SimEnd
+joined ends.Done (Err gave_up.NoMemory) = ends.NoMemory
+joined ends.Done (Err gave_up.Worn) = ends.Worn
+joined (ends.Script line kind) (Err gave_up.NoMemory) = ends.NoMemory
+joined (ends.Script line kind) (Err gave_up.Worn) = ends.Worn
+joined end outcome = end
 
 abbrev pub end_of : ReportStop → SimEnd
 end_of Failed = ends.WriteFault

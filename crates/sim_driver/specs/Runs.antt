@@ -1,6 +1,6 @@
 -- A run of a script over devices, and how it ends.
-use Rattle.std.specs.Prelude.{◌≡◌, ◌⊎◌, ℕ, ◌^◌, ◌≤◌, map, List, [], ◌∷◌, ◌++◌, Option, Some, None, length}
-use Rattle.std.specs.List.{flat_map}
+use Rattle.std.specs.Prelude.{◌≡◌, ◌≢◌, ◌⊎◌, ℕ, ◌^◌, ◌≤◌, map, List, [], ◌∷◌, ◌++◌, Option, Some, None, length}
+use Rattle.std.specs.List.{AllByRecursion, flat_map}
 use Rattle.std.specs.declared.vec.Vec.{Vec}
 use Rattle.maple_base.specs.declared.decision.Settings.{Settings}
 use Rattle.maple_io.specs.Views.{SinkView, Wrote}
@@ -9,6 +9,7 @@ use Rattle.report_text.specs.declared.line.ScriptRefusal.{ScriptRefusal}
 use Rattle.report_text.specs.Report.{spelled}
 use Rattle.device_port.specs.Devices.{Meaning}
 use Rattle.history_lock.specs.Histories.{StartsWith}
+use Rattle.machine_steps.specs.declared.reply.Reply.TheVariants as replies
 use Rattle.machine_steps.specs.Histories.{Leads, Turn, report_of}
 use Rattle.machine_steps.specs.Machine.{State, opening}
 use Rattle.script_text.specs.Lines.{ended_lines}
@@ -26,6 +27,10 @@ use Rattle.sim_driver.specs.declared.drive.SimEnd.TheVariants.{Done, Script, Wri
 -- what devices in a vector mean, from place 1 on
 abbrev pub over : {A Alloc : Type 0} → (A → Meaning) → Vec A Alloc → List Meaning
 over meaning devices = map meaning devices.items
+
+-- the most workers
+abbrev pub most_workers : ℕ
+most_workers = 16
 
 -- what is given to a run: the policy, the settings, the devices as they are at first, and the lines of a script, of which the first has this number
 pub record Given : Type 0 where
@@ -158,9 +163,24 @@ EndsWith Worn g after number history text = IsBrokenOff g history text × IsFull
 abbrev pub EndsOver : SimEnd → Given → List Meaning → ℕ → List Turn → SinkView → SinkView → Type 0
 EndsOver end g after number history old new = (text : List ℕ) × EndsWith end g after number history text × Wrote old new text
 
--- how a run ends that wrote this text, where the machine has some history in the end
+-- memory sufficed for each turn of a history
+abbrev pub AllHadMemory : List Turn → Type 0
+AllHadMemory history = AllByRecursion (λ (t : Turn). t.reply ≢ replies.NoMemory) history
+
+-- the script came to its end, or to a line that is refused
+abbrev pub IsToEnd : SimEnd → Type 0
+IsToEnd Done = Unit {0}
+IsToEnd (Script line kind) = Unit {0}
+IsToEnd end = ⊥
+
+-- how a run ends that wrote this text, where the machine has this history in the end
+pub record EndsBy (end : SimEnd) (g : Given) (after : List Meaning) (history : List Turn) (text : List ℕ) : Type 0 where
+  pub ends : EndsWith end g after (length history) history text
+  pub memory : IsToEnd end → AllHadMemory history
+
+-- where it has some history
 abbrev pub HasEnded : SimEnd → Given → List Meaning → List ℕ → Type 0
-HasEnded end g after text = (history : List Turn) × EndsWith end g after (length history) history text
+HasEnded end g after text = (history : List Turn) × EndsBy end g after history text
 
 -- how a run ends
 abbrev pub Ends : SimEnd → Given → List Meaning → SinkView → SinkView → Type 0

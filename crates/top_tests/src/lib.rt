@@ -2,4 +2,14 @@
 #![tactic(auto)]
 
 #[cfg(test)]
+mod drawn;
+#[cfg(test)]
+mod failing;
+#[cfg(test)]
+mod held;
+#[cfg(test)]
+mod ledger;
+#[cfg(test)]
+mod running;
+#[cfg(test)]
 mod tests;

@@ -3,6 +3,7 @@ use device_port::Device;
 use maple_base::{Bytes, NoMemory, Settings, Words};
 use maple_io::{MemSink, ReadSource, WriteSink};
 use maple_top::{Status, program_device, push_idle, run_program};
+use packet_workers::Open;
 use policy_text::read_policy;
 use report_text::ScriptRefusal;
 use sim_driver::{SimEnd, run_sim};
@@ -68,6 +69,7 @@ fn refuses_the_second_line(rt: HostRuntime) -> Result<(), Fail> {
         7,
         SETTINGS,
         &mut devices,
+        &Open,
         &mut sink,
     );
     let refused = SimEnd::Script {

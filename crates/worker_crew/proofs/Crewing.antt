@@ -61,7 +61,7 @@ module _ {M E R T : Type 0} where
   module _ (makes : T → Worked → List (Event M E R) → Type 0) (allows : List (Event M E R) → E → Type 0) (drives : Known M E R → Account T → Known M E R → Account T → Type 0) where
     -- the driver alone
     pub crewed_alone : (count : ℕ) (u x : Known M E R) (v w : Account T) → count ≡ 0 → drives u v x w → Crewed makes allows drives count u v (Ok tt) x w
-    crewed_alone count u x v w none drove = record { begun = u; started = v; share = share_whole count u none; lent = lent_whole count v none; mine = x; account = w; drove = drove; toiled = toiled_none makes x w; led = λ lead. since_same allows x.seen }
+    crewed_alone count u x v w none drove = record { begun = u; started = v; share = share_whole count u none; lent = lent_whole count v none; mine = x; account = w; drove = drove; toiled = toiled_none makes x w; number = omega arith; led = λ lead. since_same allows x.seen }
 
     -- one worker more
     pub crewed_more : (count : ℕ) (u u' x y s e : Known M E R) (v v' w z t f : Account T) (o o' : Worked) → 1 ≤ count → count < v.parts → IsShareOf 1 u u' → v' ≡ less_one v → x.leads ≡ u'.leads → s.own ≡ [] → t ≡ fresh 1 → Crewed makes allows drives (count - 1) u' v' o x w → Toiled makes s t o' e f
@@ -75,5 +75,6 @@ module _ {M E R T : Type 0} where
       account = c.account;
       drove = c.drove;
       toiled = toiled_joined makes allows c.mine x y s e c.account w z t f o o' none new c.toiled b k both begins;
+      number = omega (arith, k.number, c.number);
       led = λ lead. since_then allows y.seen x.seen c.mine.seen (k.led (leads ∙ share.leads ∙ lead)) (c.led (share.leads ∙ lead));
     }

@@ -1,5 +1,5 @@
 -- What a driver and its crew did.
-use Rattle.std.specs.Prelude.{◌≡◌, ℕ, ◌+◌, max, List, ◌++◌, IsTrue}
+use Rattle.std.specs.Prelude.{◌≡◌, ◌≤◌, ℕ, ◌+◌, max, List, ◌++◌, IsTrue}
 use Rattle.history_lock.specs.declared.view.Event.{Event}
 use Rattle.history_lock.specs.declared.view.Known.{Known}
 use Rattle.history_lock.specs.Histories.{IsAllowedSince, StartsWith}
@@ -48,6 +48,7 @@ module _ {M E R T : Type 0} where
     pub account : Account T
     pub drove : drives begun started mine account
     pub toiled : Toiled makes mine account outcome x w
+    pub number : mine.number ≤ x.number
     pub led : IsTrue u.leads → IsAllowedSince allows x.seen mine.seen
 
   -- the same, of both passes before and behind

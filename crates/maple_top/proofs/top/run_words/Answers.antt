@@ -13,7 +13,7 @@ use Rattle.maple_top.proofs.Tops.{of_any, of_long, ran_as}
 use Rattle.maple_top.proofs.top.run_words.Goals as goal
 
 pub run_text-requires-clause-ranges : goal.run_text-requires-clause-ranges
-run_text-requires-clause-ranges g c = words_command c.in-Some.command c.args.words.now c.in-Some.ensures
+run_text-requires-clause-ranges g c = λ κs lives. words_command c.in-Some.command c.args.words.now c.in-Some.ensures
 
 -- ---- words that are refused
 

@@ -4,6 +4,7 @@ use Rattle.machine_steps.specs.Admitting.{Admits}
 use Rattle.machine_desk.specs.Desks.{DeskView, Enters, view_by}
 use Rattle.machine_desk.proofs.Admitted.{admitted}
 use Rattle.machine_desk.proofs.Entering.{enters, is_desk, is_marked, is_told}
+use Rattle.machine_desk.proofs.Memory.{memory_entered}
 use Rattle.machine_desk.proofs.desk.Desk.enter.Goals as goal
 
 pub call-requires-clause-admitted : goal.call-requires-clause-admitted
@@ -29,6 +30,7 @@ invariant_of-self g c =
         is_desk laws old new start worn c.args.entry c.in-Ok.reply c.self.invariant.1.0 stays.1 made c.call.ensures.leads c.if-self.false,
         record { learning_is = cc; budget_is = told.budget_is },
         is_marked laws old new start worn c.args.entry c.in-Ok.reply c.self.invariant.1.0 stays.1 made (known c.self.inside.mark.value) c.self.invariant.1.2,
+        memory_entered old new c.args.entry c.in-Ok.reply made c.self.inside.lacked c.lacks_memory.result c.lacks_memory.ensures c.self.invariant.1.3,
       ),
     )
 

@@ -1,9 +1,10 @@
-use Rattle.std.proofs.Common.{◌≡◌, ◌^◌, ◌≤◌, ◌∙◌, rules, subst, sym, true}
+use Rattle.std.proofs.Common.{◌≡◌, ◌^◌, ◌≤◌, ◌∙◌, false, rules, subst, sym, true}
 use Rattle.history_lock.specs.Passes.{hall, known}
 use Rattle.packet_workers.specs.declared.worked.Worked.TheVariants.{Worn}
 use Rattle.machine_desk.specs.Desks.{DeskView, view_by}
 use Rattle.machine_desk.specs.Working.{Works}
-use Rattle.machine_desk.proofs.AtWork.{desk_stays, full_by, is_same, is_worn, marked, told_stays, works, works_not}
+use Rattle.machine_desk.proofs.AtWork.{desk_stays, full_by, is_same, is_worn, marked, not_lacking, told_stays, works, works_not}
+use Rattle.machine_desk.proofs.Memory.{AllHad, memory_stays, rounds_had}
 use Rattle.machine_desk.proofs.desk.Desk.work.Goals as goal
 
 pub returns-then-self-clause-works : goal.returns-then-self-clause-works
@@ -24,12 +25,16 @@ invariant_of-self g c =
     let desk = c.self.invariant.1.0 in
     let done = c.work-worked.ensures.works in
     let now : c.eq-self-inside.result ≡ is_worn c.work-worked.result = c.eq-self-inside.ensures ∙ is_same c.work-worked.result in
+    let had : c.eq.result ≡ false → AllHad done.calls =
+    λ e. rounds_had c.args.item c.self.inside.budget 3 done.calls c.work-worked.result done.are (not_lacking c.work-worked.result (sym c.eq.ensures ∙ e))
+    in
     let full : c.eq-self-inside.result ≡ true → 2 ^ 62 ≤ new.number = λ e. full_by c.work-worked.result new.number done.worn (sym now ∙ e) in (
       c.work-worked.ensures.hall,
       (
         desk_stays laws old new start worn desk done.calls done.adds _ (search (rules, full)),
         told_stays laws old new start worn desk done.calls done.adds c.self.inside.learning c.self.inside.budget c.self.invariant.1.1,
         marked laws old new start worn desk done.calls done.adds (known c.self.inside.mark.value) c.self.invariant.1.2,
+        memory_stays old new done.calls done.adds.did c.self.inside.lacked c.eq.result had c.self.invariant.1.3,
       ),
     )
 

@@ -1,5 +1,5 @@
-use Rattle.std.proofs.Common.{Ok, Err}
-use Rattle.std.specs.Prelude.{OnOk, Result}
+use Rattle.std.proofs.Common.{Ok, Err, ap}
+use Rattle.std.specs.Prelude.{OnOk, Result, is_some}
 use Rattle.sim_channels.specs.declared.stopped.Stopped.{Stopped}
 use Rattle.sim_channels.specs.Answering.{IsWhole}
 use Rattle.sim_channels.specs.Passes.{Attends}
@@ -13,8 +13,8 @@ returns-in-None-clause-attends g c = go c.answered.result c.answered.ensures
     old : Driver
     old = c.args.self.now
 
-    go : (r : Result (Unit {0}) Stopped) → OnOk r (IsWhole c.work.result) → OnOk r (Attends old (record old { desk = c.work.new.self }))
+    go : (r : Result (Unit {0}) Stopped) → OnOk r (IsWhole c.work.result) → OnOk r (Attends c.args.item old (record old { desk = c.work.new.self }))
     go (Err stopped) whole = tt
     go (Ok done) whole =
-        worked_alone old c.work.new.self c.args.item c.work.result c.working_laws.ensures.plain c.working_laws.ensures.close c.requires.kept c.work.ensures.footing c.requires.waits
+        worked_alone old c.work.new.self c.args.item c.work.result c.working_laws.ensures.plain c.working_laws.ensures.close c.requires.kept (ap is_some c.in-None.is) c.work.ensures.footing c.requires.waits
         c.work.ensures.works whole

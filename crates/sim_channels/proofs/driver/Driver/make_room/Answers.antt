@@ -12,14 +12,14 @@ returns-in_err-make_room-in-Some-clause-same g c =
     let old = c.args.self.now in
     let e = c.in_err-make_room-in-Some.ensures in
     let same = parts_stopped Room c.in_err-make_room-in-Some.field-0.0 (at old.desk c.in-Some.crew.taker.now) (at c.make_room.new.desk c.make_room.new.taker) e.broken in
-    record { footing = e.footing; crew = crew_still old.crew c.in-Some.crew _ c.in-Some.is refl refl e.taker same }
+    record { footing = e.footing; crew = crew_still old.crew c.in-Some.crew _ c.in-Some.is refl refl refl e.taker same }
 
 pub returns-in_ok-make_room-in-Some-clause-same : goal.returns-in_ok-make_room-in-Some-clause-same
 returns-in_ok-make_room-in-Some-clause-same g c =
     let old = c.args.self.now in
     let e = c.in_ok-make_room-in-Some.ensures in
     let same = parts_reached Room (at old.desk c.in-Some.crew.taker.now) (at c.make_room.new.desk c.make_room.new.taker) e.room in
-    record { footing = e.footing; crew = crew_still old.crew c.in-Some.crew _ c.in-Some.is refl refl e.taker same }
+    record { footing = e.footing; crew = crew_still old.crew c.in-Some.crew _ c.in-Some.is refl refl refl e.taker same }
 
 pub returns-in_ok-make_room-in-Some-clause-room : goal.returns-in_ok-make_room-in-Some-clause-room
 returns-in_ok-make_room-in-Some-clause-room g c =
@@ -27,4 +27,4 @@ returns-in_ok-make_room-in-Some-clause-room g c =
     let e = c.in_ok-make_room-in-Some.ensures in
     let same = parts_reached Room (at old.desk c.in-Some.crew.taker.now) (at c.make_room.new.desk c.make_room.new.taker) e.room in
     room_by c.driving_laws.ensures c.tending_laws.ensures.allowed old c.make_room.new.desk c.in-Some.crew _ c.requires.kept c.in-Some.is
-    (crew_still old.crew c.in-Some.crew _ c.in-Some.is refl refl e.taker same) e.footing c.tending_laws.ensures.room e.room
+    (crew_still old.crew c.in-Some.crew _ c.in-Some.is refl refl refl e.taker same) e.footing c.tending_laws.ensures.room e.room

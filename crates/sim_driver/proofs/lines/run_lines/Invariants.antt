@@ -3,7 +3,7 @@ use Rattle.script_text.specs.Lines.{ended_lines}
 use Rattle.sim_channels.specs.Channels.{SameCrew}
 use Rattle.sim_driver.specs.Passes.{IsReady, SameHall, given_at}
 use Rattle.sim_driver.proofs.Going.{Went}
-use Rattle.sim_driver.proofs.drive.run_lines.Given as goal
+use Rattle.sim_driver.proofs.lines.run_lines.Given as goal
 
 -- the orders ahead of the lines that are left were followed, and their report was written; the lines that are left have numbers
 abbrev pub invariant-loop-rest : goal.invariant-loop-rest
