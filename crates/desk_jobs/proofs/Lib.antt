@@ -1,2 +1,3 @@
 pub mod Meanwhile
+pub mod Parting
 pub mod Rounding

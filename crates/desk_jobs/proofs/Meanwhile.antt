@@ -23,7 +23,7 @@ use Rattle.desk_jobs.specs.declared.tending.Broken.TheVariants.{Own, Worker}
 use Rattle.desk_jobs.specs.declared.tending.Handed.{Handed}
 use Rattle.desk_jobs.specs.declared.tending.Handed.TheVariants.{Queued, Worked as WorkedAtOnce}
 use Rattle.desk_jobs.specs.Laws.{Meanwhile, TendingIsAllowed}
-use Rattle.desk_jobs.specs.Tending.{Done, FailsToAsk, FailsToWork, GoesOn, HandsOver, Reaches, Room, Round, Rounds, Sight, Stops, TakesAndWorks, Until, is_reached}
+use Rattle.desk_jobs.specs.Tending.{Done, FailsToAsk, FailsToWork, GoesOn, HandsOver, Reaches, Room, Round, Rounds, Sight, Stops, StopsAsleep, TakesAndWorks, Until, is_reached}
 
 -- ---- one behind the other
 
@@ -103,10 +103,14 @@ module _ (until : Until) where
   fails cause s t (inr f) =
       then_more s.desk f.asked.desk t.desk (asked f.asks.count s.desk f.asked.desk f.asks.asks.enters) (worked f.works.makes.item f.works.worked f.asked.desk t.desk f.works.makes.works)
 
+  asleep : (s t : Sight) → StopsAsleep until s t → Meanwhile s.desk t.desk
+  asleep s t r =
+      then_more s.desk r.before.desk t.desk (rounds r.tends.behind s r.before r.tends.rounds) (asked r.asks.count r.before.desk t.desk r.asks.asks.enters)
+
   stops : (why : Broken) (s t : Sight) → Stops until why s t → Meanwhile s.desk t.desk
   stops (Own cause) s t r = then_more s.desk r.before.desk t.desk (rounds r.tends.behind s r.before r.tends.rounds) (fails cause r.before t r.fails)
-  stops (Worker cause) s t r =
-      then_more s.desk r.before.desk t.desk (rounds r.tends.behind s r.before r.tends.rounds) (asked r.asks.count r.before.desk t.desk r.asks.asks.enters)
+  stops (Worker gave_up.NoMemory) s t r = asleep s t r
+  stops (Worker gave_up.Worn) s t (m, r, count, asks) = then_more s.desk m.desk t.desk (asleep s m r) (asked count m.desk t.desk asks.enters)
 
 hands : (handed : Handed) (item : Waiting) (places : ℕ) (s t : Sight) → HandsOver handed item places s t → Meanwhile s.desk t.desk
 hands Queued item places s t (offers, same) = subst (λ (d : DeskView). Meanwhile s.desk d) (sym same) (still s.desk)

@@ -5,10 +5,12 @@ use Rattle.machine_steps.specs.declared.entry.Entry.TheVariants.{OpenJobs}
 use Rattle.machine_steps.specs.declared.reply.Reply.TheVariants.{Count}
 use Rattle.machine_steps.specs.Waiting.{Waiting}
 use Rattle.worker_crew.specs.declared.gave_up.GaveUp.{GaveUp}
-use Rattle.worker_crew.specs.declared.gave_up.GaveUp.TheVariants.{Worn}
+use Rattle.worker_crew.specs.declared.gave_up.GaveUp.TheVariants.{NoMemory, Worn}
 use Rattle.worker_crew.specs.declared.rule.Account.{Account}
 use Rattle.machine_desk.specs.Desks.{DeskView, Enters, WearsOut}
-use Rattle.desk_jobs.specs.Tending.{AsksInVain, Done, GoesOn, MaySleep, Reaches, Room, Round, Rounds, Sight, StopsAsleep, StopsBy, Tends, Until, WorksSo, is_reached}
+use Rattle.desk_jobs.specs.declared.tending.Broken.{Broken}
+use Rattle.desk_jobs.specs.declared.tending.Broken.TheVariants.{Own, Worker}
+use Rattle.desk_jobs.specs.Tending.{AsksInVain, BreaksBy, Done, GoesOn, MaySleep, Reaches, Room, Round, Rounds, Sight, Stops, StopsAsleep, StopsBeside, StopsBy, Tends, Until, WorksSo, is_reached}
 
 -- who waits till none does may sleep wherever who waits for room may
 pub sleeps_too : (r : Result Bool GaveUp) (s t : Sight) → IfOk r (λ works. GoesOn Room works s t) → IfOk r (λ works. GoesOn Done works s t)
@@ -58,9 +60,23 @@ module _ (until : Until) where
       pub fails_then : (t : Sight) (cause : GaveUp) → WorksSo (Err cause) (record { desk = b; queue = q }) t → StopsBy until cause s t
       fails_then t cause fails = record { before = before; tends = tends; fails = inr (record { asked = asked; asks = vain; works = fails }) }
 
-      pub asleep_then : (t : Sight) → t ≡ record { desk = b; queue = q } → MaySleep until q → StopsAsleep until s t
+      asleep_then : (t : Sight) → t ≡ record { desk = b; queue = q } → MaySleep until q → StopsAsleep until s t
       asleep_then t same may =
           let P : Sight → Type 0 = λ x. StopsAsleep until s x in
           subst P (sym same) (record { before = before; tends = tends; asks = vain; sleeps = may })
 
-pub ruleset tending = (tends_not, reaches_so, wears_out, works_then, sleeps_then, fails_then, asleep_then)
+      -- it slept, and was told that a worker gave up
+      pub told_then : (t : Sight) → t ≡ record { desk = b; queue = q } → MaySleep until q → (cause : GaveUp) (why : Broken) (d : DeskView) → BreaksBy cause why t.desk d
+          → Stops until why s (record { desk = d; queue = t.queue })
+      told_then t same may NoMemory why d (is, still) =
+          let P : DeskView → Type 0 = λ x. StopsAsleep until s (record { desk = x; queue = t.queue }) in
+          let Q : Broken → Type 0 = λ x. Stops until x s (record { desk = d; queue = t.queue }) in
+          subst Q (sym is) (subst P (sym still) (asleep_then t same may))
+      told_then t same may Worn (Own cause) d (is, wears) =
+          let P : GaveUp → Type 0 = λ x. StopsBy until x s (record { desk = d; queue = t.queue }) in
+          subst P (sym is) (record { before = t; tends = sleeps_then t same may; fails = inl (wears, refl) })
+      told_then t same may Worn (Worker cause) d (is, more, asks) =
+          let P : GaveUp → Type 0 = λ x. StopsBeside until x s (record { desk = d; queue = t.queue }) in
+          subst P (sym is) (t, asleep_then t same may, more, record { enters = asks; queue = refl })
+
+pub ruleset tending = (tends_not, reaches_so, wears_out, works_then, sleeps_then, fails_then, told_then)

@@ -3,5 +3,7 @@ pub mod AtWork
 pub mod Entering
 pub mod Memory
 pub mod Rounds
+pub mod Staged
+pub mod Staying
 pub mod Told
 pub mod Turning

@@ -13,7 +13,7 @@ use Rattle.machine_sharing.specs.Sharing.{Allows, Call, Turns}
 use Rattle.packet_workers.specs.declared.worked.Worked.{Worked}
 use Rattle.packet_workers.specs.declared.worked.Worked.TheVariants as how
 use Rattle.packet_workers.specs.Rounds.{Rounds}
-use Rattle.packet_workers.proofs.Passing.{get_more}
+use Rattle.packet_workers.proofs.Passing.{all_append, all_more}
 use Rattle.machine_desk.specs.Desks.{HadMemory, IsMemoryTold}
 use Rattle.machine_desk.specs.Working.{IsPlainCall}
 use Rattle.machine_desk.proofs.Rounds.{rounds_plain}
@@ -37,20 +37,14 @@ had_append : (xs ys : List Call) → AllHad xs → AllHad ys → AllHad (xs ++ y
 had_append [] ys h k = k
 had_append (x ∷ xs) ys (one, h) k = (one, had_append xs ys h k)
 
--- calls stand where they stood, and others behind them
-at_append : (seen more : List Call) (ps qs : List ℕ) (cs ds : List Call) → AllAt seen ps cs → AllAt (seen ++ more) qs ds → AllAt (seen ++ more) (ps ++ qs) (cs ++ ds)
-at_append seen more [] qs [] ds a b = b
-at_append seen more [] qs (c ∷ cs) ds a b = absurd a
-at_append seen more (p ∷ ps) qs [] ds a b = absurd a
-at_append seen more (p ∷ ps) qs (c ∷ cs) ds (h, a) b = (get_more seen more p c h, at_append seen more ps qs cs ds a b)
-
 module _ (old new : Known State Entry Reply) where
   had_more : (calls : List Call) → Did old calls new → AllHad calls → HadMemory old.seen old.own → HadMemory new.seen new.own
   had_more calls did all had =
       let P : List Call → Type 0 = λ x. AllAt x did.positions calls in
       let Q : List Call → Type 0 = λ x. AllAt x (old.own ++ did.positions) (had.calls ++ calls) in
       let R : List ℕ → Type 0 = λ ps. AllAt new.seen ps (had.calls ++ calls) in
-      let at = at_append old.seen did.later.0 old.own did.positions had.calls calls had.at (subst P did.later.1 did.at) in
+      let seen = old.seen ++ did.later.0 in
+      let at = all_append seen old.own did.positions had.calls calls (all_more old.seen did.later.0 old.own had.calls had.at) (subst P did.later.1 did.at) in
       record { calls = had.calls ++ calls; at = subst R (sym did.own) (subst Q (sym did.later.1) at); memory = had_append had.calls calls had.memory all }
 
   -- what the desk has of its memory behind calls, by whether it ran out in them

@@ -1,8 +1,9 @@
 // What holds of the machine and its histories, for the desk.
-ghost use Rattle.machine_desk.specs.Driving.{DeskLaws};
+ghost use Rattle.machine_desk.specs.Driving.{DeskLaws, StagingLaws};
+ghost use Rattle.machine_desk.specs.Hearing.{StagesStay};
 ghost use Rattle.machine_desk.specs.Working.{RoundsArePlain, RoundsClose};
 
-use machine_moves::reply_laws;
+use machine_moves::{growth_laws, reply_laws};
 use machine_sharing::{between_laws, legal_laws, longer_laws};
 
 /// What others leave as it is, which histories are legal, and what a reply tells of the policy.
@@ -20,3 +21,19 @@ pub fn working_laws()
     ensures plain { RoundsArePlain }
     ensures close { RoundsClose }
 {}
+
+/// How a session stands, others leave as it is.
+pub fn hearing_laws()
+    ensures stay { StagesStay }
+{
+    growth_laws();
+}
+
+// Which sessions an entry opens and ends.
+pub(crate) fn staging_laws()
+    ensures { StagingLaws }
+{
+    growth_laws();
+    legal_laws();
+    reply_laws();
+}

@@ -16,7 +16,6 @@ use Rattle.sim_channels.specs.declared.driver.Driver.{Driver}
 use Rattle.sim_channels.specs.Channels.{Fits, IsKept, bench}
 use Rattle.sim_channels.specs.Driving.{DrivingLaws}
 use Rattle.sim_channels.specs.Waiting.{IsAtRest, IsDone}
-use Rattle.sim_channels.proofs.Others.{ahead, others_ahead, tends_kept, tends_of}
 use Rattle.sim_channels.proofs.Resting.{rest_is_calm, rest_is_still}
 use Rattle.sim_turns.specs.Turning.{IsAsked}
 use Rattle.sim_turns.proofs.Entered.{asked_over}
@@ -29,19 +28,13 @@ obeyed_then o entry reply a b asked obeys e after carried kept rest =
     obeyed o (asked.event ∷ []) a (bench e after) (carried_behind (asked.event ∷ []) [] a b (bench e after) asked.stretch carried)
     (obeys (asked.event ∷ []) (asked.event, reply, refl, asked.deed)) (rest_is_calm e after kept rest) (rest_is_still e after kept rest)
 
-module _ (laws : DrivingLaws) (d : Driver) (entry : Entry) (reply : Reply) (desk : DeskView) (kept : IsKept d) (enters : Enters d.desk entry reply desk) where
-  -- behind what others did ahead of it
-  pub kept_ahead : IsKept (ahead d entry reply desk kept enters)
-  kept_ahead =
-      let m = ahead d entry reply desk kept enters in
-      tends_kept laws d m kept (tends_of d m (others_ahead d entry reply desk kept enters))
-
-  -- where only what no bench shows changes behind it
-  pub asks_for : (e : Driver) → ((devices : List Meaning) → bench e devices ≡ bench (record d { desk = desk }) devices) → IsAtRest d → asks entry ≡ true
-      → (tells_settling (EntersBy entry reply) ≡ true → IsDone d) → lacks_memory reply ≡ false
-      → ((devices : List Meaning) → Fits d devices → MayEnter entry (bench d devices)) → AsksFor entry d e
-  asks_for e shows rest asked settled memory may devices fits = (
-    reply,
-    subst (λ (b : Bench). IsAsked entry reply (bench d devices) b) (sym (shows devices))
-        (asked_over laws entry reply d (record d { desk = desk }) kept enters refl devices rest asked settled memory (may devices fits)),
-  )
+-- where only what no bench shows changes behind it
+pub asks_for : (laws : DrivingLaws) (d : Driver) (entry : Entry) (reply : Reply) (desk : DeskView) (kept : IsKept d) → Enters d.desk entry reply desk → (e : Driver)
+    → ((devices : List Meaning) → bench e devices ≡ bench (record d { desk = desk }) devices) → IsAtRest d → asks entry ≡ true
+    → (tells_settling (EntersBy entry reply) ≡ true → IsDone d) → lacks_memory reply ≡ false
+    → ((devices : List Meaning) → Fits d devices → MayEnter entry (bench d devices)) → AsksFor entry d e
+asks_for laws d entry reply desk kept enters e shows rest asked settled memory may devices fits = (
+  reply,
+  subst (λ (b : Bench). IsAsked entry reply (bench d devices) b) (sym (shows devices))
+      (asked_over laws entry reply d (record d { desk = desk }) kept enters refl devices rest asked settled memory (may devices fits)),
+)

@@ -1,5 +1,6 @@
 -- Workers' passes are joined into the driver's: how a run ends that was beside them.
-use Rattle.std.proofs.Common.{◌≡◌, ℕ, ◌^◌, ◌≤◌, Bool, true, false, List, [], ◌∷◌, ◌++◌, append-nil, append_assoc, length, refl, sym, ap, ◌∙◌, subst, inl, inr, arith}
+use Rattle.std.proofs.Common.{◌≡◌, ℕ, ◌^◌, ◌≤◌, Bool, true, false, List, [], ◌∷◌, ◌++◌, append-nil, append_assoc, length, refl, sym, ap, ◌∙◌, subst, inl, inr}
+use Rattle.std.proofs.Common.{arith}
 use Rattle.std.specs.Prelude.{◌≢◌, Option, Some, None, Ok, Err, is_some}
 use Rattle.maple_io.specs.Views.{NoWriteFailed, SinkView, WriteFailed}
 use Rattle.report_text.specs.declared.line.ScriptRefusal.{ScriptRefusal}
@@ -35,7 +36,8 @@ use Rattle.sim_steps.proofs.Silent.{beside_along}
 use Rattle.sim_driver.specs.declared.drive.SimEnd.{SimEnd}
 use Rattle.sim_driver.specs.declared.drive.SimEnd.TheVariants as ends
 use Rattle.sim_driver.specs.Passes.{DroveAt, DroveBy, EndsAt, joined, untaken, with_memory}
-use Rattle.sim_driver.specs.Runs.{AllHadMemory, Ends, EndsWith, Given, IsAtRefused, IsBrokenOff, IsFollowed, IsFull, IsRunOf, IsToEnd, IsUnwritten, just, of_part, opened, orders, report}
+use Rattle.sim_driver.specs.Runs.{AllHadMemory, Ends, EndsWith, Given, IsAtRefused, IsBrokenOff, IsFollowed, IsFull, IsRunOf, IsToEnd, IsUnwritten, just}
+use Rattle.sim_driver.specs.Runs.{of_part, opened, orders, report}
 use Rattle.sim_driver.proofs.Going.{Known, report_append, run_of, settings_stay}
 use Rattle.sim_driver.proofs.Memory.{had_at_all, had_joined}
 use Rattle.sim_driver.proofs.Parting.{Stands, part_longer}
@@ -57,29 +59,12 @@ module _ (refused : Option (ℕ × ScriptRefusal)) (old new : SinkView) where
   told_short : NoWriteFailed old new → Told ends.NoMemory refused old new
   told_short spared = record { done = λ e. absurd (cc); script = tt; fault = λ e. absurd (cc); spared = λ n. spared }
 
-  told_worn : NoWriteFailed old new → Told ends.Worn refused old new
-  told_worn spared = record { done = λ e. absurd (cc); script = tt; fault = λ e. absurd (cc); spared = λ n. spared }
-
-  pub told_joined : (end : SimEnd) (outcome : Worked) → Told end refused old new → Told (joined end outcome) refused old new
-  told_joined ends.Done (Ok done) told = told
-  told_joined ends.Done (Err gave_up.NoMemory) told = told_short (spared_whole ends.Done tt told)
-  told_joined ends.Done (Err gave_up.Worn) told = told_worn (spared_whole ends.Done tt told)
-  told_joined (ends.Script line kind) (Ok done) told = told
-  told_joined (ends.Script line kind) (Err gave_up.NoMemory) told = told_short (spared_whole (ends.Script line kind) tt told)
-  told_joined (ends.Script line kind) (Err gave_up.Worn) told = told_worn (spared_whole (ends.Script line kind) tt told)
-  told_joined end outcome told = told
-
   pub told_memory : (end : SimEnd) (had : Bool) → Told end refused old new → Told (with_memory end had) refused old new
   told_memory ends.Done true told = told
   told_memory ends.Done false told = told_short (spared_whole ends.Done tt told)
   told_memory (ends.Script line kind) true told = told
   told_memory (ends.Script line kind) false told = told_short (spared_whole (ends.Script line kind) tt told)
   told_memory end had told = told
-
-pub joined_told : (end : SimEnd) (outcome : Worked) (g : Given) (refused : Option (ℕ × ScriptRefusal)) (start : State) (mine : PassView)
-    (after : List Meaning) (old new : SinkView) → DroveBy end g refused start after mine old new → Told (joined end outcome) refused old new
-joined_told end outcome g refused start mine after old new drove =
-    told_joined refused old new end outcome (record { done = drove.done; script = drove.script; fault = drove.fault; spared = drove.spared })
 
 -- ---- where memory ran out
 
@@ -100,7 +85,8 @@ short_of g after history text h = record {
 
 -- at the desk
 pub with_memory_drove : (end : SimEnd) (had : Bool) (g : Given) (refused : Option (ℕ × ScriptRefusal)) (desk : DeskView)
-    (after : List Meaning) (old new : SinkView) → EndsAt end g desk after old new → Told end refused old new → (had ≡ true → HadMemory (calls_of desk.past) desk.own)
+    (after : List Meaning) (old new : SinkView) → EndsAt end g desk after old new → Told end refused old new
+    → (had ≡ true → HadMemory (calls_of desk.past) desk.own)
     → DroveAt (with_memory end had) g refused desk after old new
 with_memory_drove end had g refused desk after old new (text, e, wrote) told memory =
     let is = told_memory refused old new end had told in
@@ -148,7 +134,8 @@ both_some None (Some t) h = absurd h
 both_some (Some s) None h = absurd h
 
 module _ (calls : CallsAreTurns) (nothing : NothingChanges) (stays : MostStays) (g : Given) (known : Known g) (start : State)
-    (is : start ≡ opening g.policy g.settings) (beside : IsSolo start → ⊥) (seen rest : List Call) (m : State) (all : Replays Turns start (seen ++ rest) m) (allowed : AreAllowed Allows seen rest) where
+    (is : start ≡ opening g.policy g.settings) (beside : IsSolo start → ⊥) (seen rest : List Call) (m : State) (all : Replays Turns start (seen ++ rest) m)
+    (allowed : AreAllowed Allows seen rest) where
   -- the machine behind what the driver had seen
   abbrev mid : State
   mid = state_behind start seen
@@ -354,11 +341,13 @@ long_enough start x seen rest n is few = let a = ap length is in let b = turns_l
 
 pub joined_ends : (calls : CallsAreTurns) (nothing : NothingChanges) (stays : MostStays) (end : SimEnd) (outcome : Worked) (g : Given) → Known g
     → (refused : Option (ℕ × ScriptRefusal)) (start : State) → start ≡ opening g.policy g.settings → (IsSolo start → ⊥)
-    → (budget : ℕ) (mine x : PassView) (account w : Account Waiting) (after : List Meaning) (old new : SinkView) → DroveBy end g refused start after mine old new
+    → (budget : ℕ) (mine x : PassView) (account w : Account Waiting) (after : List Meaning) (old new : SinkView)
+    → DroveBy end g refused start after mine old new
     → Toiled (λ item told made. Makes budget item told made) mine account outcome x w → mine.number ≤ x.number → x.number ≤ length x.seen
     → IsAllowedSince Allows x.seen mine.seen → HasSeenLegal Turns x → x.opening ≡ Some start → AreAllPositions (length x.seen) x.own
     → Ends (joined end outcome) g after old new
-joined_ends calls nothing stays end outcome g known refused start is beside budget mine x account w after old new drove toiled number few since legal opens all =
+joined_ends calls nothing stays end outcome g known refused start is beside budget mine x account w after old new drove toiled number few since legal opens
+    all =
     let rest = since.0 in (
       drove.ends.0,
       (

@@ -25,18 +25,24 @@ use Rattle.sim_driver.proofs.Doing.{if_plugged}
 
 -- ---- and the device is left where it failed
 
-module _ (laws : DrivingLaws) (d : Driver) (before : List Meaning) (m : Driver) (mid : List Meaning) (at port : ℕ) (frame : List ℕ) (fits : Fits d before) (rest : IsAtRest d) (failed : Bool)
+module _ (laws : DrivingLaws) (d : Driver) (before : List Meaning) (m : Driver) (mid : List Meaning) (at port : ℕ) (frame : List ℕ) (fits : Fits d before)
+    (rest : IsAtRest d) (failed : Bool)
     (h : IsCalled at port frame failed d before m mid) where
   abbrev event : Event
   event = called (at + 1) (Looking port frame h.called.seen h.called.bytes) h.called.reply (bench h.ahead before) (bench m mid)
 
   drained : IsDrained event
-  drained = rest_is_drained h.ahead before (tends_kept laws d h.ahead fits.kept (tends_of d h.ahead h.others)) (others_rest laws d h.ahead fits.kept h.others rest) false (λ is. absurd (cc))
+  drained =
+      rest_is_drained h.ahead before (tends_kept laws d h.ahead fits.kept (tends_of d h.ahead h.others)) (others_rest laws d h.ahead fits.kept h.others rest)
+      false (λ is. absurd (cc))
 
-  looked : (e : Driver) (after : List Meaning) → Stretch (event ∷ []) [] (bench h.ahead before) (bench e after) → Looked (at + 1) port frame (bench d before) (bench e after)
+  looked : (e : Driver) (after : List Meaning) → Stretch (event ∷ []) [] (bench h.ahead before) (bench e after)
+      → Looked (at + 1) port frame (bench d before) (bench e after)
   looked e after stretch = record {
     event = event;
-    stretch = carried_ahead (event ∷ []) [] (bench d before) (bench h.ahead before) (bench e after) (others_carried laws d h.ahead fits.kept h.others before (sym fits.places)) stretch;
+    stretch =
+        carried_ahead (event ∷ []) [] (bench d before) (bench h.ahead before) (bench e after)
+        (others_carried laws d h.ahead fits.kept h.others before (sym fits.places)) stretch;
     before = others_aside laws d h.ahead fits.kept h.others before;
     seen = h.called.seen;
     bytes = h.called.bytes;
@@ -47,16 +53,20 @@ module _ (laws : DrivingLaws) (d : Driver) (before : List Meaning) (m : Driver) 
   pub looked_whole : failed ≡ false → Looked (at + 1) port frame (bench d before) (bench m mid)
   looked_whole is =
       looked m mid
-      (stretch_call (at + 1) (Looking port frame h.called.seen h.called.bytes) h.called.reply (bench h.ahead before) (bench m mid) refl drained (h.called.failed_is ∙ is) h.called.memory h.called.calls)
+      (stretch_call (at + 1) (Looking port frame h.called.seen h.called.bytes) h.called.reply (bench h.ahead before) (bench m mid) refl drained
+      (h.called.failed_is ∙ is) h.called.memory h.called.calls)
 
   pub looked_failed : (e : Driver) → Leaves at m e → failed ≡ true → Looked (at + 1) port frame (bench d before) (bench e mid)
   looked_failed e left is =
       looked e mid
-      (stretch_failed (at + 1) (Looking port frame h.called.seen h.called.bytes) h.called.reply (bench h.ahead before) (bench m mid) left.reply (bench left.ahead mid) (bench e mid)
-      (others_beside laws m left.ahead h.fits.kept left.others mid) refl drained (h.called.failed_is ∙ is) h.called.memory left.memory h.called.calls (left.enters mid (sym h.fits.places)))
+      (stretch_failed (at + 1) (Looking port frame h.called.seen h.called.bytes) h.called.reply (bench h.ahead before) (bench m mid) left.reply
+      (bench left.ahead mid) (bench e mid)
+      (others_beside laws m left.ahead h.fits.kept left.others mid) refl drained (h.called.failed_is ∙ is) h.called.memory left.memory h.called.calls
+      (left.enters mid (sym h.fits.places)))
 
 pub fits_left : (m e : Driver) (at : ℕ) (devices : List Meaning) → Leaves at m e → Fits m devices → Fits e devices
-fits_left m e at devices left fits = fits_but m e at devices left.kept (record { count = left.places; others = left.spares.others.channels; waiting = left.waiting }) fits
+fits_left m e at devices left fits =
+    fits_but m e at devices left.kept (record { count = left.places; others = left.spares.others.channels; waiting = left.waiting }) fits
 
 pub rest_left_but : (laws : DrivingLaws) (m e : Driver) (at : ℕ) → IsKept m → Leaves at m e → IsAtRestBut at m → IsAtRestBut at e
 rest_left_but laws m e at kept left rest = record {
@@ -67,7 +77,8 @@ rest_left_but laws m e at kept left rest = record {
         jobs = left.spares.jobs was.jobs;
         taken = λ i. by_index i at (λ same. subst (λ j. IsTaken j e) (sym same) (all_left _ at e left.left))
             (λ other.
-            taken_still laws m e i kept left.kept (left.spares.others.sessions (inl before) (i + 1) (λ f. other (omega (arith, f)))) (left.spares.others.channels i other) (was.taken i));
+            taken_still laws m e i kept left.kept (left.spares.others.sessions (inl before) (i + 1) (λ f. other (omega (arith, f))))
+            (left.spares.others.channels i other) (was.taken i));
       });
   offered = λ i. by_index i at (λ same. subst (λ j. IsOffered j e) (sym same) (all_left _ at e left.left))
       (λ other. while_still _ i m e (left.spares.others.channels i other) (rest.offered i));
@@ -76,10 +87,13 @@ rest_left_but laws m e at kept left rest = record {
 
 -- ---- and what that brings about was done
 
-pub obeyed_looked : (d : Driver) (before : List Meaning) (m : Driver) (mid : List Meaning) (e : Driver) (after : List Meaning) (c at port : ℕ) (frame : List ℕ) → c ≡ at + 1 → is_plugged c d.desk.now ≡ true
-    → Looked (at + 1) port frame (bench d before) (bench m mid) → Carried (bench m mid) (bench e after) → IsKept e → IsAtRest e → Obeyed (Arrival c port frame) (bench d before) (bench e after)
+pub obeyed_looked : (d : Driver) (before : List Meaning) (m : Driver) (mid : List Meaning) (e : Driver) (after : List Meaning) (c at port : ℕ) (frame : List ℕ)
+    → c ≡ at + 1 → is_plugged c d.desk.now ≡ true
+    → Looked (at + 1) port frame (bench d before) (bench m mid) → Carried (bench m mid) (bench e after) → IsKept e → IsAtRest e
+    → Obeyed (Arrival c port frame) (bench d before) (bench e after)
 obeyed_looked d before m mid e after c at port frame place plugged looked carried kept rest =
     let one : Looked c port frame (bench d before) (bench m mid) = subst (λ n. Looked n port frame (bench d before) (bench m mid)) (sym place) looked in
-    obeyed (Arrival c port frame) (one.event ∷ []) (bench d before) (bench e after) (carried_behind (one.event ∷ []) [] (bench d before) (bench m mid) (bench e after) one.stretch carried)
+    obeyed (Arrival c port frame) (one.event ∷ []) (bench d before) (bench e after)
+    (carried_behind (one.event ∷ []) [] (bench d before) (bench m mid) (bench e after) one.stretch carried)
     (if_plugged c d.desk.now (one.event ∷ []) (JustLooks c port frame (one.event ∷ [])) plugged (one.event, one.seen, one.bytes, one.reply, refl, one.deed))
     (rest_is_calm e after kept rest) (rest_is_still e after kept rest)

@@ -1,6 +1,7 @@
 -- What is done of an order, and what that brings about, is the order's part.
-use Rattle.std.proofs.Common.{◌≡◌, ℕ, ◌+◌, true, false, List, refl, sym, ◌∙◌, subst, inl, inr}
-use Rattle.std.specs.Prelude.{Result, Ok, Err, OnOk}
+use Rattle.std.proofs.Common.{◌≡◌, ℕ, ◌+◌, true, false, List, refl, sym, ap, ◌∙◌, subst, inl, inr}
+use Rattle.std.specs.Prelude.{Result, Ok, Err, OnOk, Some}
+use Rattle.std.specs.List.{slice_get}
 use Rattle.device_port.specs.Devices.{Meaning}
 use Rattle.machine_steps.specs.declared.entry.Entry.{Entry}
 use Rattle.machine_steps.specs.declared.entry.Entry.TheVariants as entries
@@ -16,10 +17,13 @@ use Rattle.sim_steps.specs.Stretches.{Carried, Obeyed}
 use Rattle.sim_steps.proofs.Joining.{carried_none}
 use Rattle.machine_desk.specs.declared.inbound.Stage.{Stage}
 use Rattle.machine_desk.specs.declared.inbound.Stage.TheVariants.{Live}
+use Rattle.sim_channels.specs.declared.channel.Channel.{Channel}
 use Rattle.sim_channels.specs.declared.driver.Driver.{Driver}
-use Rattle.sim_channels.specs.Channels.{Fits, IsKept, IsStaged, bench, is_plugged_in}
+use Rattle.machine_desk.specs.Hearing.{is_live, was_begun}
+use Rattle.sim_channels.specs.Channels.{Fits, IsKept, bench}
 use Rattle.sim_channels.specs.Staging.{HasStage}
 use Rattle.sim_channels.specs.Waiting.{IsAtRest, IsQuiet, StaysBut}
+use Rattle.sim_channels.proofs.Kept.{staged_at}
 use Rattle.sim_channels.proofs.Others.{quiet_on}
 use Rattle.sim_turns.specs.Turning.{ToldSo}
 use Rattle.sim_driver.specs.Commands.{AsksFor, AsksToRenew, IsChanged}
@@ -36,11 +40,22 @@ of_ok P r x e h = subst (λ s. OnOk s P) e h
 
 -- ---- places
 
-pub staged_there : (d : Driver) (c at : ℕ) (stage : Stage) → IsKept d → c ≡ at + 1 → HasStage at stage d → IsStaged c d.desk.now stage
-staged_there d c at stage kept place h =
-    subst (λ n. IsStaged n d.desk.now stage) (sym place) (subst (λ s. IsStaged (at + 1) d.desk.now s) h.is (kept.stages at h.channel h.there))
+pub begun_at : (d : Driver) (at : ℕ) (k : Channel) → IsKept d → slice_get d.channels.items at ≡ Some k → was_opened (at + 1) d.desk.now ≡ was_begun k.inbound.stage
+begun_at d at k kept there =
+    subst (λ c. was_opened c d.desk.now ≡ was_begun k.inbound.stage) (kept.names at k there) (kept.stages at k there).opened
 
-pub others_closed : (stage : Stage) → (stage ≡ Live → ⊥) → is_plugged_in stage ≡ false
+-- how the session at a place stands
+pub record StandsSo (c : ℕ) (m : State) (stage : Stage) : Type 0 where
+  pub plugged : is_plugged c m ≡ is_live stage
+  pub opened : was_opened c m ≡ was_begun stage
+
+pub staged_there : (d : Driver) (c at : ℕ) (stage : Stage) → IsKept d → c ≡ at + 1 → HasStage at stage d → StandsSo c d.desk.now stage
+staged_there d c at stage kept place h = record {
+  plugged = ap (λ n. is_plugged n d.desk.now) place ∙ staged_at d at h.channel kept h.there ∙ ap is_live h.is;
+  opened = ap (λ n. was_opened n d.desk.now) place ∙ begun_at d at h.channel kept h.there ∙ ap was_begun h.is;
+}
+
+pub others_closed : (stage : Stage) → (stage ≡ Live → ⊥) → is_live stage ≡ false
 others_closed Live other = absurd (other refl)
 others_closed stage other = refl
 
@@ -56,10 +71,12 @@ module _ (c : ℕ) (m : State) where
   pub plugs_present : is_plugged c m ≡ true → (es : List Event) → JustNotes (notes.Present c) es → PlugsBy (is_plugged c m) (was_opened c m) c es
   plugs_present e es h = subst (λ b. PlugsBy b (was_opened c m) c es) (sym e) h
 
-  pub plugs_gone : is_plugged c m ≡ false → was_opened c m ≡ true → (es : List Event) → JustNotes (notes.GoneAlready c) es → PlugsBy (is_plugged c m) (was_opened c m) c es
+  pub plugs_gone : is_plugged c m ≡ false → was_opened c m ≡ true → (es : List Event) → JustNotes (notes.GoneAlready c) es
+      → PlugsBy (is_plugged c m) (was_opened c m) c es
   plugs_gone e f es h = subst (λ b. PlugsBy b (was_opened c m) c es) (sym e) (subst (λ b. PlugsBy false b c es) (sym f) h)
 
-  pub plugs_now : is_plugged c m ≡ false → was_opened c m ≡ false → (es : List Event) → JustEnters (entries.Open c) es → PlugsBy (is_plugged c m) (was_opened c m) c es
+  pub plugs_now : is_plugged c m ≡ false → was_opened c m ≡ false → (es : List Event) → JustEnters (entries.Open c) es
+      → PlugsBy (is_plugged c m) (was_opened c m) c es
   plugs_now e f es h = subst (λ b. PlugsBy b (was_opened c m) c es) (sym e) (subst (λ b. PlugsBy false b c es) (sym f) h)
 
   pub if_absent : (F : Type 0) → is_plugged c m ≡ false → (es : List Event) → JustNotes (notes.Absent c) es → IfPlugged (is_plugged c m) c es F
@@ -77,16 +94,19 @@ obeyed_noted o note d e devices obeys fits told kept rest =
     obeyed_then o (entries.Note note) Done (bench d devices) (bench e devices) (told devices fits) obeys e devices (carried_none (bench e devices)) kept rest
 
 -- its entry was asked for, and then what it brought about was done
-pub obeyed_done : (o : Order) (entry : Entry) (d m : Driver) (before : List Meaning) (e : Driver) (after : List Meaning) → ((es : List Event) → JustEnters entry es → Obeys o (bench d before) es)
+pub obeyed_done : (o : Order) (entry : Entry) (d m : Driver) (before : List Meaning) (e : Driver) (after : List Meaning)
+    → ((es : List Event) → JustEnters entry es → Obeys o (bench d before) es)
     → Fits d before → AsksFor entry d m → Carried (bench m before) (bench e after) → IsKept e → IsAtRest e → Obeyed o (bench d before) (bench e after)
 obeyed_done o entry d m before e after obeys fits asked carried kept rest =
     let is = asked before fits in
     obeyed_then o entry is.0 (bench d before) (bench m before) is.1 obeys e after carried kept rest
 
 -- or nothing else was left to do
-pub obeyed_asked : (o : Order) (entry : Entry) (d e : Driver) (devices : List Meaning) → ((es : List Event) → JustEnters entry es → Obeys o (bench d devices) es)
+pub obeyed_asked : (o : Order) (entry : Entry) (d e : Driver) (devices : List Meaning)
+    → ((es : List Event) → JustEnters entry es → Obeys o (bench d devices) es)
     → Fits d devices → AsksFor entry d e → IsKept e → IsAtRest e → Obeyed o (bench d devices) (bench e devices)
-obeyed_asked o entry d e devices obeys fits asked kept rest = obeyed_done o entry d e devices e devices obeys fits asked (carried_none (bench e devices)) kept rest
+obeyed_asked o entry d e devices obeys fits asked kept rest =
+    obeyed_done o entry d e devices e devices obeys fits asked (carried_none (bench e devices)) kept rest
 
 -- the entry by which an order of another policy is obeyed
 pub record AsksBy (text : List ℕ) (d m : Driver) : Type 0 where

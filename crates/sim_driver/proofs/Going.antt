@@ -1,6 +1,7 @@
 -- How far a run has come, and how it ends.
-use Rattle.std.proofs.Common.{◌≡◌, ◌⊎◌, ℕ, ◌+◌, ◌≤◌, Bool, true, false, List, [], ◌∷◌, ◌++◌, append-nil, append_assoc, refl, sym, ap, ◌∙◌, subst, length, inl, inr, arith}
-use Rattle.std.specs.Prelude.{Option, Some, None, Ok, Err}
+use Rattle.std.proofs.Common.{◌≡◌, ◌⊎◌, ℕ, ◌+◌, ◌≤◌, Bool, true, false, List, [], ◌∷◌, ◌++◌, append-nil, append_assoc, refl, sym, ap, ◌∙◌, subst, length, inl}
+use Rattle.std.proofs.Common.{inr, arith}
+use Rattle.std.specs.Prelude.{Option, Some, None, Err}
 use Rattle.std.specs.List.{flat_map}
 use Rattle.std.proofs.lemmas.Grind.{flat_map-append}
 use Rattle.std.proofs.lemmas.List.{append_cancel_left}
@@ -30,8 +31,10 @@ use Rattle.sim_channels.specs.declared.driver.Driver.{Driver}
 use Rattle.sim_channels.specs.Channels.{bench}
 use Rattle.sim_driver.specs.declared.drive.SimEnd.{SimEnd}
 use Rattle.sim_driver.specs.declared.drive.SimEnd.TheVariants as ends
-use Rattle.sim_driver.specs.Passes.{Breaks, DeedLaws, EndsAt, Finished, IsMarked, IsReady, IsReported, IsUnreported, Passed, SameHall, end_of, untaken}
-use Rattle.sim_driver.specs.Runs.{AllHadMemory, Ends, EndsOver, EndsWith, Given, GoesOnFrom, IsBrokenOff, IsFollowed, IsRunOf, IsToEnd, IsUnwritten, just, of_part, opened, orders, report}
+use Rattle.sim_driver.specs.Passes.{Breaks, DeedLaws, EndsAt, Finished, IsFinished, IsMarked, IsReady, IsReported, IsUnreported, Passed, SameHall, end_of}
+use Rattle.sim_driver.specs.Passes.{untaken}
+use Rattle.sim_driver.specs.Runs.{AllHadMemory, Ends, EndsOver, EndsWith, Given, GoesOnFrom, IsBrokenOff, IsFollowed, IsRunOf, IsToEnd, IsUnwritten, just}
+use Rattle.sim_driver.specs.Runs.{of_part, opened, orders, report}
 use Rattle.sim_driver.proofs.Parting.{Parts, Stands, part_follows, parts_follow, parts_run, parts_then}
 use Rattle.sim_driver.proofs.Taking.{bench_devices}
 
@@ -61,7 +64,8 @@ opened_stands g = (calm, (λ solo. record { jobs = refl; taken = λ c h. absurd 
     calm : IsCalm (opened g)
     calm = record { offered = λ c s h. absurd (let e = h.plugged in cc); heard = λ c s h. absurd (let e = h.plugged in cc) }
 
-pub went_none : (g : Given) (places : ℕ) (old : SinkView) (driver : Driver) (devices : List Meaning) → Known g → length g.devices ≡ places → bench driver devices ≡ opened g
+pub went_none : (g : Given) (places : ℕ) (old : SinkView) (driver : Driver) (devices : List Meaning) → Known g → length g.devices ≡ places
+    → bench driver devices ≡ opened g
     → Went g places old old driver devices g.first g.lines
 went_none g places old driver devices known n e = record {
   known = known;
@@ -91,8 +95,9 @@ orders_on : (g : Given) (places : ℕ) (left behind : List (List ℕ)) (done : L
 orders_on g places left behind done o passed are leads =
     are ∙ ap (λ (os : List Order). done ++ os) leads.orders ∙ sym (append_assoc done (o ∷ []) (orders_of places behind))
 
-pub went_further : {g : Given} {places : ℕ} {old now : SinkView} {driver : Driver} {devices : List Meaning} {line : ℕ} {left : List (List ℕ)} → (new : SinkView) (next : Driver)
-    (after : List Meaning) (o : Order) (passed : ℕ) (behind : List (List ℕ)) → Went g places old now driver devices line left → Leads places left o passed behind
+pub went_further : {g : Given} {places : ℕ} {old now : SinkView} {driver : Driver} {devices : List Meaning} {line : ℕ} {left : List (List ℕ)}
+    → (new : SinkView) (next : Driver) (after : List Meaning) (o : Order) (passed : ℕ) (behind : List (List ℕ))
+    → Went g places old now driver devices line left → Leads places left o passed behind
     → IsReported o (bench driver devices) (bench next after) now new → IsReady next after → Went g places old new next after (line + passed) behind
 went_further {g} {places} {old} {now} {driver} {devices} {line} {left} new next after o passed behind h leads k ready = record {
   known = h.known;
@@ -114,7 +119,8 @@ is_whole ends.Done = true
 is_whole (ends.Script line kind) = true
 is_whole end = false
 
-ends_whole : (end : SimEnd) → is_whole end ≡ true → (g : Given) (after : List Meaning) (number : ℕ) (history : List Turn) (text : List ℕ) → IsFollowed g after history text
+ends_whole : (end : SimEnd) → is_whole end ≡ true → (g : Given) (after : List Meaning) (number : ℕ) (history : List Turn) (text : List ℕ)
+    → IsFollowed g after history text
     → EndsWith end g after number history text
 ends_whole ends.Done is g after number history text h = h
 ends_whole (ends.Script line kind) is g after number history text h = h
@@ -194,19 +200,19 @@ module _ {g : Given} {places : ℕ} {old now : SinkView} {driver : Driver} {devi
   broken_off = (text_so_far, inl (broken driver.desk.past so_far), written)
 
   -- all lines were followed, and what is done behind them too
-  module _ (next : Driver) (after : List Meaning) (new : SinkView) (ready : IsReady next after) (k : Finished (Ok tt) (bench driver devices) next after now new)
+  module _ (next : Driver) (after : List Meaning) (new : SinkView) (k : IsFinished (bench driver devices) next after now new)
       (none : orders_of places left ≡ []) where
     all : orders g ≡ h.done ++ []
     all = h.orders_are ∙ ap (λ (os : List Order). h.done ++ os) none
 
     abbrev all_events : List Event
-    all_events = h.events ++ k.0.events
+    all_events = h.events ++ k.reported.events
 
     ends_run : Runs (opened g) all_events (bench next after)
-    ends_run = runs_then (opened g) h.events (bench driver devices) k.0.events (bench next after) runs k.0.part.runs
+    ends_run = runs_then (opened g) h.events (bench driver devices) k.reported.events (bench next after) runs k.reported.part.runs
 
-    text_is : report all_events ≡ taken_report h.events ++ taken_report k.0.events
-    text_is = report_whole g h.known all_events (bench next after) ends_run ready.none_waits ∙ report_then h.events k.0.events
+    text_is : report all_events ≡ taken_report h.events ++ taken_report k.reported.events
+    text_is = report_whole g h.known all_events (bench next after) ends_run k.ready.none_waits ∙ report_then h.events k.reported.events
 
     of_all : IsFollowed g after next.desk.past (report all_events)
     of_all = record {
@@ -215,18 +221,18 @@ module _ {g : Given} {places : ℕ} {old now : SinkView} {driver : Driver} {devi
       run = run_of g h.known all_events (bench next after) ends_run;
       follows =
           subst (λ (os : List Order). Follows os (opened g) all_events (bench next after)) (sym all)
-          (part_follows None h.done (opened g) h.events (bench driver devices) k.0.events (bench next after) h.parts k.0.part);
+          (part_follows None h.done (opened g) h.events (bench driver devices) k.reported.events (bench next after) h.parts k.reported.part);
       history_is = h.known.laws.past (opened g) all_events (bench next after) ends_run;
       text_is = refl;
-      still = k.1;
-      devices = bench_devices next after ready.fits;
+      still = k.still;
+      devices = bench_devices next after k.ready.fits;
     }
 
     pub followed : (end : SimEnd) → is_whole end ≡ true → EndsAt end g next.desk after old new
     followed end is = (
       report all_events,
       ends_whole end is g after next.desk.number next.desk.past (report all_events) of_all,
-      subst (Wrote old new) (sym text_is) (wrote_then old now new (taken_report h.events) (taken_report k.0.events) h.wrote k.0.wrote),
+      subst (Wrote old new) (sym text_is) (wrote_then old now new (taken_report h.events) (taken_report k.reported.events) h.wrote k.reported.wrote),
     )
 
   -- an order, or what is done behind all of them, wasn't followed to its end
@@ -255,8 +261,11 @@ module _ {g : Given} {places : ℕ} {old now : SinkView} {driver : Driver} {devi
       solo_back : IsSolo last.machine → IsSolo driver.desk.now
       solo_back solo =
           let first = opening g.policy g.settings in
-          let now = settings_stay first (turns_of h.events) driver.desk.now (h.known.laws.history g.policy g.settings g.devices h.events (bench driver devices) runs) in
-          let then = settings_stay first (turns_of (h.events ++ u.events)) last.machine (h.known.laws.history g.policy g.settings g.devices (h.events ++ u.events) last all_runs) in
+          let now =
+          settings_stay first (turns_of h.events) driver.desk.now (h.known.laws.history g.policy g.settings g.devices h.events (bench driver devices) runs) in
+          let then =
+          settings_stay first (turns_of (h.events ++ u.events)) last.machine
+          (h.known.laws.history g.policy g.settings g.devices (h.events ++ u.events) last all_runs) in
           ap (λ (s : Settings). s.workers) (now ∙ sym then) ∙ solo
 
       whole_script : order ≡ None → h.done ≡ orders g
@@ -299,7 +308,8 @@ module _ {g : Given} {places : ℕ} {old now : SinkView} {driver : Driver} {devi
       unwritten = (text_so_far ++ u.front, cut, wrote_then old now new text_so_far u.front written u.wrote)
 
     -- a write failed, memory ran out, or the hall was found worn
-    module _ (next : Driver) (law : DeskLaw next.desk) (marked : IsMarked driver.desk next.desk) (start : driver.desk.footing.start ≡ opening g.policy g.settings) where
+    module _ (next : Driver) (law : DeskLaw next.desk) (marked : IsMarked driver.desk next.desk)
+        (start : driver.desk.footing.start ≡ opening g.policy g.settings) where
       goes_on : GoesOnFrom g h.events next.desk.past
       goes_on = record {
         last = next.desk.now;
@@ -319,9 +329,10 @@ module _ {g : Given} {places : ℕ} {old now : SinkView} {driver : Driver} {devi
       stopped new after Worn (e, worn) = (text_so_far, (broken next.desk.past goes_on, law.full worn), unchanged new e)
 
   -- in a step
-  pub stopped_in : (next : Driver) (law : DeskLaw next.desk) (marked : IsMarked driver.desk next.desk) (start : driver.desk.footing.start ≡ opening g.policy g.settings)
+  pub stopped_in : (next : Driver) (law : DeskLaw next.desk) (marked : IsMarked driver.desk next.desk)
+      (start : driver.desk.footing.start ≡ opening g.policy g.settings)
       (new : SinkView) (after : List Meaning) (step : Step) (text : List ℕ) (passed : ℕ) (behind : List (List ℕ)) (stop : ReportStop)
-      → Passed (Err stop) step text (bench driver devices) next after now new → Leads places left (order_with step text) passed behind
+      → Passed (Err stop) step text driver devices next after now new → Leads places left (order_with step text) passed behind
       → EndsAt (end_of stop) g next.desk after old new
   stopped_in next law marked start new after step text passed behind stop breaks leads =
       let o = order_with step text in
@@ -329,8 +340,9 @@ module _ {g : Given} {places : ℕ} {old now : SinkView} {driver : Driver} {devi
       stopped (Some o) (orders_of places behind) are (λ none. absurd (cc)) (λ none. absurd (cc)) next law marked start new after stop breaks
 
   -- behind all lines
-  pub stopped_behind : (next : Driver) (law : DeskLaw next.desk) (marked : IsMarked driver.desk next.desk) (start : driver.desk.footing.start ≡ opening g.policy g.settings)
-      (new : SinkView) (after : List Meaning) (stop : ReportStop) → orders_of places left ≡ [] → Finished (Err stop) (bench driver devices) next after now new
+  pub stopped_behind : (next : Driver) (law : DeskLaw next.desk) (marked : IsMarked driver.desk next.desk)
+      (start : driver.desk.footing.start ≡ opening g.policy g.settings)
+      (new : SinkView) (after : List Meaning) (stop : ReportStop) → orders_of places left ≡ [] → Finished (Err stop) driver devices next after now new
       → EndsAt (end_of stop) g next.desk after old new
   stopped_behind next law marked start new after stop none (beside, breaks) =
       let all = h.orders_are ∙ ap (λ (os : List Order). os ++ orders_of places left) (sym (append-nil h.done)) in
@@ -352,7 +364,8 @@ never g known = record {
   text_is = refl;
 }
 
-pub never_begun : (g : Given) → Known g → (after : List Meaning) (number : ℕ) (history : List Turn) → history ≡ [] → (old : SinkView) → EndsOver ends.NoMemory g after number history old old
+pub never_begun : (g : Given) → Known g → (after : List Meaning) (number : ℕ) (history : List Turn) → history ≡ [] → (old : SinkView)
+    → EndsOver ends.NoMemory g after number history old old
 never_begun g known after number history none old =
     ([], inl (subst (λ (ts : List Turn). IsBrokenOff g ts []) (sym none) (never g known)), wrote_nothing old)
 
@@ -369,8 +382,3 @@ closed end g after number history old new few memory (text, e, wrote) = (text, (
     go ends.WriteFault e = e
     go ends.NoMemory e = e
     go ends.Worn (e, full) = (e, omega (arith, full, few))
-
--- no hall was opened
-pub never_opened : (g : Given) → Known g → (after : List Meaning) (old : SinkView) → Ends ends.NoMemory g after old old
-never_opened g known after old =
-    closed ends.NoMemory g after 0 [] old old (omega arith) (λ whole. absurd whole) (never_begun g known after 0 [] refl old)

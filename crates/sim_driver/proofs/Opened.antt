@@ -1,15 +1,12 @@
 -- A hall that was just opened.
-use Rattle.std.proofs.Common.{◌≡◌, ℕ, ◌∙◌, List, [], arith, refl}
+use Rattle.std.proofs.Common.{◌≡◌, ℕ, List, [], arith, refl}
 use Rattle.std.specs.Prelude.{Option}
 use Rattle.maple_io.specs.Views.{SinkView}
 use Rattle.report_text.specs.declared.line.ScriptRefusal.{ScriptRefusal}
 use Rattle.device_port.specs.Devices.{Meaning}
-use Rattle.machine_desk.specs.declared.opening.Opening.{Opening}
 use Rattle.machine_desk.specs.Desks.{DeskView}
-use Rattle.packet_workers.specs.Adding.{PassView}
-use Rattle.worker_crew.specs.Crews.{IsShareOf}
 use Rattle.sim_driver.specs.declared.drive.SimEnd.TheVariants as ends
-use Rattle.sim_driver.specs.Passes.{DroveAt, IsOpening}
+use Rattle.sim_driver.specs.Passes.{DroveAt}
 use Rattle.sim_driver.specs.Runs.{Ends, Given}
 use Rattle.sim_driver.proofs.Going.{Known, closed, never_begun}
 
@@ -27,21 +24,4 @@ never_drove g known refused desk after to none = record {
   script = tt;
   fault = λ e. absurd (cc);
   spared = λ n. refl;
-}
-
--- a share of the pass knows the same
-pub opening_shared : (count : ℕ) (u k : PassView) (o : Opening) (devices : List Meaning) → IsShareOf count u k → IsOpening u o devices → IsOpening k o devices
-opening_shared count u k o devices share h = record {
-  ahead = record {
-    leads = share.leads ∙ h.ahead.leads;
-    opens = share.opening ∙ h.ahead.opens;
-    nothing = share.seen ∙ h.ahead.nothing;
-    none = share.own ∙ h.ahead.none;
-    sound = h.ahead.sound;
-    learning = h.ahead.learning;
-    budget = h.ahead.budget;
-  };
-  machine = h.machine;
-  ranges = h.ranges;
-  idle = h.idle;
 }

@@ -62,7 +62,8 @@ parts_follow os a es b h stands =
     subst (λ (xs : List Event). Follows os a xs b) (append-nil es) (parts_end b [] b os a es h (nothing_part b stands))
 
 -- with a part more, of an order or behind all of them
-pub part_follows : (o : Option Order) (os : List Order) (a : Bench) (es : List Event) (b : Bench) (fs : List Event) (c : Bench) → Parts os a es b → IsPart (of_part o) b fs c
+pub part_follows : (o : Option Order) (os : List Order) (a : Bench) (es : List Event) (b : Bench) (fs : List Event) (c : Bench) → Parts os a es b
+    → IsPart (of_part o) b fs c
     → Follows (os ++ just o) a (es ++ fs) c
 part_follows None os a es b fs c h k = subst (λ (qs : List Order). Follows qs a (es ++ fs) c) (sym (append-nil os)) (parts_end b fs c os a es h k)
 part_follows (Some o) os a es b fs c h k =

@@ -23,14 +23,15 @@ use Rattle.sim_steps.specs.Deeds.{Event}
 use Rattle.sim_steps.specs.Parts.{IsPart}
 use Rattle.sim_steps.specs.Stretches.{Carried, Obeyed, Stretch}
 use Rattle.sim_steps.proofs.Joining.{report_then}
-use Rattle.sim_channels.specs.declared.crew.Crew.{Crew}
+use Rattle.desk_jobs.specs.declared.crew.Crew.{Crew}
 use Rattle.sim_channels.specs.declared.driver.Driver.{Driver}
 use Rattle.sim_channels.specs.Channels.{EntersNext, Fits, IsKept, WorksAlone, bench}
 use Rattle.sim_channels.specs.Driving.{DrivingLaws}
 use Rattle.sim_channels.specs.Waiting.{IsAtRest, IsDone}
 use Rattle.sim_channels.proofs.Others.{ahead, enters_next, others_ahead}
 use Rattle.sim_channels.proofs.Resting.{done_is_still, rest_is_calm, rest_is_still}
-use Rattle.sim_driver.specs.Passes.{Breaks, Finished, IsReady, IsReported, IsUnreported, Passed, TakesReport, untaken, waiting}
+use Rattle.sim_driver.specs.Passes.{Breaks, Finished, IsCaughtUp, IsFinished, IsReady, IsReported, IsStopped, IsUnreported, Passed, ReadyAfter, TakesReport, untaken}
+use Rattle.sim_driver.specs.Passes.{waiting}
 use Rattle.sim_driver.proofs.Parting.{Stands, carried_part, nothing_part, part_longer}
 use Rattle.sim_driver.proofs.Taking.{bench_devices, taken_done, taken_fits, taken_lines, taken_rests, taking}
 
@@ -71,7 +72,14 @@ module _ (laws : DrivingLaws) (o : Order) (a : Bench) (d next : Driver) (taken :
 
   pub unreported : (old new : SinkView) → WroteFront (waiting taken.ahead) old new → IsUnreported o a (bench next ds) ds old new
   unreported old new (front, is, w) =
-      record { events = events; part = part; devices = bench_devices next ds fits_then; front = front; is_front = subst (IsFront front) (sym text) is; wrote = w }
+      record {
+        events = events;
+        part = part;
+        devices = bench_devices next ds fits_then;
+        front = front;
+        is_front = subst (IsFront front) (sym text) is;
+        wrote = w;
+      }
 
 -- ---- as the report is written at the desk
 
@@ -123,39 +131,81 @@ module _ (laws : DrivingLaws) (d next : Driver) (ds : List Meaning) (same : next
     breaks_by NoMemory (inr w) = inr (in_part w)
     breaks_by Worn (wears, same) = (same, ap (λ (v : DeskView). v.worn) wears.same)
 
-  pub follows_by : (r : Result (Unit {0}) ReportStop) (step : Step) (bytes : List ℕ) (a : Bench) (old new : SinkView) → Obeyed (order_with step bytes) a (bench d ds)
-      → ReportsBy r d.desk next.desk old new → Passed r step bytes a next ds old new
-  follows_by (Ok u) step bytes a old new h w = whole (order_with step bytes) a old new h w
-  follows_by (Err stop) step bytes a old new h w = breaks_by (order_with step bytes) a old new h stop w
+  pub follows_by : (r : Result (Unit {0}) ReportStop) (step : Step) (bytes : List ℕ) (was : Driver) (before : List Meaning) (old new : SinkView)
+      → Obeyed (order_with step bytes) (bench was before) (bench d ds) → ReportsBy r d.desk next.desk old new → Passed r step bytes was before next ds old new
+  follows_by (Ok u) step bytes was before old new h w = whole (order_with step bytes) (bench was before) old new h w
+  follows_by (Err stop) step bytes was before old new h w = breaks_by (order_with step bytes) (bench was before) old new h stop w
 
-  -- behind all lines, where all is done
-  pub finished_by : (r : Result (Unit {0}) ReportStop) (a : Bench) (old new : SinkView) → Carried a (bench d ds) → IsDone d → (IsSolo a.machine → ⊥)
-      → ReportsBy r d.desk next.desk old new → Finished r a next ds old new
-  finished_by r a old new k done beside w = by r w
-    where
-      h : Obeyed Nothing a (bench d ds)
-      h = carried_obeyed a (bench d ds) k (rest_stands d ds fits.kept rest)
+-- whatever the devices are
+pub ready_after : (laws : DrivingLaws) (d next : Driver) (r : Result (Unit {0}) ReportStop) (old new : SinkView) → next ≡ record d { desk = next.desk }
+    → ReportsBy r d.desk next.desk old new → OnOk r (ReadyAfter d next)
+ready_after laws d next (Ok u) old new same w = λ ds fits rest. ready_by laws d next ds same fits rest (Ok u) old new w
+ready_after laws d next (Err stop) old new same w = tt
 
-      by : (r : Result (Unit {0}) ReportStop) → ReportsBy r d.desk next.desk old new → Finished r a next ds old new
-      by (Ok u) w =
-          let (taken, is) = takes w.text w.enters in
-          let kept = (taken_fits laws d next taken ds fits).kept in (
-            whole Nothing a old new h w,
-            done_is_still next ds kept (taken_rests laws d next taken ds fits rest) (taken_done laws d next taken ds fits done),
-          )
-      by (Err stop) w = (beside, breaks_by Nothing a old new h stop w)
+-- an order wasn't followed, and nothing written
+breaks_short : (stop : ReportStop) (o : Order) (a : Bench) (d : Driver) (ds : List Meaning) (to : SinkView) → IsStopped stop d → Breaks stop o a d ds to to
+breaks_short Failed o a d ds to stopped = absurd stopped
+breaks_short NoMemory o a d ds to stopped = inl refl
+breaks_short Worn o a d ds to stopped = (refl, stopped)
 
--- where that was told
+pub passed_short : (stop : ReportStop) (step : Step) (bytes : List ℕ) (was : Driver) (before : List Meaning) (d : Driver) (ds : List Meaning) (to : SinkView)
+    → IsStopped stop d → Passed (Err stop) step bytes was before d ds to to
+passed_short stop step bytes was before d ds to stopped = breaks_short stop (order_with step bytes) (bench was before) d ds to stopped
+
+-- ---- behind all lines
+
+-- by what is told of that
 pub alone_by : (crew : Option Crew) (told : Bool) → told ≡ not (is_some crew) → told ≡ true → is_some crew ≡ false
 alone_by None told e is = refl
 alone_by (Some crew) told e is = absurd (cc)
 
+pub beside_by : (crew : Option Crew) (told : Bool) → told ≡ not (is_some crew) → told ≡ false → is_some crew ≡ true
+beside_by None told e is = absurd (cc)
+beside_by (Some crew) told e is = refl
+
 -- who works alone has nothing left to do
-pub finished_alone : (d : Driver) (ds : List Meaning) (to : SinkView) → IsReady d ds → WorksAlone d → Finished (Ok tt) (bench d ds) d ds to to
-finished_alone d ds to ready alone = (
-  record { events = []; part = nothing_part (bench d ds) (rest_stands d ds ready.fits.kept ready.rest); wrote = wrote_nothing to },
-  done_is_still d ds ready.fits.kept ready.rest (ready.rest.done alone),
-)
+pub finished_alone : (d : Driver) (ds : List Meaning) (to : SinkView) → IsReady d ds → WorksAlone d → IsFinished (bench d ds) d ds to to
+finished_alone d ds to ready alone =
+    let kept = ready.fits.kept in
+    record {
+      ready = ready;
+      reported = record { events = []; part = nothing_part (bench d ds) (rest_stands d ds kept ready.rest); wrote = wrote_nothing to };
+      still = done_is_still d ds kept ready.rest (ready.rest.done alone);
+    }
+
+-- who has a crew has workers
+not_solo : (d : Driver) → IsKept d → is_some d.crew ≡ true → IsSolo d.desk.now → ⊥
+not_solo d kept some solo = let no : false ≡ true = sym (kept.crew.none solo) ∙ some in absurd (cc)
+
+-- who stopped ahead of the report
+pub finished_short : (was : Driver) (before : List Meaning) (d : Driver) (ds : List Meaning) (to : SinkView) (stop : ReportStop) → IsReady was before
+    → is_some was.crew ≡ true → IsStopped stop d → Finished (Err stop) was before d ds to to
+finished_short was before d ds to stop ready some stopped =
+    (not_solo was ready.fits.kept some, breaks_short stop Nothing (bench was before) d ds to stopped)
+
+-- who caught up
+pub finished_by : (laws : DrivingLaws) (was : Driver) (before : List Meaning) (d next : Driver) (ds : List Meaning) (r : Result (Unit {0}) ReportStop)
+    (old new : SinkView) → IsReady was before → is_some was.crew ≡ true → IsCaughtUp was before d ds
+    → next ≡ record d { desk = next.desk } → ReportsBy r d.desk next.desk old new → Finished r was before next ds old new
+finished_by laws was before d next ds r old new ready some caught same reports = by r reports
+  where
+    a : Bench
+    a = bench was before
+
+    h : Obeyed Nothing a (bench d ds)
+    h = carried_obeyed a (bench d ds) caught.carried (rest_stands d ds caught.fits.kept caught.rest)
+
+    by : (r : Result (Unit {0}) ReportStop) → ReportsBy r d.desk next.desk old new → Finished r was before next ds old new
+    by (Ok u) w =
+        let (taken, text) = takes laws d next ds same caught.fits caught.rest w.text w.enters in
+        let now_ready = ready_after laws d next (Ok u) old new same w ds caught.fits caught.rest in
+        record {
+          ready = now_ready;
+          reported = whole laws d next ds same caught.fits caught.rest Nothing a old new h w;
+          still = done_is_still next ds now_ready.fits.kept now_ready.rest (taken_done laws d next taken ds caught.fits caught.done);
+        }
+    by (Err stop) w =
+        (not_solo was ready.fits.kept some, breaks_by laws d next ds same caught.fits caught.rest Nothing a old new h stop w)
 
 -- ---- the mark
 
@@ -170,6 +220,7 @@ module _ (d : Driver) where
       crew = h.kept.crew;
       reached = h.kept.reached;
       numbers = h.kept.numbers;
+      names = h.kept.names;
       stages = h.kept.stages;
       places_alone = h.kept.places_alone;
       fresh = h.kept.fresh;
@@ -184,8 +235,9 @@ module _ (d : Driver) where
   pub marked_ready : (ds : List Meaning) → IsReady d ds → IsReady marked ds
   marked_ready ds h = record { fits = marked_fits ds h.fits; rest = marked_rests h.rest; none_waits = h.none_waits }
 
--- who has a crew has workers
-pub beside_by : (d next : Driver) (told : Bool) → next ≡ marked d → told ≡ not (is_some next.crew) → told ≡ false → IsKept d → IsSolo d.desk.now → ⊥
-beside_by d next told same e is kept solo =
-    let crew = ap (λ (x : Driver). is_some x.crew) same ∙ kept.crew.none solo in
-    let no : false ≡ true = sym is ∙ e ∙ ap not crew in absurd (cc)
+-- whose run ends so once it is marked
+pub finished_marked : (d m : Driver) (ds : List Meaning) (r : Result (Unit {0}) ReportStop) (next : Driver) (after : List Meaning) (old new : SinkView)
+    → m ≡ marked d
+    → Finished r m ds next after old new → Finished r d ds next after old new
+finished_marked d m ds (Ok u) next after old new same h = subst (λ (x : Driver). Finished (Ok u) x ds next after old new) same h
+finished_marked d m ds (Err stop) next after old new same h = subst (λ (x : Driver). Finished (Err stop) x ds next after old new) same h

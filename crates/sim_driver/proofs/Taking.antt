@@ -36,7 +36,8 @@ module _ (d : Driver) (to : DeskView) where
       crew = crew_on d behind (same_desk d behind refl footing) refl h.kept.crew;
       reached = reached_on d.desk.now entries.TakeReport (Lines (waiting d)) behind.desk.now h.kept.reached tt (inl (refl, refl));
       numbers = h.kept.numbers;
-      stages = λ at k there. let s = h.kept.stages at k there in record { plugged = s.plugged; opened = s.opened };
+      names = h.kept.names;
+      stages = λ at k there. let s = h.kept.stages at k there in record { live = s.live; opened = s.opened };
       places_alone = h.kept.places_alone;
       fresh = h.kept.fresh;
     };
@@ -93,7 +94,8 @@ module _ (laws : DrivingLaws) (d next : Driver) (h : TakesReport d next) where
 
     pub taking : Stretch [] (waiting h.ahead) (bench d ds) (bench next ds)
     taking =
-        carried_ahead [] (waiting h.ahead) (bench d ds) (bench h.ahead ds) (bench next ds) (others_carried laws d h.ahead fits.kept h.others ds (sym fits.places))
+        carried_ahead [] (waiting h.ahead) (bench d ds) (bench h.ahead ds) (bench next ds)
+        (others_carried laws d h.ahead fits.kept h.others ds (sym fits.places))
         (subst (λ (x : Driver). Stretch [] (waiting h.ahead) (bench h.ahead ds) (bench x ds)) (sym next_is) (taking_on h.ahead next.desk ds past_is))
 
 -- the devices of a driver's bench

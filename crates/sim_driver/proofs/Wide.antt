@@ -1,6 +1,5 @@
 -- At the desk an entry was asked for, behind what others did, that is of no place.
 use Rattle.std.proofs.Common.{◌≡◌, ℕ, ◌+◌, Bool, true, false, List, refl, sym, ap, ◌∙◌, inl, inr}
-use Rattle.std.specs.Prelude.{◌&&◌}
 use Rattle.std.specs.List.{slice_get}
 use Rattle.env_cells.specs.declared.updates.Update.{Update}
 use Rattle.env_cells.specs.declared.updates.Update.TheVariants.{Host, NoHost, Link, NoLink, Set, Unset}
@@ -13,7 +12,7 @@ use Rattle.machine_steps.specs.declared.reply.Reply.{Reply}
 use Rattle.machine_steps.specs.Admitting.{IsOperators}
 use Rattle.machine_steps.specs.Machine.{State, session_at}
 use Rattle.machine_steps.specs.Steps.{Steps}
-use Rattle.machine_moves.specs.Told.{is_end, is_heard, is_new_state, may_end}
+use Rattle.machine_moves.specs.Told.{is_heard, is_new_state}
 use Rattle.script_text.specs.Steps.{IsOfLine}
 use Rattle.sim_steps.specs.Benches.{Bench}
 use Rattle.sim_steps.specs.Deeds.{MayEnter}
@@ -24,14 +23,13 @@ use Rattle.sim_channels.specs.Channels.{IsKept, WorksAlone, bench}
 use Rattle.sim_channels.specs.Driving.{DrivingLaws}
 use Rattle.sim_channels.specs.Waiting.{IsAtRest, IsDone, IsHeardThrough}
 use Rattle.sim_channels.proofs.Making.{had_memory}
-use Rattle.sim_channels.proofs.Keeping.{is_opening, is_policy}
+use Rattle.sim_channels.proofs.Keeping.{bears_on}
 use Rattle.sim_channels.proofs.Kept.{kept_entry}
-use Rattle.sim_channels.proofs.Others.{ahead, alone_back, others_ahead, others_rest, same_desk}
+use Rattle.sim_channels.proofs.Others.{ahead, alone_back, kept_ahead, others_ahead, others_rest, same_desk}
 use Rattle.sim_channels.proofs.Places.{fits_same, taken_still, while_still}
-use Rattle.sim_channels.proofs.Plugged.{kept_policy}
 use Rattle.sim_turns.specs.Turning.{FitsStill}
 use Rattle.sim_driver.specs.Commands.{AsksFor, AsksToRenew}
-use Rattle.sim_driver.proofs.Asking.{asks_for, kept_ahead}
+use Rattle.sim_driver.proofs.Asking.{asks_for}
 
 -- a script's update is one that an operator may make
 pub operators : (u : Update) → IsOfLine u → IsOperators u
@@ -74,7 +72,8 @@ pub record Stands (went : Bool) (Said : Type 0) (d e : Driver) : Type 0 where
 stands_so : (went : Bool) (F G : Type 0) (d e : Driver) → (F → G) → Stands went F d e → Stands went G d e
 stands_so went F G d e so h = record { fits = h.fits; through = h.through; rest = h.rest; asked = so h.asked }
 
-module _ (laws : DrivingLaws) (d e : Driver) (kept : IsKept d) (rest : IsAtRest d) (same : e ≡ record d { desk = e.desk }) (footing : e.desk.footing ≡ d.desk.footing) where
+module _ (laws : DrivingLaws) (d e : Driver) (kept : IsKept d) (rest : IsAtRest d) (same : e ≡ record d { desk = e.desk })
+    (footing : e.desk.footing ≡ d.desk.footing) where
   at_index : (at : ℕ) → slice_get e.channels.items at ≡ slice_get d.channels.items at
   at_index at = ap (λ (x : Driver). slice_get x.channels.items at) same
 
@@ -118,20 +117,21 @@ module _ (laws : DrivingLaws) (d e : Driver) (kept : IsKept d) (rest : IsAtRest 
           offered = heard_through.offered;
           heard = heard_through.heard;
         };
-        asked = asks_for laws d entry reply e.desk kept made.enters e (λ devices. ap (λ (x : Driver). bench x devices) same) rest asked settled (had_memory reply made.memory)
+        asked =
+            asks_for laws d entry reply e.desk kept made.enters e (λ devices. ap (λ (x : Driver). bench x devices) same) rest asked settled
+            (had_memory reply made.memory)
             (λ devices fits. may (bench d devices));
       }
 
-  -- that ends no session, opens none, and puts no other policy in force
-  kept_behind : (entry : Entry) (reply : Reply) (made : Asks entry reply d.desk e.desk) → is_opening entry ≡ false → is_policy entry ≡ false
-      → ((c : ℕ) → (may_end c entry && is_end reply) ≡ false) → IsKept e
-  kept_behind entry reply made opens policy ends =
-      kept_entry laws (m entry reply made) e entry reply (kept_m entry reply made) made.enters.made.admitted (steps entry reply made) opens policy ends same footing
+  -- that opens no session and ends none
+  kept_behind : (entry : Entry) (reply : Reply) (made : Asks entry reply d.desk e.desk) → ((c : ℕ) → bears_on c entry ≡ false) → IsKept e
+  kept_behind entry reply made none =
+      kept_entry laws (m entry reply made) e entry reply (kept_m entry reply made) made.enters.made.admitted (steps entry reply made) none same footing
 
   pub changed : (u : Update) → (made : Bool) → Changes u made d.desk e.desk → Stands made (AsksFor (entries.Change u) d e) d e
   changed u made h =
       let entry = entries.Change u in
-      stands entry h.reply h.asks refl (λ is. absurd (cc)) refl made (kept_behind entry h.reply h.asks refl refl (λ c. refl)) (λ b. tt)
+      stands entry h.reply h.asks refl (λ is. absurd (cc)) refl made (kept_behind entry h.reply h.asks (λ c. refl)) (λ b. tt)
       (λ vain. refused h.asks.enters.between u h.reply e.desk.now (steps entry h.reply h.asks) (sym h.made_is ∙ vain))
 
   pub renewed : (text : List ℕ) (accepted : Bool) → Renews accepted text d.desk e.desk → Stands accepted (AsksToRenew text d e) d e
@@ -139,21 +139,19 @@ module _ (laws : DrivingLaws) (d e : Driver) (kept : IsKept d) (rest : IsAtRest 
       let entry = entries.NewPolicy h.policy in
       let reply = h.asked.reply in
       let made = h.asked.asks in
-      let before = m entry reply made in
       stands_so true (AsksFor entry d e) (AsksToRenew text d e) d e (λ asked. inl (h.policy, h.is_text, asked))
-      (stands entry reply made refl (λ is. absurd (cc)) refl true
-      (kept_policy laws before e reply (kept_m entry reply made) h.policy (steps entry reply made) items (same_desk before e same footing)) (λ b. tt)
+      (stands entry reply made refl (λ is. absurd (cc)) refl true (kept_behind entry reply made (λ c. refl)) (λ b. tt)
       (λ vain. (let no : true ≡ false = vain in absurd (cc))))
   renewed text false h =
       let entry = refusal h.line h.column h.kind in
       let reply = h.asked.reply in
       let made = h.asked.asks in
       stands_so false (AsksFor entry d e) (AsksToRenew text d e) d e (λ asked. inr (h.line, h.column, h.kind, h.refused, asked))
-      (stands entry reply made refl (λ is. absurd (cc)) refl false (kept_behind entry reply made refl refl (λ c. refl)) (λ b. tt)
+      (stands entry reply made refl (λ is. absurd (cc)) refl false (kept_behind entry reply made (λ c. refl)) (λ b. tt)
       (λ vain. noted made.enters.between (notes.PolicyRefused h.line h.column h.kind) reply e.desk.now (steps entry reply made)))
 
   pub rules_stand : (switch : ℕ) → Asked (entries.ReadRules switch) d.desk e.desk → Stands false (AsksFor (entries.ReadRules switch) d e) d e
   rules_stand switch h =
       let entry = entries.ReadRules switch in
-      stands entry h.reply h.asks refl (λ is. absurd (cc)) refl false (kept_behind entry h.reply h.asks refl refl (λ c. refl)) (λ b. tt)
+      stands entry h.reply h.asks refl (λ is. absurd (cc)) refl false (kept_behind entry h.reply h.asks (λ c. refl)) (λ b. tt)
       (λ vain. listed h.asks.enters.between switch h.reply e.desk.now (steps entry h.reply h.asks))

@@ -16,10 +16,11 @@ use Rattle.sim_steps.specs.Benches.{Bench, IsSolo, opening_bench}
 use Rattle.sim_steps.specs.Deeds.{Event}
 use Rattle.sim_steps.specs.Parts.{IsPart, IsStill}
 use Rattle.sim_steps.specs.Showing.{AllIdle}
+use Rattle.sim_steps.specs.Stretches.{Carried}
 use Rattle.sim_laws.specs.Laws.{AgreeLaw, HistoryLaw, PastLaw, ReportLaw, WorldLaw}
 use Rattle.sim_channels.specs.declared.driver.Driver.{Driver}
 use Rattle.sim_channels.specs.Channels.{EntersNext, Fits, IsAtStart, OthersDid, bench}
-use Rattle.sim_channels.specs.Waiting.{IsAtRest}
+use Rattle.sim_channels.specs.Waiting.{IsAtRest, IsDone}
 use Rattle.machine_desk.specs.declared.report.ReportStop.{ReportStop}
 use Rattle.machine_desk.specs.declared.report.ReportStop.TheVariants.{Failed, NoMemory, Worn}
 use Rattle.machine_desk.specs.Desks.{DeskView, Footing, HadMemory, calls_of}
@@ -180,12 +181,36 @@ Breaks NoMemory o a driver after old new = (new ≡ old) ⊎ IsUnreported o a (b
 Breaks Worn o a driver after old new = (new ≡ old) × (driver.desk.worn ≡ true)
 
 -- how it ends that a step is followed, with this text behind its line
-abbrev pub Passed : Result (Unit {0}) ReportStop → Step → List ℕ → Bench → Driver → List Meaning → SinkView → SinkView → Type 0
-Passed (Ok done) step text a driver after old new = IsReported (order_with step text) a (bench driver after) old new
-Passed (Err stop) step text a driver after old new = Breaks stop (order_with step text) a driver after old new
+abbrev pub Passed : Result (Unit {0}) ReportStop → Step → List ℕ → Driver → List Meaning → Driver → List Meaning → SinkView → SinkView → Type 0
+Passed (Ok done) step text d before driver after old new = IsReported (order_with step text) (bench d before) (bench driver after) old new
+Passed (Err stop) step text d before driver after old new = Breaks stop (order_with step text) (bench d before) driver after old new
 
--- how a run ends behind all lines: nothing is left to do, and all of the report was taken and written; or it breaks off, only
--- beside workers
-abbrev pub Finished : Result (Unit {0}) ReportStop → Bench → Driver → List Meaning → SinkView → SinkView → Type 0
-Finished (Ok done) a driver after old new = IsReported Nothing a (bench driver after) old new × IsStill (bench driver after)
-Finished (Err stop) a driver after old new = (IsSolo a.machine → ⊥) × Breaks stop Nothing a driver after old new
+-- why it wasn't followed, ahead of its report
+abbrev pub IsStopped : ReportStop → Driver → Type 0
+IsStopped Failed driver = ⊥
+IsStopped NoMemory driver = driver.desk.worn ≡ false
+IsStopped Worn driver = driver.desk.worn ≡ true
+
+-- with the report taken nothing is left to do, whatever the devices are
+abbrev pub ReadyAfter : Driver → Driver → Type 0
+ReadyAfter old new = (devices : List Meaning) → Fits old devices → IsAtRest old → IsReady new devices
+
+-- ---- behind all lines
+
+-- no packet waits any more, and what came of that was delivered
+pub record IsCaughtUp (d : Driver) (before : List Meaning) (driver : Driver) (after : List Meaning) : Type 0 where
+  pub fits : Fits driver after
+  pub rest : IsAtRest driver
+  pub done : IsDone driver
+  pub carried : Carried (bench d before) (bench driver after)
+
+-- nothing is left to do, and all of the report was taken and written
+pub record IsFinished (a : Bench) (driver : Driver) (after : List Meaning) (old new : SinkView) : Type 0 where
+  pub ready : IsReady driver after
+  pub reported : IsReported Nothing a (bench driver after) old new
+  pub still : IsStill (bench driver after)
+
+-- how a run ends behind all lines: so, or it breaks off, only beside workers
+abbrev pub Finished : Result (Unit {0}) ReportStop → Driver → List Meaning → Driver → List Meaning → SinkView → SinkView → Type 0
+Finished (Ok done) d before driver after old new = IsFinished (bench d before) driver after old new
+Finished (Err stop) d before driver after old new = (IsSolo d.desk.now → ⊥) × Breaks stop Nothing (bench d before) driver after old new

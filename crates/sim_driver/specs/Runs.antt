@@ -185,3 +185,7 @@ HasEnded end g after text = (history : List Turn) × EndsBy end g after history 
 -- how a run ends
 abbrev pub Ends : SimEnd → Given → List Meaning → SinkView → SinkView → Type 0
 Ends end g after old new = (text : List ℕ) × HasEnded end g after text × Wrote old new text
+
+-- how a run ends of this policy, these settings, devices and script, whose first line has this number
+abbrev pub EndsRun : SimEnd → Policy → Settings → List Meaning → List ℕ → ℕ → List Meaning → SinkView → SinkView → Type 0
+EndsRun end policy settings devices script first after old new = Ends end (given policy settings devices script first) after old new

@@ -1,10 +1,11 @@
 // A frame comes to a device.
 ghost use Rattle.std.specs.Prelude.{◌≡◌, ◌+◌, ◌<◌, ◌≤◌, map, length, OnOk};
+ghost use Rattle.machine_desk.specs.declared.inbound.Stage.TheVariants.{Live};
 ghost use Rattle.script_text.specs.Orders.{Order};
 ghost use Rattle.script_text.specs.Steps.{IsAmong};
 ghost use Rattle.script_text.specs.Grammar.{most_bytes};
 ghost use Rattle.sim_channels.specs.Channels.{Fits, IsSame, bench};
-ghost use Rattle.sim_channels.specs.Delivering.{IsPluggedIn};
+ghost use Rattle.sim_channels.specs.Staging.{HasStage};
 ghost use Rattle.sim_channels.specs.Waiting.{IsAtRest, IsAtRestBut};
 ghost use Rattle.sim_driver.specs.Commands.{Looked, ObeyedBy};
 
@@ -64,7 +65,7 @@ fn look<R: Wait, D: Device>(
 ) -> Result<(), Stopped>
     requires fits { Fits driver.old (map D.meaning devices.old) }
     requires rest { IsAtRest driver.old }
-    requires plugged { IsPluggedIn at driver.old }
+    requires live { HasStage at Live driver.old }
     requires within { at < length devices.old }
     requires short { length frame ≤ most_bytes }
     ensures fits { OnOk result (Fits driver.new (map D.meaning devices.new)) }

@@ -11,13 +11,13 @@ ghost use Rattle.sim_driver.specs.Runs.{Ends, IsAtRefused, most_workers, refused
 use crate::drive::SimEnd;
 use crate::lines::{at_desk, deed_laws};
 use core_machine::{Core, JobItem};
+use desk_jobs::Crew;
 use device_port::Device;
 use history_lock::{Hall, Pass};
 use machine_desk::{Desk, Opening, close_hall};
 use machine_sharing::{between_laws, legal_laws};
 use maple_io::Sink;
 use packet_workers::{Gate, PacketWorks};
-use sim_channels::Crew;
 use std::alloc::Global;
 use std::sync::Wait;
 use std::thread::Threads;
@@ -109,16 +109,10 @@ pub(crate) fn crewed<'d, R: Threads + Wait + Sync, D: Device, O: Sink, G: Gate +
         rt, &hall, pass, &jobs, taker, &lobby, &works, run, workers,
     );
     close_hall(hall, pass);
-    let Run {
-        devices,
-        to,
-        end,
-        ..
-    } = run;
     Returned {
-        devices,
-        to,
-        end: joined(end, outcome),
+        devices: run.devices,
+        to: run.to,
+        end: joined(run.end, outcome),
     }
 }
 
@@ -186,21 +180,21 @@ impl<'d, D: Device, O: Sink, G: Gate> Drives<Core, JobItem> for Run<'d, D, O, G>
     }
 }
 
-// How a run ended, beside the passes that were lent to it.
-struct Ended<'p> {
+// How a run beside workers ended, beside the passes that were lent to it.
+struct EndedBeside<'p> {
     pass: &'p mut Pass<Core>,
     taker: &'p mut JobPass<JobItem>,
     end: SimEnd,
 }
 
-impl<'p> Ended<'p> {
+impl<'p> EndedBeside<'p> {
     // The end alone. The passes are no longer lent.
     fn into_end(self) -> SimEnd
         ensures end { result ≡ self.entry.end }
         ensures pass { self.exit.0.now ≡ self.entry.pass.now }
         ensures taker { self.exit.1.0.now ≡ self.entry.taker.now }
     {
-        let Ended {
+        let EndedBeside {
             pass: _pass,
             taker: _taker,
             end,
@@ -225,7 +219,7 @@ fn at_passes<'p, R: Wait, D: Device, O: Sink, G: Gate>(
     devices: &mut [D],
     gate: &G,
     to: &mut O,
-) -> Ended<'p>
+) -> EndedBeside<'p>
     requires hall { IsPassOf hall.now pass.now × IsTakerOf jobs.now taker.now }
     requires opened { IsOpening (known pass.now) opening (map D.meaning devices.old) }
     requires beside { IsSolo opening.start.value → ⊥ }
@@ -254,5 +248,5 @@ fn at_passes<'p, R: Wait, D: Device, O: Sink, G: Gate>(
     let Some(crew) = crew else { unreachable!() };
     let pass = desk.end();
     let taker = crew.end();
-    Ended { pass, taker, end }
+    EndedBeside { pass, taker, end }
 }

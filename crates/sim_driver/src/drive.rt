@@ -3,7 +3,7 @@ ghost use Rattle.std.specs.Prelude.{◌≡◌, ◌≢◌, ◌+◌, ◌^◌, ◌<
 ghost use Rattle.maple_io.specs.Views.{NoWriteFailed, WriteFailed};
 ghost use Rattle.machine_steps.specs.Sound.{AreInRange};
 ghost use Rattle.sim_steps.specs.Showing.{AllIdle};
-ghost use Rattle.sim_driver.specs.Runs.{Ends, IsAtRefused, given, most_workers, over, refused_line};
+ghost use Rattle.sim_driver.specs.Runs.{EndsRun, IsAtRefused, most_workers, over, refused_line};
 
 use crate::alone::alone;
 use crate::crewed::crewed;
@@ -56,7 +56,7 @@ pub fn run_sim<R: Threads + Wait + Copy + Send + Sync, O: Sink, G: Gate + Sync>(
     requires workers { settings.workers ≤ most_workers }
     requires idle { AllIdle (map meaning devices.old.items) }
     requires numbers { first + length script.now < 2 ^ 32 }
-    ensures ends { Ends result (given policy settings (over meaning devices.old) script.now first) (over meaning devices.new) (O.tells out.old) (O.tells out.new) }
+    ensures ends { EndsRun result policy settings (over meaning devices.old) script.now first (over meaning devices.new) (O.tells out.old) (O.tells out.new) }
     ensures done { result ≡ SimEnd.Done → refused_line (length devices.old.items) first script.now ≡ None }
     ensures script { IsAtRefused result (refused_line (length devices.old.items) first script.now) }
     ensures fault { result ≡ SimEnd.WriteFault → WriteFailed (O.tells out.old) (O.tells out.new) }
@@ -83,7 +83,7 @@ pub fn drive<R: Threads + Wait + Sync, D: Device, O: Sink, G: Gate + Sync>(
     requires workers { settings.workers ≤ most_workers }
     requires idle { AllIdle (map D.meaning devices.old) }
     requires numbers { first + length script.now < 2 ^ 32 }
-    ensures ends { Ends result (given policy settings (map D.meaning devices.old) script.now first) (map D.meaning devices.new) (O.tells to.old) (O.tells to.new) }
+    ensures ends { EndsRun result policy settings (map D.meaning devices.old) script.now first (map D.meaning devices.new) (O.tells to.old) (O.tells to.new) }
     ensures done { result ≡ SimEnd.Done → refused_line (length devices.old) first script.now ≡ None }
     ensures script { IsAtRefused result (refused_line (length devices.old) first script.now) }
     ensures fault { result ≡ SimEnd.WriteFault → WriteFailed (O.tells to.old) (O.tells to.new) }

@@ -1,10 +1,12 @@
 // An order of a script is followed, and what the report gains by it is written.
-ghost use Rattle.std.specs.Prelude.{◌≡◌, ◌≢◌, map, length, false, true, Err, OnOk};
+ghost use Rattle.std.specs.Prelude.{◌≡◌, ◌≢◌, map, length, Err, OnOk};
 ghost use Rattle.maple_io.specs.Views.{NoWriteFailed, WriteFailed};
 ghost use Rattle.script_text.specs.Steps.{IsKept as IsKeptStep};
 ghost use Rattle.machine_desk.specs.declared.report.ReportStop.TheVariants as stops;
-ghost use Rattle.sim_channels.specs.Channels.{SameCrew, bench};
-ghost use Rattle.sim_driver.specs.Passes.{Finished, IsMarked, IsReady, Passed};
+ghost use Rattle.desk_jobs.specs.Crews.{SameCrew};
+ghost use Rattle.sim_channels.specs.Channels.{IsSame};
+ghost use Rattle.machine_desk.specs.Reports.{ReportsBy};
+ghost use Rattle.sim_driver.specs.Passes.{IsMarked, IsReady, IsStopped, Passed, ReadyAfter};
 
 use crate::obeying::obey;
 use device_port::Device;
@@ -17,6 +19,7 @@ use std::sync::Wait;
 
 // Does what a step of a script asks for, over all devices, and writes the lines that the report gains. The turns so far are
 // marked ahead of it.
+#[tactic(auto, using(crate::proofs::Reporting::passed_short))]
 pub(crate) fn follow<R: Wait, G: Gate, D: Device, O: Sink>(
     rt: &R,
     gate: &G,
@@ -29,7 +32,7 @@ pub(crate) fn follow<R: Wait, G: Gate, D: Device, O: Sink>(
     requires ready { IsReady driver.old (map D.meaning all.old) }
     requires step { IsKeptStep (length all.old) step }
     ensures ready { OnOk result (IsReady driver.new (map D.meaning all.new)) }
-    ensures follows { Passed result step text.now (bench driver.old (map D.meaning all.old)) driver.new (map D.meaning all.new) (O.tells to.old) (O.tells to.new) }
+    ensures follows { Passed result step text.now driver.old (map D.meaning all.old) driver.new (map D.meaning all.new) (O.tells to.old) (O.tells to.new) }
     ensures marked { IsMarked driver.old.desk driver.new.desk }
     ensures crew { SameCrew driver.old.crew driver.new.crew }
     ensures cause { result ≡ Err stops.Failed → WriteFailed (O.tells to.old) (O.tells to.new) }
@@ -40,42 +43,32 @@ pub(crate) fn follow<R: Wait, G: Gate, D: Device, O: Sink>(
     let Ok(()) = obey(rt, gate, driver, all, step, text) else {
         return Err(stopped(driver));
     };
-    driver.write_report(rt, to)
+    report(rt, driver, to)
 }
 
-// Behind all lines: beside workers waits until no packet waits, delivers, and writes the lines that the report gained. The
-// turns so far are marked ahead of it.
-pub(crate) fn finish<R: Wait, G: Gate, D: Device, O: Sink>(
+// Takes the lines that the report gained, and writes them.
+#[tactic(auto, using(crate::proofs::Reporting::ready_after))]
+pub(crate) fn report<R: Wait, O: Sink>(
     rt: &R,
-    gate: &G,
     driver: &mut Driver<'_>,
-    all: &mut [D],
     to: &mut O,
 ) -> Result<(), ReportStop>
-    requires ready { IsReady driver.old (map D.meaning all.old) }
-    ensures ready { OnOk result (IsReady driver.new (map D.meaning all.new)) }
-    ensures finished { Finished result (bench driver.old (map D.meaning all.old)) driver.new (map D.meaning all.new) (O.tells to.old) (O.tells to.new) }
-    ensures marked { IsMarked driver.old.desk driver.new.desk }
-    ensures crew { SameCrew driver.old.crew driver.new.crew }
+    ensures reports { ReportsBy result driver.old.desk driver.new.desk (O.tells to.old) (O.tells to.new) }
+    ensures ready { OnOk result (ReadyAfter driver.old driver.new) }
+    ensures rest { driver.new ≡ record driver.old { desk = driver.new.desk } }
+    ensures footing { driver.new.desk.footing ≡ driver.old.desk.footing }
+    ensures same { IsSame driver.old driver.new }
     ensures cause { result ≡ Err stops.Failed → WriteFailed (O.tells to.old) (O.tells to.new) }
     ensures spared { result ≢ Err stops.Failed → NoWriteFailed (O.tells to.old) (O.tells to.new) }
 {
     driving_laws();
-    driver.mark();
-    if driver.works_alone() {
-        return Ok(());
-    }
-    let Ok(()) = driver.catch_up(rt, gate, all) else {
-        return Err(stopped(driver));
-    };
     driver.write_report(rt, to)
 }
 
 // Why it was that the driver stopped.
-fn stopped(driver: &Driver<'_>) -> ReportStop
+pub(crate) fn stopped(driver: &Driver<'_>) -> ReportStop
     ensures failed { result ≢ ReportStop.Failed }
-    ensures worn { result ≡ ReportStop.Worn → driver.now.desk.worn ≡ true }
-    ensures memory { result ≡ ReportStop.NoMemory → driver.now.desk.worn ≡ false }
+    ensures stopped { IsStopped result driver.now }
 {
     if driver.is_worn() {
         ReportStop::Worn

@@ -6,6 +6,7 @@ mod arriving;
 mod changing;
 mod crewed;
 pub mod drive;
+mod finishing;
 mod following;
 mod lines;
 mod obeying;

@@ -1,4 +1,5 @@
--- What others did beside the driver leaves the places as they are, and which sessions are open: so a message waits where one did, and a turn is one from ahead of it.
+-- What others did beside the driver leaves the places as they are, and which sessions are open: so a message waits where one did, and a turn is one from
+-- ahead of it.
 use Rattle.std.proofs.Common.{◌≡◌, ℕ, ◌+◌, ◌<◌, List, [], ◌∷◌, sym, ap, ◌∙◌, subst, inl, inr}
 use Rattle.device_port.specs.Devices.{Meaning}
 use Rattle.machine_steps.specs.declared.note.Note.{Note}
@@ -68,7 +69,9 @@ module _ (laws : DrivingLaws) (old mid : Driver) (kept : IsKept old) (h : Others
     event = one.event;
     bytes = one.bytes;
     reply = one.reply;
-    stretch = carried_ahead (one.event ∷ []) [] (bench old ds) (bench mid ds) d (carried_beside (bench old ds) (bench mid ds) (others_beside laws old mid kept h ds)) one.stretch;
+    stretch =
+        carried_ahead (one.event ∷ []) [] (bench old ds) (bench mid ds) d (carried_beside (bench old ds) (bench mid ds) (others_beside laws old mid kept h ds))
+        one.stretch;
     before = aside_then (bench old ds) (bench mid ds) one.event.before (others_aside ds) one.before;
     deed = one.deed;
   }

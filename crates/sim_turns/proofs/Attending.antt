@@ -23,7 +23,8 @@ module _ (here : ℕ) (old mid : Driver) (ds : List Meaning) (fits : Fits old ds
   everywhere : (P : Channel → Type 0) → ((n : ℕ) → (n ≡ here → ⊥) → WhilePlugged P n old) → WhilePlugged P here mid → (n : ℕ) → WhilePlugged P n mid
   everywhere P was now n = by_index n here (λ e. subst (λ m. WhilePlugged P m mid) (sym e) now) (λ o. while_still P n old mid (keeps.others n o) (was n o))
 
-  module _ (same : IsSame old mid) (rest : IsAtRestBut here old) (jobs : WorksAlone old → NoneWaits mid.desk) (heard : IsHeard here mid) (offered : IsOffered here mid) where
+  module _ (same : IsSame old mid) (rest : IsAtRestBut here old) (jobs : WorksAlone old → NoneWaits mid.desk) (heard : IsHeard here mid)
+      (offered : IsOffered here mid) where
     pub heard_through : IsHeardThrough mid
     heard_through = record {
       jobs = λ alone. jobs (alone_back old mid same alone);
@@ -34,7 +35,8 @@ module _ (here : ℕ) (old mid : Driver) (ds : List Meaning) (fits : Fits old ds
     -- where the desk is as it was, the machine has no message more for any device
     taken_where : mid.desk ≡ old.desk → WorksAlone mid → (n : ℕ) → IsTaken n mid
     taken_where desk alone n k there plugged =
-        let open_now : is_plugged (n + 1) old.desk.now ≡ true = ap (λ (d : DeskView). is_plugged (n + 1) d.now) (sym desk) ∙ plugged_at mid n k kept there plugged in
+        let open_now : is_plugged (n + 1) old.desk.now ≡ true =
+        ap (λ (d : DeskView). is_plugged (n + 1) d.now) (sym desk) ∙ plugged_at mid n k kept there plugged in
         let h = plugged_by old (n + 1) fits.kept open_now in
         let was = (rest.done (alone_back old mid same alone)).taken in
         ap (λ (d : DeskView). messages_for (n + 1) d.now) desk ∙ ap (λ m. messages_for m old.desk.now) h.place ∙ was h.at h.channel h.there h.plugged
@@ -47,8 +49,10 @@ module _ (here : ℕ) (old mid : Driver) (ds : List Meaning) (fits : Fits old ds
     }
 
     -- where all other places stay as they are, what was taken out at one is enough
-    module _ (laws : DrivingLaws) (stays : StaysBut (WorksAlone old) here old mid) (new : Driver) (es : List Meaning) (also : IsSame mid new) (fits_now : Fits new es)
-        (taken : IsQuiet mid → IsTaken here new) (offered_now : IsOffered here new) (heard_now : IsHeard here mid → IsHeard here new) (others : StaysBut (IsQuiet mid) here mid new)
+    module _ (laws : DrivingLaws) (stays : StaysBut (WorksAlone old) here old mid) (new : Driver) (es : List Meaning) (also : IsSame mid new)
+        (fits_now : Fits new es)
+        (taken : IsQuiet mid → IsTaken here new) (offered_now : IsOffered here new) (heard_now : IsHeard here mid → IsHeard here new)
+        (others : StaysBut (IsQuiet mid) here mid new)
         (jobs_now : NoneWaits mid.desk → NoneWaits new.desk) where
       both : StaysBut (WorksAlone old) here old new
       both = record {
@@ -76,6 +80,7 @@ module _ (here : ℕ) (old mid : Driver) (ds : List Meaning) (fits : Fits old ds
       }
 
 -- six facts of one result give another
-pub on_six : {T E A B C D F G H : Type 0} (r : Result T E) → (A → B → C → D → F → G → H) → OnOk r A → OnOk r B → OnOk r C → OnOk r D → OnOk r F → OnOk r G → OnOk r H
+pub on_six : {T E A B C D F G H : Type 0} (r : Result T E) → (A → B → C → D → F → G → H) → OnOk r A → OnOk r B → OnOk r C → OnOk r D → OnOk r F → OnOk r G
+    → OnOk r H
 on_six (Ok x) f a b c d e g = f a b c d e g
 on_six (Err e) f a b c d h g = tt

@@ -16,18 +16,20 @@ use Rattle.sim_steps.specs.Deeds.Deed.{Enters, Calls}
 use Rattle.sim_steps.specs.Parts.{asked_of, asks, is_asked}
 use Rattle.sim_steps.specs.Stretches.{Carried}
 use Rattle.sim_steps.proofs.Turned.{is_turn}
-use Rattle.sim_channels.specs.Channels.{Fits, bench, is_plugged_in}
+use Rattle.machine_desk.specs.Hearing.{is_live}
+use Rattle.sim_channels.specs.Channels.{Fits, bench}
 use Rattle.sim_channels.specs.Driving.{DrivingLaws}
 use Rattle.sim_channels.specs.declared.channel.Channel.{Channel}
 use Rattle.sim_channels.specs.declared.driver.Driver.{Driver}
 use Rattle.sim_channels.proofs.Keeping.{reached_sound}
+use Rattle.sim_channels.proofs.Kept.{staged_at}
 use Rattle.sim_turns.specs.Taking.{plugged_count}
 
 -- ---- counts
 
 -- an open session was open before
 abbrev pub NoneOpens : List Channel → List Channel → Type 0
-NoneOpens ks ls = (n : ℕ) (k l : Channel) → slice_get ks n ≡ Some k → slice_get ls n ≡ Some l → is_plugged_in l.inbound.stage ≡ true → is_plugged_in k.inbound.stage ≡ true
+NoneOpens ks ls = (n : ℕ) (k l : Channel) → slice_get ks n ≡ Some k → slice_get ls n ≡ Some l → is_live l.inbound.stage ≡ true → is_live k.inbound.stage ≡ true
 
 one_by : Bool → ℕ
 one_by b = if b then 1 else 0
@@ -39,7 +41,7 @@ one_less true false h = omega arith
 one_less false true h = (let f : false ≡ true = h refl in absurd (cc))
 one_less false false h = omega arith
 
-counted : (k : Channel) (ks : List Channel) → plugged_count (k ∷ ks) ≡ one_by (is_plugged_in k.inbound.stage) + plugged_count ks
+counted : (k : Channel) (ks : List Channel) → plugged_count (k ∷ ks) ≡ one_by (is_live k.inbound.stage) + plugged_count ks
 unfolding one_by
 counted k ks = refl
 
@@ -48,7 +50,7 @@ count_le [] [] long h = omega arith
 count_le [] (l ∷ ls) long h = absurd (omega arith)
 count_le (k ∷ ks) [] long h = absurd (omega arith)
 count_le (k ∷ ks) (l ∷ ls) long h =
-    let one = one_less (is_plugged_in k.inbound.stage) (is_plugged_in l.inbound.stage) (h zero k l refl refl) in
+    let one = one_less (is_live k.inbound.stage) (is_live l.inbound.stage) (h zero k l refl refl) in
     let more = count_le ks ls (omega arith) (λ n x y e f. h (suc n) x y e f) in
     omega (arith, counted k ks, counted l ls)
 
@@ -60,15 +62,17 @@ one_fewer false b e f = absurd (cc)
 
 -- and one was open that isn't now
 pub count_lt : (ks ls : List Channel) (at : ℕ) (k l : Channel) → length ls ≡ length ks → NoneOpens ks ls → slice_get ks at ≡ Some k → slice_get ls at ≡ Some l
-    → is_plugged_in k.inbound.stage ≡ true → is_plugged_in l.inbound.stage ≡ false → plugged_count ls < plugged_count ks
+    → is_live k.inbound.stage ≡ true → is_live l.inbound.stage ≡ false → plugged_count ls < plugged_count ks
 count_lt [] ls at k l long h e f open_before shut = absurd (none-some k e)
 count_lt (x ∷ ks) [] at k l long h e f open_before shut = absurd (none-some l f)
 count_lt (x ∷ ks) (y ∷ ls) zero k l long h e f open_before shut =
-    let one = one_fewer (is_plugged_in x.inbound.stage) (is_plugged_in y.inbound.stage) (ap (λ (z : Channel). is_plugged_in z.inbound.stage) (same_Some x k e) ∙ open_before) (ap (λ (z : Channel). is_plugged_in z.inbound.stage) (same_Some y l f) ∙ shut) in
+    let one =
+    one_fewer (is_live x.inbound.stage) (is_live y.inbound.stage) (ap (λ (z : Channel). is_live z.inbound.stage) (same_Some x k e) ∙ open_before)
+    (ap (λ (z : Channel). is_live z.inbound.stage) (same_Some y l f) ∙ shut) in
     let more = count_le ks ls (omega arith) (λ n z w g i. h (suc n) z w g i) in
     omega (arith, counted x ks, counted y ls)
 count_lt (x ∷ ks) (y ∷ ls) (suc n) k l long h e f open_before shut =
-    let one = one_less (is_plugged_in x.inbound.stage) (is_plugged_in y.inbound.stage) (h zero x y refl refl) in
+    let one = one_less (is_live x.inbound.stage) (is_live y.inbound.stage) (h zero x y refl refl) in
     let more = count_lt ks ls n k l (omega arith) (λ m z w g i. h (suc m) z w g i) e f open_before shut in
     omega (arith, counted x ks, counted y ls)
 
@@ -86,7 +90,8 @@ none_asked e es none = go (is_asked e.deed) none
     go false f = (refl, f)
 
 module _ (laws : DrivingLaws) (c : ℕ) where
-  was_plugged : (old : State) (entry : Entry) (reply : Reply) (new : State) → IsSound old → IsTurn (record { before = old; entry = entry; reply = reply; behind = new })
+  was_plugged : (old : State) (entry : Entry) (reply : Reply) (new : State) → IsSound old
+      → IsTurn (record { before = old; entry = entry; reply = reply; behind = new })
       → (entry ≡ entries.Open c → ⊥) → is_plugged c new ≡ true → is_plugged c old ≡ true
   was_plugged old entry reply new sound turn other plugged = go (session_at c old) refl (session_at c new) refl
     where
@@ -95,7 +100,8 @@ module _ (laws : DrivingLaws) (c : ℕ) where
       go None e None f = (let g : true ≡ false = sym plugged ∙ ap is_some f in absurd (cc))
       go None e (Some t) f = absurd (other (laws.sessions old entry reply new sound turn.steps c t e f).entry_is)
 
-  plugged_along : (a : Bench) (es : List Event) (b : Bench) → IsSound a.machine → Runs a es b → asked_of es ≡ [] → is_plugged c b.machine ≡ true → is_plugged c a.machine ≡ true
+  plugged_along : (a : Bench) (es : List Event) (b : Bench) → IsSound a.machine → Runs a es b → asked_of es ≡ [] → is_plugged c b.machine ≡ true
+      → is_plugged c a.machine ≡ true
   plugged_along a [] b sound e none plugged = ap (λ (x : Bench). is_plugged c x.machine) (sym e) ∙ plugged
   plugged_along a (e ∷ es) b sound (same, happens, rest) none plugged =
       let begins : IsSound e.before.machine = subst (λ (x : Bench). IsSound x.machine) (sym same) sound in
@@ -112,6 +118,7 @@ pub carried_count : DrivingLaws → (old new : Driver) (before behind : List Mea
 carried_count laws old new before behind h k long carried =
     count_le old.channels.items new.channels.items (k.places ∙ sym long ∙ sym h.places)
     (λ n x y e f open_now.
-    sym (h.kept.stages n x e).plugged
-    ∙ plugged_along laws (n + 1) (bench old before) carried.events (bench new behind) (reached_sound laws old.desk.now h.kept.reached) carried.runs carried.asked_is
-    ((k.kept.stages n y f).plugged ∙ open_now))
+    sym (staged_at old n x h.kept e)
+    ∙ plugged_along laws (n + 1) (bench old before) carried.events (bench new behind) (reached_sound laws old.desk.now h.kept.reached) carried.runs
+    carried.asked_is
+    (staged_at new n y k.kept f ∙ open_now))

@@ -17,7 +17,8 @@ use Rattle.machine_steps.specs.Machine.{session_at}
 use Rattle.sim_steps.specs.Benches.{Bench}
 use Rattle.sim_steps.specs.Stretches.{Stretch}
 use Rattle.sim_steps.proofs.Moments.{called, stretch_call}
-use Rattle.sim_channels.specs.Channels.{EntersNext, Fits, IsKept, IsSame, bench, is_plugged_in, slots_of}
+use Rattle.machine_desk.specs.Hearing.{is_live}
+use Rattle.sim_channels.specs.Channels.{EntersNext, Fits, IsKept, IsSame, bench, slots_of}
 use Rattle.sim_channels.specs.Driving.{DrivingLaws}
 use Rattle.sim_channels.specs.Waiting.{IsAtRest, IsAtRestBut, IsDone, IsOffered, IsQuiet, IsTaken as IsTakenOut, StaysBut}
 use Rattle.sim_channels.specs.declared.channel.Channel.{Channel}
@@ -48,9 +49,11 @@ module _ (at : ℕ) (turned : Turned) (bytes : List ℕ) (before behind : List M
 
 -- ---- the turn
 
-module _ (laws : DrivingLaws) (at : ℕ) (turned : Turned) (bytes : List ℕ) (old mid new : Driver) (kept : IsKept old) (rest : IsAtRest old) (waits : Waits at old)
+module _ (laws : DrivingLaws) (at : ℕ) (turned : Turned) (bytes : List ℕ) (old mid new : Driver) (kept : IsKept old) (rest : IsAtRest old)
+    (waits : Waits at old)
     (taken : IsTaken turned) (other : turned ≡ FailedTurn → ⊥) (enters : EntersNext (entries.Note (notes.Turned (at + 1) turned)) Done old.desk mid.desk)
-    (rest_is : mid ≡ record old { desk = mid.desk }) (same : IsSame old new) (desk : new.desk ≡ mid.desk) (moves : ChannelMoves at (Appends bytes) mid new) where
+    (rest_is : mid ≡ record old { desk = mid.desk }) (same : IsSame old new) (desk : new.desk ≡ mid.desk)
+    (moves : ChannelMoves at (Appends bytes) mid new) where
   abbrev Telling : Entry
   Telling = entries.Note (notes.Turned (at + 1) turned)
 
@@ -73,8 +76,8 @@ module _ (laws : DrivingLaws) (at : ℕ) (turned : Turned) (bytes : List ℕ) (o
   noted = subst (EntersNext Telling Done old.desk) (sym desk) enters
 
   kept_behind : IsKept new
-  kept_behind = kept_channel laws old new Telling Done kept tt noted.steps refl refl (λ c. refl) at K L at_channel changes.stage
-      (not_fresh L (changes.stage ∙ waits.plugged))
+  kept_behind = kept_channel laws old new Telling Done kept tt noted.steps (λ c. refl) at K L at_channel changes.session
+      (not_fresh L (changes.session.1 ∙ waits.plugged))
 
   -- the machine has no message more for any device
   sessions_stay : (c : ℕ) → session_at c new.desk.now ≡ session_at c old.desk.now
@@ -93,20 +96,25 @@ module _ (laws : DrivingLaws) (at : ℕ) (turned : Turned) (bytes : List ℕ) (o
 
   taken_out : IsDone old → IsTakenOut at new
   taken_out done x there plugged =
-      messages_same laws (at + 1) old.desk.now new.desk.now kept.reached kept_behind.reached (plugged_at old at K kept waits.there waits.plugged) (sessions_stay (at + 1))
+      messages_same laws (at + 1) old.desk.now new.desk.now kept.reached kept_behind.reached (plugged_at old at K kept waits.there waits.plugged)
+      (sessions_stay (at + 1))
       ∙ done.taken at K waits.there waits.plugged
 
   dealt_rest : IsAtRestBut at new
   dealt_rest =
-      rests_but laws at old new kept kept_behind same rest others_stay (λ done. laws.none old.desk.now Telling Done new.desk.now done.jobs refl noted.steps) taken_out offered
+      rests_but laws at old new kept kept_behind same rest others_stay (λ done. laws.none old.desk.now Telling Done new.desk.now done.jobs refl noted.steps)
+      taken_out offered
 
   none_opens : NoneOpens old.channels.items new.channels.items
   none_opens n x y e f open_now =
       ⊎_elim (λ here.
       (let is : L ≡ y = same_Some L y (sym (is_there at K L old new at_channel) ∙ ap (slice_get new.channels.items) (sym here) ∙ f) in
       let first : K ≡ x = same_Some K x (sym waits.there ∙ ap (slice_get old.channels.items) (sym here) ∙ e) in
-      ap (λ (z : Channel). is_plugged_in z.inbound.stage) (sym first) ∙ ap is_plugged_in (sym changes.stage) ∙ ap (λ (z : Channel). is_plugged_in z.inbound.stage) is ∙ open_now))
-      (λ o. (let is : x ≡ y = same_Some x y (sym e ∙ sym (is_beside at K L old new at_channel n o) ∙ f) in ap (λ (z : Channel). is_plugged_in z.inbound.stage) is ∙ open_now)) (cases_eq n at)
+      ap (λ (z : Channel). is_live z.inbound.stage) (sym first) ∙ ap is_live (sym changes.session.1)
+      ∙ ap (λ (z : Channel). is_live z.inbound.stage) is ∙ open_now))
+      (λ o.
+      (let is : x ≡ y = same_Some x y (sym e ∙ sym (is_beside at K L old new at_channel n o) ∙ f) in
+      ap (λ (z : Channel). is_live z.inbound.stage) is ∙ open_now)) (cases_eq n at)
 
   dealt_tires : Tires turned old new
   dealt_tires =
@@ -120,7 +128,8 @@ module _ (laws : DrivingLaws) (at : ℕ) (turned : Turned) (bytes : List ℕ) (o
         let is : L ≡ x = same_Some L x (sym (is_there at K L old new at_channel) ∙ e) in
         let device : turns.behind ≡ d = device_there at turned bytes before behind turns d f in
         let count : K.waiting ≡ length turns.before.pending = fits.waiting at K turns.before waits.there turns.there in
-        let fewer : length turns.before.pending ≡ length turns.behind.pending + 1 = (is_dealt turned bytes turns.before turns.behind taken other turns.turns).fewer in
+        let fewer : length turns.before.pending ≡ length turns.behind.pending + 1 =
+        (is_dealt turned bytes turns.before turns.behind taken other turns.turns).fewer in
         let less : K.waiting ≡ L.waiting + 1 = changes.waiting in
         let now : L.waiting ≡ length turns.behind.pending = omega arith in
         ap (λ (y : Channel). y.waiting) (sym is) ∙ now ∙ ap (λ (m : Meaning). length m.pending) device
@@ -146,7 +155,8 @@ module _ (laws : DrivingLaws) (at : ℕ) (turned : Turned) (bytes : List ℕ) (o
           bytes = bytes;
           reply = Done;
           stretch = subst (λ (x : Bench). Stretch (event ∷ []) [] (bench old before) x) bench_is
-              (stretch_call (at + 1) (Turning turned bytes) Done (bench old before) b refl (rest_is_drained old before kept rest false (λ e. absurd (cc))) whole refl calls);
+              (stretch_call (at + 1) (Turning turned bytes) Done (bench old before) b refl (rest_is_drained old before kept rest false (λ e. absurd (cc)))
+              whole refl calls);
           before = record { slots = refl; sessions = λ c. refl; alone = λ solo. refl };
           deed = refl;
         }

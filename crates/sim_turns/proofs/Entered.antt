@@ -91,14 +91,17 @@ module _ (laws : DrivingLaws) (entry : Entry) (reply : Reply) (old new : Driver)
     drained =
         let others = others_ahead old entry reply new.desk kept enters in
         let tends = tends_of old Ahead others in
-        rest_is_drained Ahead devices (tends_kept laws old Ahead kept tends) (others_rest laws old Ahead kept others rest) (tells_settling (EntersBy entry reply))
+        rest_is_drained Ahead devices (tends_kept laws old Ahead kept tends) (others_rest laws old Ahead kept others rest)
+        (tells_settling (EntersBy entry reply))
         (λ is. tends_done laws old Ahead kept tends (settled is))
 
     enters_at : MayEnter entry (bench old devices) → EntersAt entry reply (bench Ahead devices) (bench new devices)
     enters_at may =
         let tends = tends_of old Ahead (others_ahead old entry reply new.desk kept enters) in
         record {
-          may = asked_may entry (bench old devices) (bench Ahead devices) asked refl (plugged_stays laws old Ahead kept tends) (opened_stays laws old Ahead kept tends) may;
+          may =
+              asked_may entry (bench old devices) (bench Ahead devices) asked refl (plugged_stays laws old Ahead kept tends)
+              (opened_stays laws old Ahead kept tends) may;
           admitted = enters.made.admitted;
           steps = enters.made.steps;
           smooth = asked_smooth entry asked enters.between reply new.desk.now enters.made.steps;
@@ -113,7 +116,8 @@ module _ (laws : DrivingLaws) (entry : Entry) (reply : Reply) (old new : Driver)
         record {
           event = event;
           stretch = carried_ahead (event ∷ []) [] (bench old devices) (bench Ahead devices) (bench new devices)
-              (carried_beside (bench old devices) (bench Ahead devices) (others_beside laws old Ahead kept (others_ahead old entry reply new.desk kept enters) devices))
+              (carried_beside (bench old devices) (bench Ahead devices)
+              (others_beside laws old Ahead kept (others_ahead old entry reply new.desk kept enters) devices))
               (stretch_entry entry reply (bench Ahead devices) (bench new devices) asked drained memory (enters_at may));
           before = others_aside laws old Ahead kept (others_ahead old entry reply new.desk kept enters) devices;
           deed = refl;

@@ -17,7 +17,8 @@ use Rattle.sim_steps.specs.Benches.{Bench}
 use Rattle.sim_steps.specs.Deeds.{CallsAt, has_failed}
 use Rattle.sim_steps.specs.Parts.{has_dealt}
 use Rattle.sim_steps.proofs.Moments.{called, stretch_failed}
-use Rattle.sim_channels.specs.Channels.{EntersNext, Fits, IsKept, bench, is_plugged_in, slots_of}
+use Rattle.machine_desk.specs.Hearing.{is_live}
+use Rattle.sim_channels.specs.Channels.{EntersNext, Fits, IsKept, bench, slots_of}
 use Rattle.sim_channels.specs.Delivering.{Leaves}
 use Rattle.sim_channels.specs.Driving.{DrivingLaws}
 use Rattle.sim_channels.specs.Waiting.{IsAtRest, IsAtRestBut}
@@ -38,7 +39,8 @@ use Rattle.sim_turns.proofs.Noted.{noted_fits, noted_kept, noted_rest}
 use Rattle.sim_turns.proofs.Pending.{there_is}
 use Rattle.sim_turns.proofs.Rested.{rests_but}
 
-module _ (laws : DrivingLaws) (at : ℕ) (turned : Turned) (bytes : List ℕ) (old mid new : Driver) (kept : IsKept old) (rest : IsAtRest old) (waits : Waits at old)
+module _ (laws : DrivingLaws) (at : ℕ) (turned : Turned) (bytes : List ℕ) (old mid new : Driver) (kept : IsKept old) (rest : IsAtRest old)
+    (waits : Waits at old)
     (taken : IsTaken turned) (failed : turned ≡ FailedTurn) (enters : EntersNext (entries.Note (notes.Turned (at + 1) turned)) Done old.desk mid.desk)
     (same : mid ≡ record old { desk = mid.desk }) (footing : mid.desk.footing ≡ old.desk.footing) (leaves : Leaves at mid new) where
   abbrev K : Channel
@@ -65,19 +67,22 @@ module _ (laws : DrivingLaws) (at : ℕ) (turned : Turned) (bytes : List ℕ) (o
       rests_but laws at mid new kept_told leaves.kept leaves.spares.same rest_told leaves.spares.others (λ done. leaves.spares.jobs done.jobs)
       (λ done. all_left (λ k. messages_for (at + 1) new.desk.now ≡ []) at new leaves.left) (all_left (λ k. k.to ≡ []) at new leaves.left)
 
-  left_shut : (y : Channel) → slice_get new.channels.items at ≡ Some y → is_plugged_in y.inbound.stage ≡ false
-  left_shut y there = ap is_plugged_in (leaves.left y there)
+  left_shut : (y : Channel) → slice_get new.channels.items at ≡ Some y → is_live y.inbound.stage ≡ false
+  left_shut y there = ap is_live (leaves.left y there)
 
   none_opens : NoneOpens mid.channels.items new.channels.items
   none_opens n x y e f open_now =
       ⊎_elim (λ here. (let g : true ≡ false = sym open_now ∙ left_shut y (ap (slice_get new.channels.items) (sym here) ∙ f) in absurd (cc)))
-      (λ o. (let is : x ≡ y = same_Some x y (sym e ∙ sym (leaves.spares.others.channels n o) ∙ f) in ap (λ (z : Channel). is_plugged_in z.inbound.stage) is ∙ open_now)) (cases_eq n at)
+      (λ o.
+      (let is : x ≡ y = same_Some x y (sym e ∙ sym (leaves.spares.others.channels n o) ∙ f) in
+      ap (λ (z : Channel). is_live z.inbound.stage) is ∙ open_now)) (cases_eq n at)
 
   failed_tires : Tires turned old new
   failed_tires =
       let within : at < length mid.channels.items = slice_get_within mid.channels.items at K there_told in
       let l = there_is new.channels.items at (omega (arith, leaves.places)) in
-      let fewer = count_lt mid.channels.items new.channels.items at K l.0 leaves.places none_opens there_told l.1 (ap is_plugged_in waits.plugged) (left_shut l.0 l.1) in
+      let fewer =
+      count_lt mid.channels.items new.channels.items at K l.0 leaves.places none_opens there_told l.1 (ap is_live waits.plugged) (left_shut l.0 l.1) in
       let none : has_dealt turned ≡ 0 = ap has_dealt failed in
       subst (λ ks. plugged_count new.channels.items < plugged_count ks + has_dealt turned) channels_same (omega arith)
 
@@ -107,7 +112,9 @@ module _ (laws : DrivingLaws) (at : ℕ) (turned : Turned) (bytes : List ℕ) (o
     nothing_fed = sym (ap (λ bs. fed bs K.inbound.from.stream) fails.1 ∙ fed_nothing K.inbound.from.stream)
 
     bench_is : turned_bench at turned bytes old before behind fits turns waits taken mid.desk K ≡ bench mid behind
-    bench_is = λ i. record { past = mid.desk.past; machine = mid.desk.now; slots = slots_of ((set_same old.channels.items at K waits.there ∙ sym channels_same) i) (sym turns.set_is i) }
+    bench_is =
+        let same_channels = set_same old.channels.items at K waits.there ∙ sym channels_same in
+        λ i. record { past = mid.desk.past; machine = mid.desk.now; slots = slots_of (same_channels i) (sym turns.set_is i) }
 
     calls : CallsAt (at + 1) (Turning turned bytes) Done (bench old before) (bench mid behind)
     calls =
@@ -119,7 +126,8 @@ module _ (laws : DrivingLaws) (at : ℕ) (turned : Turned) (bytes : List ℕ) (o
       event = called (at + 1) (Turning turned bytes) Done (bench old before) (bench mid behind);
       bytes = bytes;
       reply = Done;
-      stretch = stretch_failed (at + 1) (Turning turned bytes) Done (bench old before) (bench mid behind) leaves.reply (bench leaves.ahead behind) (bench new behind)
+      stretch =
+          stretch_failed (at + 1) (Turning turned bytes) Done (bench old before) (bench mid behind) leaves.reply (bench leaves.ahead behind) (bench new behind)
           (others_beside laws mid leaves.ahead kept_told leaves.others behind) refl (rest_is_drained old before kept rest false (λ e. absurd (cc)))
           (ap (λ t. has_failed (Turning t bytes)) failed) refl leaves.memory calls (leaves.enters behind long);
       before = record { slots = refl; sessions = λ c. refl; alone = λ solo. refl };

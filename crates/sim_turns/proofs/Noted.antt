@@ -32,7 +32,7 @@ module _ (laws : DrivingLaws) (note : Note) (old new : Driver) (kept : IsKept ol
   items_are = ap (λ (x : Driver). x.channels.items) same
 
   pub noted_kept : IsKept new
-  noted_kept = kept_entry laws old new (entries.Note note) Done kept tt enters.steps refl refl (λ c. refl) same footing
+  noted_kept = kept_entry laws old new (entries.Note note) Done kept tt enters.steps (λ c. refl) same footing
 
   pub noted_fits : FitsStill old new
   noted_fits devices fits = fits_same old new devices noted_kept items_are fits
@@ -72,7 +72,8 @@ module _ (laws : DrivingLaws) (note : Note) (old new : Driver) (kept : IsKept ol
   told_kept = noted_kept laws note Ahead new ahead_kept note_next same footing
 
   pub told_fits : FitsStill old new
-  told_fits devices fits = noted_fits laws note Ahead new ahead_kept note_next same footing devices (tends_fits laws old Ahead kept (tends_of old Ahead others_did) devices fits)
+  told_fits devices fits =
+      noted_fits laws note Ahead new ahead_kept note_next same footing devices (tends_fits laws old Ahead kept (tends_of old Ahead others_did) devices fits)
 
   pub told_rest : IsAtRest old → IsAtRest new
   told_rest rest = noted_rest laws note Ahead new ahead_kept note_next same footing (ahead_rest rest)

@@ -11,7 +11,8 @@ use Rattle.script_text.specs.Orders.Order.{Settle, Turn}
 use Rattle.sim_steps.specs.Benches.{Bench, IsSolo, is_plugged}
 use Rattle.sim_steps.specs.Deeds.{Event}
 use Rattle.sim_steps.specs.Deeds.Deed.{Enters}
-use Rattle.sim_steps.specs.Parts.{EndsSettling, HasPending, IfPlugged, IsCalm, IsExhausted, IsLowestTurn, IsStill, IsTurnAt, JustNotes, Settles, TakesTurns, dealt_in, has_dealt, most_turns, turns_taken}
+use Rattle.sim_steps.specs.Parts.{EndsSettling, HasPending, IfPlugged, IsCalm, IsExhausted, IsLowestTurn, IsStill, IsTurnAt, JustNotes, Settles, TakesTurns}
+use Rattle.sim_steps.specs.Parts.{dealt_in, has_dealt, most_turns, turns_taken}
 use Rattle.sim_steps.specs.Stretches.{Carried, Obeyed}
 use Rattle.sim_steps.proofs.Joining.{all_append, carried_behind, obeyed, stretch_then}
 use Rattle.sim_channels.specs.Channels.{Fits, bench}
@@ -89,7 +90,8 @@ module _ (place most : ℕ) (a b d : Bench) (calm : IsCalm d) (still : IsSolo d.
       obeyed (Turn place most) es a d (stretch_then t.turns (h.event ∷ []) [] [] a b d t.stretch h.stretch)
       (subst (λ p. IfPlugged p place es (TakesTurns place most es)) (sym plugged) takes) calm still
 
-pub settle_obeyed : (a b d : Bench) (taken : ℕ) (said : Note) → IsCalm d → (IsSolo d.machine → IsStill d) → TakesSome IsLowestTurn taken a b → taken ≤ most_turns → EndsSettling taken said b
+pub settle_obeyed : (a b d : Bench) (taken : ℕ) (said : Note) → IsCalm d → (IsSolo d.machine → IsStill d) → TakesSome IsLowestTurn taken a b
+    → taken ≤ most_turns → EndsSettling taken said b
     → IsAsked (entries.Note said) Done b d → Obeyed Settle a d
 settle_obeyed a b d taken said calm still t few ends h =
     let es = t.turns ++ h.event ∷ [] in
@@ -111,7 +113,8 @@ settle_obeyed a b d taken said calm still t few ends h =
 module _ {T E : Type 0} (mid new : Driver) (devices : List Meaning) (fits : Fits mid devices) (note : Note) where
   -- where memory doesn't run out for it
   pub told_last : (R : Type 0)
-      → (IsAsked (entries.Note note) Done (bench mid devices) (bench new devices) → IsCalm (bench new devices) → (IsSolo new.desk.now → IsStill (bench new devices)) → R)
+      → (IsAsked (entries.Note note) Done (bench mid devices) (bench new devices) → IsCalm (bench new devices)
+      → (IsSolo new.desk.now → IsStill (bench new devices)) → R)
       → (r : Result T E) → OnOk r (FitsStill mid new) → OnOk r (IsAtRest new) → OnOk r (ToldSo note mid new) → OnOk r R
   told_last R f (Ok x) stays rest told =
       let kept = (stays devices fits).kept in

@@ -16,7 +16,8 @@ use Rattle.sim_channels.proofs.Others.{alone_on, same_driver, same_then}
 use Rattle.sim_turns.specs.declared.hear.Reach.{Reach}
 use Rattle.sim_turns.specs.declared.hear.Reach.TheVariants.{Anybody, Itself, Nobody}
 
-heard_none : (here : ℕ) (made : Bool) (driver : Driver) → IsKept driver → (WorksAlone driver → NoneWaits driver.desk) → IsOffered here driver → HasHeard here made driver driver
+heard_none : (here : ℕ) (made : Bool) (driver : Driver) → IsKept driver → (WorksAlone driver → NoneWaits driver.desk) → IsOffered here driver
+    → HasHeard here made driver driver
 heard_none here made driver kept none offered = record {
   kept = kept;
   carried = λ ds long. carried_none (bench driver ds);
@@ -32,13 +33,15 @@ heard_none here made driver kept none offered = record {
   learning = refl;
 }
 
-channel_there : (here : ℕ) (old new : Driver) → KeepsChannels here old new → (x : Channel) → slice_get old.channels.items here ≡ Some x → (y : Channel) × (slice_get new.channels.items here ≡ Some y)
+channel_there : (here : ℕ) (old new : Driver) → KeepsChannels here old new → (x : Channel) → slice_get old.channels.items here ≡ Some x
+    → (y : Channel) × (slice_get new.channels.items here ≡ Some y)
 channel_there here old new keeps x there =
     (let within = slice_get_within old.channels.items here x there in
     (get_or new.channels.items here x, slice_get-get_or new.channels.items here x (omega (arith, within, keeps.count))))
 
 -- a state was made by neither, or may have been
-heard_then : (here : ℕ) (first second made : Bool) (a b d : Driver) → (made ≡ false → (first ≡ false) × (second ≡ false)) → HasHeard here first a b → HasHeard here second b d
+heard_then : (here : ℕ) (first second made : Bool) (a b d : Driver) → (made ≡ false → (first ≡ false) × (second ≡ false)) → HasHeard here first a b
+    → HasHeard here second b d
     → HasHeard here made a d
 heard_then here first second made a b d by h k = record {
   kept = k.kept;
@@ -53,7 +56,10 @@ heard_then here first second made a b d by h k = record {
   others = λ untold no_hosts.
       (let s = h.others (by untold).0 no_hosts in
       let t = k.others (by untold).1 (h.learning ∙ no_hosts) in
-      record { sessions = λ alone c other. t.sessions (alone_on a b h.same alone) c other ∙ s.sessions alone c other; channels = λ n other. t.channels n other ∙ s.channels n other });
+      record {
+        sessions = λ alone c other. t.sessions (alone_on a b h.same alone) c other ∙ s.sessions alone c other;
+        channels = λ n other. t.channels n other ∙ s.channels n other;
+      });
   same = same_then a b d h.same k.same;
   learning = k.learning ∙ h.learning;
 }
@@ -90,7 +96,8 @@ pub record HearsOn (here : ℕ) (reach : Reach) (old now : Driver) : Type 0 wher
 pub others_stay : (here : ℕ) (reach : Reach) (old now : Driver) → HearsOn here reach old now → reach ≡ Itself → StaysBut (WorksAlone old) here old now
 others_stay here reach old now h e = h.heard.others (ap reaches_all e) (h.learns e)
 
-pub hears_none : (here : ℕ) (driver : Driver) → IsKept driver → (WorksAlone driver → NoneWaits driver.desk) → IsOffered here driver → HearsOn here Nobody driver driver
+pub hears_none : (here : ℕ) (driver : Driver) → IsKept driver → (WorksAlone driver → NoneWaits driver.desk) → IsOffered here driver
+    → HearsOn here Nobody driver driver
 hears_none here driver kept none offered = record {
   heard = heard_none here false driver kept none offered;
   nobody = λ e. refl;
@@ -107,10 +114,13 @@ module _ (here : ℕ) (reach : Reach) (old mid new : Driver) (h : HearsOn here r
   }
 
   -- something was heard
-  pub hears_on : (came : Came) (next : Reach) → (next ≡ Nobody → ⊥) → (next ≡ Itself → (old.desk.now.policy.learning ≡ false) × (reach ≡ Anybody → ⊥) × (is_state came ≡ false)) → Passed here mid new came
+  pub hears_on : (came : Came) (next : Reach) → (next ≡ Nobody → ⊥)
+      → (next ≡ Itself → (old.desk.now.policy.learning ≡ false) × (reach ≡ Anybody → ⊥) × (is_state came ≡ false)) → Passed here mid new came
       → HearsOn here next old new
   hears_on came next some itself p = record {
-    heard = heard_then here (reaches_all reach) (is_state came) (reaches_all next) old mid new (none_made reach next (is_state came) some (λ e. ((itself e).1, (itself e).2))) h.heard p.0;
+    heard =
+        heard_then here (reaches_all reach) (is_state came) (reaches_all next) old mid new
+        (none_made reach next (is_state came) some (λ e. ((itself e).1, (itself e).2))) h.heard p.0;
     nobody = λ e. absurd (some e);
     learns = λ e. (itself e).0;
   }

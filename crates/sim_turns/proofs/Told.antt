@@ -20,8 +20,10 @@ use Rattle.sim_turns.proofs.Dealt.{dealt_brings}
 use Rattle.sim_turns.proofs.Failing.{failed_brings}
 use Rattle.sim_turns.proofs.Noted.{Ahead, ahead_kept, ahead_rest, note_next, others_did}
 
-module _ (laws : DrivingLaws) (at : ℕ) (turned : Turned) (bytes : List ℕ) (old mid new : Driver) (kept : IsKept old) (rest : IsAtRest old) (waits : Waits at old) (taken : IsTaken turned)
-    (enters : Enters old.desk (entries.Note (notes.Turned (at + 1) turned)) Done mid.desk) (same : mid ≡ record old { desk = mid.desk }) (footing : mid.desk.footing ≡ old.desk.footing) where
+module _ (laws : DrivingLaws) (at : ℕ) (turned : Turned) (bytes : List ℕ) (old mid new : Driver) (kept : IsKept old) (rest : IsAtRest old)
+    (waits : Waits at old) (taken : IsTaken turned)
+    (enters : Enters old.desk (entries.Note (notes.Turned (at + 1) turned)) Done mid.desk) (same : mid ≡ record old { desk = mid.desk })
+    (footing : mid.desk.footing ≡ old.desk.footing) where
   abbrev Told : Note
   Told = notes.Turned (at + 1) turned
 
@@ -43,7 +45,8 @@ module _ (laws : DrivingLaws) (at : ℕ) (turned : Turned) (bytes : List ℕ) (o
   pub failed_behind : turned ≡ FailedTurn → Leaves at mid new → Brings at turned bytes old new
   failed_behind failed leaves =
       behind_base
-      (failed_brings laws at turned bytes Base mid new base_kept base_rest base_waits taken failed (note_next laws Told old mid kept enters same footing) same footing leaves)
+      (failed_brings laws at turned bytes Base mid new base_kept base_rest base_waits taken failed (note_next laws Told old mid kept enters same footing) same
+      footing leaves)
 
   pub dealt_behind : (turned ≡ FailedTurn → ⊥) → new.desk ≡ mid.desk → ChannelMoves at (Appends bytes) mid new → IsSame mid new → Brings at turned bytes old new
   dealt_behind other desk moves also =

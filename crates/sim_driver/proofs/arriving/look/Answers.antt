@@ -12,10 +12,12 @@ returns-in_ok-leave-clause-rest g c =
 pub returns-in_ok-leave-clause-looked : goal.returns-in_ok-leave-clause-looked
 returns-in_ok-leave-clause-looked g c =
     let h = c.requires in
-    looked_failed c.driving_laws.ensures c.args.driver.now _ c.call.new.self _ c.args.at c.args.port c.args.frame h.fits h.rest c.in_ok-call.field-0 c.in_ok-call.ensures.called
+    looked_failed c.driving_laws.ensures c.args.driver.now _ c.call.new.self _ c.args.at c.args.port c.args.frame h.fits h.rest c.in_ok-call.field-0
+    c.in_ok-call.ensures.called
     c.leave.new.self c.in_ok-leave.ensures.leaves c.if-branch.true
 
 pub returns-else-branch-clause-looked : goal.returns-else-branch-clause-looked
 returns-else-branch-clause-looked g c =
     let h = c.requires in
-    looked_whole c.driving_laws.ensures c.args.driver.now _ c.call.new.self _ c.args.at c.args.port c.args.frame h.fits h.rest c.in_ok-call.field-0 c.in_ok-call.ensures.called c.if-branch.false
+    looked_whole c.driving_laws.ensures c.args.driver.now _ c.call.new.self _ c.args.at c.args.port c.args.frame h.fits h.rest c.in_ok-call.field-0
+    c.in_ok-call.ensures.called c.if-branch.false

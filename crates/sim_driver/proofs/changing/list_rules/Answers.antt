@@ -17,6 +17,8 @@ returns g c =
     record {
       fits = stands.fits;
       rest = stands.rest refl;
-      obeyed = λ devices fits. obeyed_asked (Rules switch) (entries.ReadRules switch) d e devices (λ es just. just) fits stands.asked (stands.fits devices fits).kept (stands.rest refl);
+      obeyed =
+          λ devices fits. obeyed_asked (Rules switch) (entries.ReadRules switch) d e devices (λ es just. just) fits stands.asked
+          (stands.fits devices fits).kept (stands.rest refl);
       same = same_desk d e done.rest done.footing;
     }

@@ -6,5 +6,12 @@ pub returns : goal.returns
 returns g c =
     let h = c.requires in
     let done = c.in_ok-renew.ensures in
-    let stands = renewed c.driving_laws.ensures c.args.driver.now c.renew.new.self h.kept h.rest done.rest done.footing c.args.text.now c.in_ok-renew.field-0 done.renews in
-    record { fits = stands.fits; through = stands.through; rest = λ vain. stands.rest (cc); asked = stands.asked; same = same_desk c.args.driver.now c.renew.new.self done.rest done.footing }
+    let stands =
+    renewed c.driving_laws.ensures c.args.driver.now c.renew.new.self h.kept h.rest done.rest done.footing c.args.text.now c.in_ok-renew.field-0 done.renews in
+    record {
+      fits = stands.fits;
+      through = stands.through;
+      rest = λ vain. stands.rest (cc);
+      asked = stands.asked;
+      same = same_desk c.args.driver.now c.renew.new.self done.rest done.footing;
+    }

@@ -9,5 +9,12 @@ pub returns : goal.returns
 returns g c =
     let h = c.requires in
     let done = c.in_ok-change.ensures in
-    let stands = changed c.driving_laws.ensures c.args.driver.now c.change.new.self h.kept h.rest done.rest done.footing c.args.update c.in_ok-change.field-0 done.changes in
-    record { fits = stands.fits; through = stands.through; rest = λ vain. stands.rest (cc); asked = stands.asked; same = same_desk c.args.driver.now c.change.new.self done.rest done.footing }
+    let stands =
+    changed c.driving_laws.ensures c.args.driver.now c.change.new.self h.kept h.rest done.rest done.footing c.args.update c.in_ok-change.field-0 done.changes in
+    record {
+      fits = stands.fits;
+      through = stands.through;
+      rest = λ vain. stands.rest (cc);
+      asked = stands.asked;
+      same = same_desk c.args.driver.now c.change.new.self done.rest done.footing;
+    }

@@ -29,5 +29,6 @@ returns-in-Err-clause-drove g c =
     let given = given_at c.args.desk devices c.args.script.now c.args.first in
     let refused = refused_line (length c.args.devices.now) c.args.first c.args.script.now in
     let opened = c.requires.opened in
-    never_drove given (record { laws = c.deed_laws.ensures; ranges = opened.start.ranges; idle = opened.idle }) refused c.in-Err.desk devices (g.O.Sink.tells c.args.to.now)
+    never_drove given (record { laws = c.deed_laws.ensures; ranges = opened.start.ranges; idle = opened.idle }) refused c.in-Err.desk devices
+    (g.O.Sink.tells c.args.to.now)
     (ap (λ (d : DeskView). d.past) c.in-Err.ensures.back.0 ∙ opened.start.none)

@@ -25,7 +25,8 @@ loop-rest-init g c =
       crew = same_crew c.args.driver.now.crew;
       same = record { place = refl; name = refl; start = refl; parts = refl };
       went =
-          went_none given (length c.args.devices.now) (g.O.Sink.tells c.args.to.now) c.args.driver.now devices known (length-map c.args.devices.now g.D.Device.meaning) c.requires.opened.opening;
+          went_none given (length c.args.devices.now) (g.O.Sink.tells c.args.to.now) c.args.driver.now devices known
+          (length-map c.args.devices.now g.D.Device.meaning) c.requires.opened.opening;
       spared = refl;
       numbers = omega arith;
     }
@@ -43,7 +44,8 @@ pub loop-rest-preserved : goal.loop-rest-preserved
 loop-rest-preserved g c = record {
   ready = c.in-Ok-follow.ensures.ready;
   went =
-      went_further (g.O.Sink.tells c.follow.new.to) c.follow.new.driver (map g.D.Device.meaning c.follow.new.all) (order_with c.in-Ok.next.step c.in-Ok.next.text.now) c.in-Ok.next.passed
+      went_further (g.O.Sink.tells c.follow.new.to) c.follow.new.driver (map g.D.Device.meaning c.follow.new.all)
+      (order_with c.in-Ok.next.step c.in-Ok.next.text.now) c.in-Ok.next.passed
       (ended_lines c.in-Ok.next.rest.now) c.loop-rest.invariant.went c.in-Ok.ensures.order c.in-Ok-follow.ensures.follows c.in-Ok-follow.ensures.ready;
   crew = crew_then c.args.driver.now.crew c.loop-rest.driver.crew c.follow.new.driver.crew c.loop-rest.invariant.crew c.follow.ensures.crew;
   same = marked_hall c.args.driver.now.desk.footing c.loop-rest.driver.desk c.follow.new.driver.desk c.loop-rest.invariant.same c.follow.ensures.marked;
@@ -61,7 +63,8 @@ pub returns-in-Err-NoMemory-clause-spared : goal.returns-in-Err-NoMemory-clause-
 returns-in-Err-NoMemory-clause-spared g c = λ n. c.loop-rest.invariant.spared
 
 pub returns-in-Err-clause-crew : goal.returns-in-Err-clause-crew
-returns-in-Err-clause-crew g c = crew_then c.args.driver.now.crew c.loop-rest.driver.crew c.follow.new.driver.crew c.loop-rest.invariant.crew c.follow.ensures.crew
+returns-in-Err-clause-crew g c =
+    crew_then c.args.driver.now.crew c.loop-rest.driver.crew c.follow.new.driver.crew c.loop-rest.invariant.crew c.follow.ensures.crew
 
 pub returns-in-Err-clause-ends : goal.returns-in-Err-clause-ends
 returns-in-Err-clause-ends g c =
@@ -70,11 +73,13 @@ returns-in-Err-clause-ends g c =
     let to = g.O.Sink.tells c.follow.new.to in
     let start = c.loop-rest.invariant.same.start ∙ c.requires.opened.start ∙ ap (λ (b : Bench). b.machine) c.requires.opened.opening in
     subst (λ (end : SimEnd). EndsAt end given c.follow.new.driver.desk after (g.O.Sink.tells c.args.to.now) to) (sym c.end_of.ensures) (
-    stopped_in c.loop-rest.invariant.went c.follow.new.driver c.law.ensures c.follow.ensures.marked start to after c.in-Ok.next.step c.in-Ok.next.text.now c.in-Ok.next.passed
+    stopped_in c.loop-rest.invariant.went c.follow.new.driver c.law.ensures c.follow.ensures.marked start to after c.in-Ok.next.step c.in-Ok.next.text.now
+    c.in-Ok.next.passed
     (ended_lines c.in-Ok.next.rest.now) c.in-Err.stop (rw c.in-Err.is at c.follow.ensures.follows) c.in-Ok.ensures.order)
 
 pub returns-in-Ok-finish-clause-crew : goal.returns-in-Ok-finish-clause-crew
-returns-in-Ok-finish-clause-crew g c = crew_then c.args.driver.now.crew c.loop-rest.driver.crew c.finish.new.driver.crew c.loop-rest.invariant.crew c.finish.ensures.crew
+returns-in-Ok-finish-clause-crew g c =
+    crew_then c.args.driver.now.crew c.loop-rest.driver.crew c.finish.new.driver.crew c.loop-rest.invariant.crew c.finish.ensures.crew
 
 pub returns-in-Ok-finish-clause-ends : goal.returns-in-Ok-finish-clause-ends
 returns-in-Ok-finish-clause-ends g c =
@@ -92,11 +97,13 @@ returns-in-Ok-finish-clause-ends g c =
       | else-is_empty+in-Err-End w ↦ ap is_whole w.end-is
       | else-is_empty+in-Err-Refused w ↦ ap is_whole w.end-is
     ] in
-    followed c.loop-rest.invariant.went c.finish.new.driver (map g.D.Device.meaning c.finish.new.all) (g.O.Sink.tells c.finish.new.to) c.in-Ok-finish.ensures.ready c.in-Ok-finish.ensures.finished
+    followed c.loop-rest.invariant.went c.finish.new.driver (map g.D.Device.meaning c.finish.new.all) (g.O.Sink.tells c.finish.new.to)
+    c.in-Ok-finish.ensures.finished
     none c.if-is_empty.end is
 
 pub returns-in-Err-finish-clause-crew : goal.returns-in-Err-finish-clause-crew
-returns-in-Err-finish-clause-crew g c = crew_then c.args.driver.now.crew c.loop-rest.driver.crew c.finish.new.driver.crew c.loop-rest.invariant.crew c.finish.ensures.crew
+returns-in-Err-finish-clause-crew g c =
+    crew_then c.args.driver.now.crew c.loop-rest.driver.crew c.finish.new.driver.crew c.loop-rest.invariant.crew c.finish.ensures.crew
 
 pub returns-in-Err-finish-clause-ends : goal.returns-in-Err-finish-clause-ends
 returns-in-Err-finish-clause-ends g c =

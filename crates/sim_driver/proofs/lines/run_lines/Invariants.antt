@@ -1,6 +1,6 @@
 use Rattle.std.proofs.Common.{◌≡◌, ◌+◌, ◌≤◌, length, map}
 use Rattle.script_text.specs.Lines.{ended_lines}
-use Rattle.sim_channels.specs.Channels.{SameCrew}
+use Rattle.desk_jobs.specs.Crews.{SameCrew}
 use Rattle.sim_driver.specs.Passes.{IsReady, SameHall, given_at}
 use Rattle.sim_driver.proofs.Going.{Went}
 use Rattle.sim_driver.proofs.lines.run_lines.Given as goal
@@ -11,7 +11,8 @@ invariant-loop-rest g l = record {
   ready : IsReady l.driver (map g.D.Device.meaning l.devices);
   crew : SameCrew l.fn.driver.crew l.driver.crew;
   same : SameHall l.fn.driver.desk.footing l.driver.desk.footing;
-  went : Went (given_at l.fn.driver.desk (map g.D.Device.meaning l.fn.devices) l.script l.first) (length l.fn.devices) (g.O.Sink.tells l.fn.to) (g.O.Sink.tells l.to) l.driver (map g.D.Device.meaning l.devices) l.line (ended_lines l.rest);
+  went : Went (given_at l.fn.driver.desk (map g.D.Device.meaning l.fn.devices) l.script l.first) (length l.fn.devices) (g.O.Sink.tells l.fn.to)
+      (g.O.Sink.tells l.to) l.driver (map g.D.Device.meaning l.devices) l.line (ended_lines l.rest);
   spared : (g.O.Sink.tells l.to).failed ≡ (g.O.Sink.tells l.fn.to).failed;
   numbers : l.line + length l.rest ≤ l.first + length l.script;
 }

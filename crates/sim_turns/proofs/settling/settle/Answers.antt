@@ -20,7 +20,9 @@ loop-at-smaller g c =
     let last = c.catch_up-in-Some.new.devices in
     let h = c.in_ok-catch_up-2.ensures in
     let long : length (map f mid) ≡ length (map f last) = omega (arith, length-map mid f, length-map last f, c.catch_up-in-Some.auto.devices) in
-    let few = carried_count c.driving_laws.ensures c.take_turn.new.driver c.catch_up-in-Some.new.self (map f mid) (map f last) c.in_ok-take_turn.ensures.fits h.fits long h.carried in
+    let few =
+    carried_count c.driving_laws.ensures c.take_turn.new.driver c.catch_up-in-Some.new.self (map f mid) (map f last) c.in_ok-take_turn.ensures.fits h.fits long
+    h.carried in
     omega (arith, few, c.in_ok-take_turn.ensures.tires, c.dealt.ensures.dealt, c.dealt.ensures.most, c.loop-at.invariant.most, c.if-taken-eq-MOST_TURNS.false)
 
 pub loop-at-preserved : goal.loop-at-preserved
@@ -40,7 +42,8 @@ loop-at-preserved g c =
     let first = c.in-Some.ensures in
     let was = c.loop-at.invariant in
     let is =
-    lowest_turn place turned b d h.taken (pends c.loop-at.driver ds was.fits c.in-Some.at first.waits) (none_lower c.loop-at.driver ds was.fits c.in-Some.at first.lowest) in
+    lowest_turn place turned b d h.taken (pends c.loop-at.driver ds was.fits c.in-Some.at first.waits)
+    (none_lower c.loop-at.driver ds was.fits c.in-Some.at first.lowest) in
     let taken =
     subst (λ (n : ℕ). TakesSome IsLowestTurn (c.loop-at.taken + n) a d) (sym c.dealt.ensures.dealt)
     (takes_more IsLowestTurn c.loop-at.taken a b d place turned was.some h.taken is) in
@@ -48,7 +51,8 @@ loop-at-preserved g c =
       fits = k.fits;
       rest = k.rest;
       done = k.done;
-      same = same_then old mid c.catch_up-in-Some.new.self (same_then old c.loop-at.driver mid was.same c.take_turn.ensures.same) c.catch_up-in-Some.ensures.same;
+      same =
+          same_then old mid c.catch_up-in-Some.new.self (same_then old c.loop-at.driver mid was.same c.take_turn.ensures.same) c.catch_up-in-Some.ensures.same;
       some = takes_on IsLowestTurn (c.loop-at.taken + c.dealt.result) a d e taken k.carried;
       most = omega (arith, c.dealt.ensures.most, was.most, c.if-taken-eq-MOST_TURNS.false);
     }
@@ -66,7 +70,8 @@ returns-then-taken-eq-MOST_TURNS-clause-obeyed g c =
     let h = c.loop-at.invariant in
     let all : taken ≡ most_turns = omega arith in
     let ends : EndsSettling taken said b = inr (all, refl, c.in-Some.at + 1, pends c.loop-at.driver ds h.fits c.in-Some.at c.in-Some.ensures.waits) in
-    told_last c.loop-at.driver c.note.new.driver ds h.fits said (Obeyed Settle a d) (λ asked calm still. settle_obeyed a b d taken said calm still h.some h.most ends asked)
+    told_last c.loop-at.driver c.note.new.driver ds h.fits said (Obeyed Settle a d)
+    (λ asked calm still. settle_obeyed a b d taken said calm still h.some h.most ends asked)
     c.note.result c.note.ensures.fits c.note.ensures.rest c.note.ensures.told
 
 -- ---- no message waits
@@ -81,5 +86,6 @@ returns-clause-obeyed g c =
     let d = bench c.note-2.new.driver ds in
     let h = c.loop-at.invariant in
     let ends : EndsSettling taken said b = inl (refl, none_pends c.loop-at.driver ds h.fits c.in_default.ensures) in
-    told_last c.loop-at.driver c.note-2.new.driver ds h.fits said (Obeyed Settle a d) (λ asked calm still. settle_obeyed a b d taken said calm still h.some h.most ends asked)
+    told_last c.loop-at.driver c.note-2.new.driver ds h.fits said (Obeyed Settle a d)
+    (λ asked calm still. settle_obeyed a b d taken said calm still h.some h.most ends asked)
     c.note-2.result c.note-2.ensures.fits c.note-2.ensures.rest c.note-2.ensures.told

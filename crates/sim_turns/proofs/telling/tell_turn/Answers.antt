@@ -10,7 +10,8 @@ use Rattle.sim_turns.proofs.telling.tell_turn.Goals as goal
 
 pub leave-requires-clause-kept : goal.leave-requires-clause-kept
 leave-requires-clause-kept g c =
-    told_kept c.driving_laws.ensures (notes.Turned c.connection_of-device.result c.args.turned) c.args.driver.now c.note.new.self c.requires.kept c.in_ok-note.ensures.notes c.note.ensures.rest
+    told_kept c.driving_laws.ensures (notes.Turned c.connection_of-device.result c.args.turned) c.args.driver.now c.note.new.self c.requires.kept
+    c.in_ok-note.ensures.notes c.note.ensures.rest
     c.note.ensures.footing
 
 pub returns-in_ok-leave-in-Failed : goal.returns-in_ok-leave-in-Failed
@@ -21,11 +22,17 @@ returns-in_ok-leave-in-Failed g c =
     let new = c.leave.new.self in
     let h = c.requires in
     let n = c.note.ensures in
-    let enters = subst (λ (d : ℕ). Enters old.desk (entries.Note (notes.Turned d c.args.turned)) Done mid.desk) c.connection_of-device.ensures c.in_ok-note.ensures.notes in
+    let enters =
+    subst (λ (d : ℕ). Enters old.desk (entries.Note (notes.Turned d c.args.turned)) Done mid.desk) c.connection_of-device.ensures c.in_ok-note.ensures.notes in
     let brings =
     failed_behind c.driving_laws.ensures at c.args.turned c.args.bytes.now old mid new h.kept h.rest h.waits h.taken enters n.rest n.footing c.in-Failed.is
     c.in_ok-leave-in-Failed.ensures.leaves in
-    record { rest = brings.rest; told = brings.told; tires = brings.tires; same = same_then old mid new (same_desk old mid n.rest n.footing) c.leave.ensures.same }
+    record {
+      rest = brings.rest;
+      told = brings.told;
+      tires = brings.tires;
+      same = same_then old mid new (same_desk old mid n.rest n.footing) c.leave.ensures.same;
+    }
 
 pub returns-in_ok-append-in_default : goal.returns-in_ok-append-in_default
 returns-in_ok-append-in_default g c =
@@ -35,9 +42,11 @@ returns-in_ok-append-in_default g c =
     let new = c.append.new.self in
     let h = c.requires in
     let n = c.note.ensures in
-    let enters = subst (λ (d : ℕ). Enters old.desk (entries.Note (notes.Turned d c.args.turned)) Done mid.desk) c.connection_of-device.ensures c.in_ok-note.ensures.notes in
+    let enters =
+    subst (λ (d : ℕ). Enters old.desk (entries.Note (notes.Turned d c.args.turned)) Done mid.desk) c.connection_of-device.ensures c.in_ok-note.ensures.notes in
     let also = c.append.ensures.same in
     let brings =
-    dealt_behind c.driving_laws.ensures at c.args.turned c.args.bytes.now old mid new h.kept h.rest h.waits h.taken enters n.rest n.footing c.in_default.not-Failed c.append.ensures.desk
+    dealt_behind c.driving_laws.ensures at c.args.turned c.args.bytes.now old mid new h.kept h.rest h.waits h.taken enters n.rest n.footing
+    c.in_default.not-Failed c.append.ensures.desk
     c.in_ok-append-in_default.ensures.moves also in
     record { rest = brings.rest; told = brings.told; tires = brings.tires; same = same_then old mid new (same_desk old mid n.rest n.footing) also }

@@ -20,6 +20,7 @@ returns-clause-tires g c =
     let last = c.attend.new.devices in
     let long : length (map f mid) ≡ length (map f last) = omega (arith, length-map mid f, length-map last f, c.attend.auto.devices) in
     let few =
-    carried_count c.driving_laws.ensures c.turn_told.new.driver c.attend.new.driver (map f mid) (map f last) c.in_ok-turned.ensures.told.fits c.in_ok-attend.ensures.fits
+    carried_count c.driving_laws.ensures c.turn_told.new.driver c.attend.new.driver (map f mid) (map f last) c.in_ok-turned.ensures.told.fits
+    c.in_ok-attend.ensures.fits
     long c.in_ok-attend.ensures.carried in
     omega (arith, c.in_ok-turned.ensures.tires)

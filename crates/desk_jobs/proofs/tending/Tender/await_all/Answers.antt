@@ -3,7 +3,7 @@ use Rattle.std.specs.Prelude.{◌==◌}
 use Rattle.std.proofs.lemmas.Bool.Decides.{nat_tests}
 use Rattle.worker_crew.specs.Takers.{account}
 use Rattle.desk_jobs.specs.Tending.{Done, at}
-use Rattle.desk_jobs.proofs.Rounding.{asleep_then, fails_then, slept, wears_out}
+use Rattle.desk_jobs.proofs.Rounding.{fails_then, slept, told_then, wears_out}
 use Rattle.desk_jobs.proofs.tending.Tender.await_all.Goals as goal
 
 pub returns-in_default-clause-broken : goal.returns-in_default-clause-broken
@@ -16,8 +16,8 @@ returns-in-Some-broken-clause-broken g c =
     let behind = at c.works_alone.new.desk c.works_alone.new.taker in
     let many : (c.in-Ok.count == 0) ≡ false = (let more = c.if-count-eq0.false in grind (arith, nat_tests)) in
     let still = slept Done c.in-Ok-false.field-0 seen behind c.in-Ok-false.field-0-test c.in-Ok-false.ensures.goes_on in
-    asleep_then Done (at c.args.desk.now c.args.taker.now) c.loop.desk c.open_jobs.new.desk (account c.loop.taker) c.loop.invariant.2 c.in-Ok.count c.in-Ok.ensures.asks
-    many behind still.0 still.1
+    told_then Done (at c.args.desk.now c.args.taker.now) c.loop.desk c.open_jobs.new.desk (account c.loop.taker) c.loop.invariant.2 c.in-Ok.count c.in-Ok.ensures.asks
+    many behind still.0 still.1 c.in-Some-broken.cause c.broken_by.result c.broken_by.new.desk c.broken_by.ensures.breaks
 
 pub returns-in-Err-clause-broken : goal.returns-in-Err-clause-broken
 returns-in-Err-clause-broken g c =

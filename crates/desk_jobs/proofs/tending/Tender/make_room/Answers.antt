@@ -3,7 +3,7 @@ use Rattle.std.specs.Prelude.{nat_lt}
 use Rattle.std.proofs.lemmas.Bool.Decides.{nat_tests}
 use Rattle.worker_crew.specs.Takers.{account}
 use Rattle.desk_jobs.specs.Tending.{Room, at}
-use Rattle.desk_jobs.proofs.Rounding.{asleep_then, fails_then, reaches_so, slept, wears_out}
+use Rattle.desk_jobs.proofs.Rounding.{fails_then, reaches_so, slept, told_then, wears_out}
 use Rattle.desk_jobs.proofs.tending.Tender.make_room.Goals as goal
 
 pub returns-in_default-clause-broken : goal.returns-in_default-clause-broken
@@ -21,8 +21,8 @@ returns-in-Some-broken-clause-broken g c =
     let behind = at c.works_one.new.desk c.works_one.new.taker in
     let many : nat_lt c.in-Ok.count 4096 ≡ false = (let more = c.if-count-lt-MOST_OPEN.false in grind (arith, nat_tests)) in
     let still = slept Room c.in-Ok-false.field-0 seen behind c.in-Ok-false.field-0-test c.in-Ok-false.ensures.goes_on in
-    asleep_then Room (at c.args.desk.now c.args.taker.now) c.loop.desk c.open_jobs.new.desk (account c.loop.taker) c.loop.invariant.2 c.in-Ok.count c.in-Ok.ensures.asks
-    many behind still.0 still.1
+    told_then Room (at c.args.desk.now c.args.taker.now) c.loop.desk c.open_jobs.new.desk (account c.loop.taker) c.loop.invariant.2 c.in-Ok.count c.in-Ok.ensures.asks
+    many behind still.0 still.1 c.in-Some-broken.cause c.broken_by.result c.broken_by.new.desk c.broken_by.ensures.breaks
 
 pub returns-in-Err-clause-broken : goal.returns-in-Err-clause-broken
 returns-in-Err-clause-broken g c =

@@ -1,0 +1,5 @@
+use Rattle.machine_desk.proofs.Staying.{stages_stay}
+use Rattle.machine_desk.proofs.laws.hearing_laws.Goals as goal
+
+pub returns : goal.returns
+returns c = record { stay = stages_stay c.growth_laws.ensures.connections }
