@@ -21,13 +21,13 @@ get_more (y ∷ xs) ys zero x e = e
 get_more (y ∷ xs) ys (suc p) x e = get_more xs ys p x e
 
 module _ {X : Type 0} where
-  all_more : (xs ys : List X) (ps : List ℕ) (cs : List X) → AllAt xs ps cs → AllAt (xs ++ ys) ps cs
+  pub all_more : (xs ys : List X) (ps : List ℕ) (cs : List X) → AllAt xs ps cs → AllAt (xs ++ ys) ps cs
   all_more xs ys [] [] all = tt
   all_more xs ys [] (c ∷ cs) all = absurd all
   all_more xs ys (p ∷ ps) [] all = absurd all
   all_more xs ys (p ∷ ps) (c ∷ cs) (h, all) = (get_more xs ys p c h, all_more xs ys ps cs all)
 
-  all_append : (xs : List X) (ps qs : List ℕ) (cs bs : List X) → AllAt xs ps cs → AllAt xs qs bs → AllAt xs (ps ++ qs) (cs ++ bs)
+  pub all_append : (xs : List X) (ps qs : List ℕ) (cs bs : List X) → AllAt xs ps cs → AllAt xs qs bs → AllAt xs (ps ++ qs) (cs ++ bs)
   all_append xs [] qs [] bs a b = b
   all_append xs [] qs (c ∷ cs) bs a b = absurd a
   all_append xs (p ∷ ps) qs [] bs a b = absurd a

@@ -1,0 +1,23 @@
+use Rattle.std.proofs.Common.{take, refl}
+use Rattle.maple_io.specs.declared.board.Turn.TheVariants as turn
+use Rattle.serve_channels.specs.Delivering.{bytes_in}
+use Rattle.serve_channels.proofs.Kept.{same_server}
+use Rattle.serve_channels.proofs.Taking.{given_so, not_fed, receives}
+use Rattle.serve_channels.proofs.server.Server.receive.Goals as goal
+
+pub returns-in_ok-feed-clause-receives : goal.returns-in_ok-feed-clause-receives
+returns-in_ok-feed-clause-receives g c = λ given before past kept.
+    receives given before past (g.B.Board.tells c.args.board.now).log (g.B.Board.tells c.next-turn.new.self).log c.args.self.now c.feed.new.self kept
+    (turn.Bytes c.in-Bytes.number c.in-Bytes.count) (take c.in-Bytes.count c.next-turn.new.into) c.in-Bytes.ensures.log c.in-Bytes.ensures.anew c.in_ok-feed.ensures.feeds
+
+pub returns-in_default : goal.returns-in_default
+returns-in_default g c =
+    let old = c.args.self.now in
+    let t = c.next-turn.result in
+    let into = c.next-turn.new.into in
+    record {
+      receives = λ given before past kept.
+          receives given before past (g.B.Board.tells c.args.board.now).log (g.B.Board.tells c.next-turn.new.self).log old old kept t (bytes_in t into)
+          (given_so (g.B.Board.tells c.args.board.now).log t into c.next-turn.ensures.log) c.next-turn.ensures.anew (not_fed t (bytes_in t into) old c.in_default.not-Bytes);
+      same = same_server old old refl;
+    }
