@@ -20,7 +20,8 @@ use Rattle.sim_channels.specs.declared.channel.Channel.{Channel}
 use Rattle.machine_desk.specs.declared.inbound.Stage.{Stage}
 use Rattle.machine_desk.specs.declared.inbound.Stage.TheVariants.{Over, Live, Unopened}
 use Rattle.sim_channels.specs.declared.driver.Driver.{Driver}
-use Rattle.sim_channels.specs.Channels.{Fits, IsFresh, IsKept, IsSame, IsStaged, is_plugged_in, was_plugged_in}
+use Rattle.machine_desk.specs.Hearing.{IsStaged, is_live, was_begun}
+use Rattle.sim_channels.specs.Channels.{Fits, IsFresh, IsKept, IsSame}
 use Rattle.sim_channels.specs.Delivering.{Spares}
 use Rattle.sim_channels.specs.Driving.{DrivingLaws}
 use Rattle.sim_channels.specs.Waiting.{WhilePlugged}
@@ -57,7 +58,7 @@ channel_at at old mid k there rest l new channels same = record {
 -- ---- stages
 
 pub plugged_at : (driver : Driver) (at : ℕ) (k : Channel) → IsKept driver → slice_get driver.channels.items at ≡ Some k → k.inbound.stage ≡ Live → is_plugged (at + 1) driver.desk.now ≡ true
-plugged_at driver at k kept there plugged = (kept.stages at k there).plugged ∙ ap is_plugged_in plugged
+plugged_at driver at k kept there plugged = (kept.stages at k there).live ∙ ap is_live plugged
 
 pub staged : (c : ℕ) (m n : State) (stage : Stage) → is_plugged c n ≡ is_plugged c m → was_opened c n ≡ was_opened c m → IsStaged c m stage → IsStaged c n stage
 staged c m n stage p o h = record { plugged = p ∙ h.plugged; opened = o ∙ h.opened }
@@ -150,7 +151,7 @@ module _ (laws : DrivingLaws) (old new : Driver) (entry : Entry) (reply : Reply)
         opened c = opened_same laws old.desk.now entry reply new.desk.now kept.reached steps opens c
 
         here : IsStaged (at + 1) new.desk.now Over
-        here = record { plugged = shut; opened = opened (at + 1) ∙ (kept.stages at k h.there).opened ∙ ap was_plugged_in plugged }
+        here = record { plugged = shut; opened = opened (at + 1) ∙ (kept.stages at k h.there).opened ∙ ap was_begun plugged }
 
         stages : (n : ℕ) (x : Channel) → slice_get new.channels.items n ≡ Some x → IsStaged (n + 1) new.desk.now x.inbound.stage
         stages =

@@ -14,7 +14,9 @@ use Rattle.sim_steps.specs.Showing.{AllIdle}
 use Rattle.sim_channels.specs.declared.channel.Channel.{Channel}
 use Rattle.machine_desk.specs.declared.inbound.Stage.TheVariants.{Live, Unopened}
 use Rattle.sim_channels.specs.declared.driver.Driver.{Driver}
-use Rattle.sim_channels.specs.Channels.{Fits, IsAtStart, IsKept, IsStaged, MayHave, bench, bench_at_start, slot_by, slots_of}
+use Rattle.desk_jobs.specs.Crews.{MayHave}
+use Rattle.machine_desk.specs.Hearing.{IsStaged}
+use Rattle.sim_channels.specs.Channels.{Fits, IsAtStart, IsKept, bench, bench_at_start, slot_by, slots_of}
 use Rattle.sim_channels.specs.Delivering.{IsUnused}
 use Rattle.sim_channels.specs.Waiting.{IsAtRest, WhilePlugged}
 

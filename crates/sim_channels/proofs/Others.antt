@@ -20,9 +20,10 @@ use Rattle.sim_steps.specs.Stretches.{Beside}
 use Rattle.sim_steps.proofs.Others.{beside_none, carried_beside}
 use Rattle.sim_steps.proofs.Silent.{beside_along}
 use Rattle.sim_channels.specs.declared.channel.Channel.{Channel}
-use Rattle.sim_channels.specs.declared.crew.Crew.{Crew}
+use Rattle.desk_jobs.specs.declared.crew.Crew.{Crew}
 use Rattle.sim_channels.specs.declared.driver.Driver.{Driver}
-use Rattle.sim_channels.specs.Channels.{CarriedOver, EntersNext, Fits, IsCrew, IsKept, IsSame, MayHave, OthersDid, SameCrew, Tends, WorksAlone, bench, slots_of}
+use Rattle.desk_jobs.specs.Crews.{IsCrew, MayHave, SameCrew}
+use Rattle.sim_channels.specs.Channels.{CarriedOver, EntersNext, Fits, IsKept, IsSame, OthersDid, Tends, WorksAlone, bench, slots_of}
 use Rattle.sim_channels.specs.Driving.{DrivingLaws}
 use Rattle.sim_channels.specs.Delivering.{IsPluggedIn, Spares}
 use Rattle.sim_channels.specs.Waiting.{IsAtRest, IsAtRestBut, IsDone, IsQuiet, IsTaken, NoneWaits, WhilePlugged}

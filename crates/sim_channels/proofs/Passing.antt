@@ -39,7 +39,7 @@ use Rattle.sim_channels.specs.declared.channel.Channel.{Channel}
 use Rattle.sim_channels.specs.declared.driver.Driver.{Driver}
 use Rattle.sim_channels.specs.declared.hear.Came.{Came}
 use Rattle.sim_channels.specs.declared.hear.Came.TheVariants.{Nothing}
-use Rattle.sim_channels.specs.declared.stopped.Stopped.{Stopped}
+use Rattle.desk_jobs.specs.declared.stopped.Stopped.{Stopped}
 use Rattle.sim_channels.specs.Answering.{Answers, IsPlain}
 use Rattle.sim_channels.specs.Channels.{CarriedOver, EntersNext, IsKept, IsSame, OthersDid, Tends, WorksAlone, bench, slot_by, slots_of}
 use Rattle.sim_channels.specs.Driving.{DrivingLaws}

@@ -18,7 +18,8 @@ use Rattle.sim_channels.specs.declared.channel.Channel.{Channel}
 use Rattle.machine_desk.specs.Hearing.{stage_opened}
 use Rattle.machine_desk.specs.declared.inbound.Stage.TheVariants.{Unopened}
 use Rattle.sim_channels.specs.declared.driver.Driver.{Driver}
-use Rattle.sim_channels.specs.Channels.{IsKept, IsSame, IsStaged, was_plugged_in}
+use Rattle.machine_desk.specs.Hearing.{IsStaged, was_begun}
+use Rattle.sim_channels.specs.Channels.{IsKept, IsSame}
 use Rattle.sim_channels.specs.Driving.{DrivingLaws}
 use Rattle.sim_channels.proofs.Keeping.{opened_same, plugged_same, reached_on, reached_sound, session_same}
 use Rattle.sim_channels.proofs.Kept.{ChannelAt, fresh_but, is_as_long, staged, stages_but}
@@ -48,7 +49,7 @@ module _ (laws : DrivingLaws) (old new : Driver) (reply : Reply) (kept : IsKept 
       long = is_as_long at k l old new h
 
       new_one : was_opened (at + 1) old.desk.now ≡ false
-      new_one = (kept.stages at k h.there).opened ∙ ap was_plugged_in unplugged
+      new_one = (kept.stages at k h.there).opened ∙ ap was_begun unplugged
 
       here : IsStaged (at + 1) new.desk.now (stage_opened (is_end reply))
       here = staged_now (laws.opens old.desk.now (at + 1) reply new.desk.now (reached_sound laws old.desk.now kept.reached) new_one steps)

@@ -14,11 +14,12 @@ use Rattle.sim_channels.specs.declared.channel.Channel.{Channel}
 use Rattle.machine_desk.specs.declared.inbound.Stage.{Stage}
 use Rattle.machine_desk.specs.declared.inbound.Stage.TheVariants.{Over, Live, Unopened}
 use Rattle.sim_channels.specs.declared.driver.Driver.{Driver}
-use Rattle.sim_channels.specs.Channels.{IsKept, WorksAlone, bench, is_plugged_in}
+use Rattle.machine_desk.specs.Hearing.{is_live}
+use Rattle.sim_channels.specs.Channels.{IsKept, WorksAlone, bench}
 use Rattle.sim_channels.specs.Waiting.{IsAtRest, IsDone, IsOffered, NoneWaits}
 use Rattle.sim_channels.proofs.Slots.{SlotBy, slots_found}
 
-pub plugged_in : (stage : Stage) → is_plugged_in stage ≡ true → stage ≡ Live
+pub plugged_in : (stage : Stage) → is_live stage ≡ true → stage ≡ Live
 plugged_in Unopened e = absurd (cc)
 plugged_in Live e = refl
 plugged_in Over e = absurd (cc)
@@ -32,7 +33,7 @@ pub record PluggedBy (c : ℕ) (driver : Driver) : Type 0 where
   pub plugged : channel.inbound.stage ≡ Live
 
 pub stage_plugged : (driver : Driver) (at : ℕ) (k : Channel) → IsKept driver → slice_get driver.channels.items at ≡ Some k → is_plugged (at + 1) driver.desk.now ≡ true → k.inbound.stage ≡ Live
-stage_plugged driver at k kept there open_now = plugged_in k.inbound.stage (sym (kept.stages at k there).plugged ∙ open_now)
+stage_plugged driver at k kept there open_now = plugged_in k.inbound.stage (sym (kept.stages at k there).live ∙ open_now)
 
 pub plugged_by : (driver : Driver) (c : ℕ) → IsKept driver → is_plugged c driver.desk.now ≡ true → PluggedBy c driver
 plugged_by driver c kept open_now =

@@ -22,10 +22,11 @@ use Rattle.desk_jobs.specs.Tending.{Done, FailsToAsk, FailsToWork, GoesOn, Hands
 use Rattle.sim_steps.specs.Stretches.{Carried}
 use Rattle.sim_steps.proofs.Joining.{carried_none, carried_then}
 use Rattle.sim_steps.proofs.Others.{carried_beside}
-use Rattle.sim_channels.specs.declared.crew.Crew.{Crew}
+use Rattle.desk_jobs.specs.declared.crew.Crew.{Crew}
 use Rattle.sim_channels.specs.declared.driver.Driver.{Driver}
 use Rattle.sim_channels.specs.Answering.{IsWhole}
-use Rattle.sim_channels.specs.Channels.{CarriedOver, IsCrew, IsKept, SameCrew, Tends, WorksAlone, bench}
+use Rattle.desk_jobs.specs.Crews.{IsCrew, SameCrew}
+use Rattle.sim_channels.specs.Channels.{CarriedOver, IsKept, Tends, WorksAlone, bench}
 use Rattle.sim_channels.specs.Driving.{DrivingLaws}
 use Rattle.sim_channels.specs.Passes.{Attends, AwaitsAll, Beside, BySights, HasHeard, HearsBy, IsInHand, MakesRoom, WaitsBy, came_of, rest_at, rest_in}
 use Rattle.sim_channels.proofs.Answering.{answers_by}

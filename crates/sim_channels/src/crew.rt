@@ -8,44 +8,10 @@ ghost use Rattle.sim_channels.specs.Passes.{Attends, AwaitsAll, MakesRoom, Waits
 use crate::laws::driving_laws;
 use crate::{Driver, Stopped};
 use core_machine::JobItem;
-use desk_jobs::{Handed, Tender, tending_laws};
+use desk_jobs::{Handed, tending_laws};
 use machine_desk::working_laws;
 use packet_workers::{Gate, Worked};
 use std::sync::Wait;
-use worker_crew::{JobPass, Jobs, Lobby};
-
-/// Workers beside the driver: the queue from which they take packets that wait, the driver's pass for it, and the lobby in
-/// which all wait for each other.
-#[derive(Drop)]
-pub struct Crew<'h> {
-    pub(crate) jobs: &'h Jobs<JobItem>,
-    pub(crate) taker: &'h mut JobPass<JobItem>,
-    pub(crate) lobby: &'h Lobby,
-}
-
-impl<'h> Crew<'h> {
-    /// Of this queue, with this pass, which is lent.
-    pub fn new(
-        jobs: &'h Jobs<JobItem>,
-        taker: &'h mut JobPass<JobItem>,
-        lobby: &'h Lobby,
-    ) -> Crew<'h>
-        ensures jobs { result.jobs ≡ jobs.entry }
-        ensures taker { (result.taker.now ≡ taker.old) × (result.taker.ghost_name ≡ taker.entry.ghost_name) }
-        ensures lobby { result.lobby ≡ lobby.entry }
-    {
-        Crew { jobs, taker, lobby }
-    }
-
-    /// The pass again, which is lent no longer.
-    pub fn end(self) -> &'h mut JobPass<JobItem>
-        ensures reference { result.ghost_name ≡ self.entry.taker.ghost_name }
-        ensures taker { result.now ≡ self.entry.taker.now }
-    {
-        let Crew { taker, .. } = self;
-        taker
-    }
-}
 
 impl<'h> Driver<'h> {
     /// Whether nobody works beside the driver.
@@ -66,13 +32,7 @@ impl<'h> Driver<'h> {
         match &mut self.crew {
             None => Ok(()),
             Some(crew) => {
-                let tender = Tender {
-                    jobs: crew.jobs,
-                    lobby: crew.lobby,
-                    gate,
-                    alloc: self.alloc,
-                };
-                Ok(tender.make_room(rt, &mut self.desk, crew.taker)?)
+                Ok(crew.make_room(rt, gate, self.alloc, &mut self.desk)?)
             }
         }
     }
@@ -88,13 +48,7 @@ impl<'h> Driver<'h> {
         match &mut self.crew {
             None => Ok(()),
             Some(crew) => {
-                let tender = Tender {
-                    jobs: crew.jobs,
-                    lobby: crew.lobby,
-                    gate,
-                    alloc: self.alloc,
-                };
-                Ok(tender.await_all(rt, &mut self.desk, crew.taker)?)
+                Ok(crew.await_all(rt, gate, self.alloc, &mut self.desk)?)
             }
         }
     }
@@ -116,13 +70,7 @@ impl<'h> Driver<'h> {
         match &mut self.crew {
             None => answered(self.desk.work(rt, self.alloc, item, gate)),
             Some(crew) => {
-                let tender = Tender {
-                    jobs: crew.jobs,
-                    lobby: crew.lobby,
-                    gate,
-                    alloc: self.alloc,
-                };
-                match tender.hand_over(rt, &mut self.desk, crew.taker, item) {
+                match crew.hand_over(rt, gate, self.alloc, &mut self.desk, item) {
                     Handed::Queued => Ok(()),
                     Handed::Worked(worked) => answered(worked),
                 }

@@ -3,10 +3,9 @@ ghost use Rattle.std.specs.Prelude.{◌≡◌, ◌^◌, ◌<◌, length, OnOk, I
 ghost use Rattle.machine_steps.specs.Admitting.{IsHeard};
 ghost use Rattle.sim_channels.specs.Channels.{IsKept, IsSame, WorksAlone};
 ghost use Rattle.sim_channels.specs.Waiting.{IsOffered, NoneWaits};
-ghost use Rattle.sim_channels.specs.Passes.{Follows, HearsAt, MakesRoomFor, Passed, WaitsBy, came_of, is_packet};
+ghost use Rattle.sim_channels.specs.Passes.{Follows, HearsAt, HearsNext, MakesRoomFor, Passed, WaitsBy, came_of, is_packet};
 
 use crate::laws::driving_laws;
-use crate::outbox::connection_of;
 use crate::{Driver, Stopped};
 use core_machine::Input;
 use machine_desk::Heard;
@@ -43,6 +42,7 @@ impl<'h> Driver<'h> {
         requires within { at < length self.old.channels.items }
         requires jobs { WorksAlone self.old → NoneWaits self.old.desk }
         requires offered { IsOffered at self.old }
+        ensures next { IfOk result (λ came. HearsNext at came self.old self.new) }
         ensures passed { IfOk result (λ came. Passed at self.old self.new came) }
         ensures same { IsSame self.old self.new }
     {
@@ -80,11 +80,7 @@ impl<'h> Driver<'h> {
         ensures hears { IfOk result (λ heard. HearsAt at input heard self.old self.new) }
         ensures same { IsSame self.old self.new }
     {
-        let connection = connection_of(at);
-        Ok(
-            self.desk
-                .hear(rt, connection, &mut self.channels[at].inbound, input)?,
-        )
+        Ok(self.desk.hear(rt, &mut self.channels[at].inbound, input)?)
     }
 
     // The packet that was heard is answered, or handed over.

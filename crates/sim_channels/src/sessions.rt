@@ -10,7 +10,6 @@ ghost use Rattle.sim_channels.specs.Staging.{ClosesAt, HasStage, OpensAt};
 
 use crate::Driver;
 use crate::laws::driving_laws;
-use crate::outbox::connection_of;
 use machine_desk::{DeskStop, Worn};
 use std::sync::Wait;
 
@@ -28,8 +27,7 @@ impl<'h> Driver<'h> {
         ensures rest { OnErr result (self.new ≡ record self.old { desk = self.new.desk }) }
         ensures same { IsSame self.old self.new }
     {
-        self.desk
-            .open(rt, connection_of(at), &mut self.channels[at].inbound)
+        self.desk.open(rt, &mut self.channels[at].inbound)
     }
 
     /// The session of the device with this index ends, as its link failed or not, and it is left alone from then on. That
@@ -46,7 +44,7 @@ impl<'h> Driver<'h> {
         ensures rest { OnErr result (self.new ≡ record self.old { desk = self.new.desk }) }
         ensures same { IsSame self.old self.new }
     {
-        self.desk.close(rt, connection_of(at), &mut self.channels[at].inbound, fault)
+        self.desk.close(rt, &mut self.channels[at].inbound, fault)
     }
 
     /// The device with this index failed: its session ends, and it is left alone from then on.

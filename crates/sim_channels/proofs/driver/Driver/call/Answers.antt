@@ -1,7 +1,7 @@
 use Rattle.std.proofs.Common.{sym, ap, ◌∙◌, subst, arith}
 use Rattle.std.proofs.lemmas.List.{length-map}
 use Rattle.sim_channels.specs.declared.driver.Driver.{Driver}
-use Rattle.sim_channels.specs.Channels.{SameCrew}
+use Rattle.desk_jobs.specs.Crews.{SameCrew}
 use Rattle.sim_channels.proofs.Looking.{is_called}
 use Rattle.sim_channels.proofs.Others.{same_crew}
 use Rattle.sim_channels.proofs.driver.Driver.call.Goals as goal

@@ -1,0 +1,11 @@
+pub mod Alike
+pub mod AskedFor
+pub mod Entering
+pub mod Items
+pub mod Kept
+pub mod Others
+pub mod Plain
+pub mod Replies
+pub mod Stretching
+pub mod Texts
+pub mod Told

@@ -1,0 +1,80 @@
+// The control text as it comes.
+ghost use Rattle.std.specs.Prelude.{◌≡◌, ℕ, IfOk, List, OnOk};
+ghost use Rattle.std.specs.Option.{option_to_list};
+ghost use Rattle.maple_io.specs.declared.act.Act.{Act};
+ghost use Rattle.board_lines.specs.Readings.{beginning};
+ghost use Rattle.serve_steps.specs.Texts.{asks_last, asks_more, asks_of, quits};
+ghost use Rattle.serve_channels.specs.Controlling.{Answers, IsReading, ReadsOn};
+ghost use Rattle.serve_channels.specs.Keeping.{Goes};
+ghost use Rattle.serve_channels.specs.Servers.{IsSame};
+
+use crate::Server;
+use board_lines::{ControlItem, ControlReader};
+use desk_jobs::Stopped;
+use serve_steps::text_laws;
+use std::sync::Wait;
+
+impl<'h> Server<'h> {
+    /// Further bytes of a control text are read, and what the lines ask for that end in them is done, up to `quit`. Tells
+    /// whether a line was `quit`: behind it nothing is read.
+    ///
+    /// # Errors
+    ///
+    /// `Stopped`.
+    pub fn control<R: Wait>(
+        &mut self,
+        rt: &R,
+        reader: &mut ControlReader,
+        bytes: &[u8],
+    ) -> Result<bool, Stopped>
+        ensures goes { OnOk result
+            ((text : List ℕ) → IsReading text reader.old → (log : List Act) → Goes (Answers (asks_more text bytes.now)) self.old log self.new log) }
+        ensures reads { IfOk result (λ ended. ReadsOn bytes.now ended reader.old reader.new) }
+        ensures connections { self.new.connections ≡ self.old.connections }
+        ensures same { IsSame self.old self.new }
+    {
+        text_laws();
+        for byte in bytes {
+            let item = reader.push(*byte)?;
+            if self.obey_next(rt, item)? {
+                return Ok(true);
+            }
+        }
+        Ok(false)
+    }
+
+    /// The control text comes to its end: what stands last in it without a line feed is done.
+    ///
+    /// # Errors
+    ///
+    /// `Stopped`.
+    pub fn control_end<R: Wait>(
+        &mut self,
+        rt: &R,
+        reader: &mut ControlReader,
+    ) -> Result<(), Stopped>
+        ensures goes { OnOk result
+            ((text : List ℕ) → IsReading text reader.old → (log : List Act) → Goes (Answers (asks_last text)) self.old log self.new log) }
+        ensures reader { reader.new ≡ beginning }
+        ensures connections { self.new.connections ≡ self.old.connections }
+        ensures same { IsSame self.old self.new }
+    {
+        text_laws();
+        let item = reader.end();
+        self.obey_next(rt, item)?;
+        Ok(())
+    }
+
+    // What the reader gave next, if it gave anything, is done.
+    fn obey_next<R: Wait>(&mut self, rt: &R, item: Option<ControlItem>) -> Result<bool, Stopped>
+        ensures goes { OnOk result ((log : List Act) → Goes (Answers (asks_of (option_to_list item.entry))) self.old log self.new log) }
+        ensures quit { IfOk result (λ ended. ended ≡ quits (option_to_list item.entry)) }
+        ensures connections { self.new.connections ≡ self.old.connections }
+        ensures same { IsSame self.old self.new }
+    {
+        match item {
+            Some(item) => self.obey(rt, &item),
+            None => Ok(false),
+        }
+    }
+}
