@@ -12,8 +12,8 @@ use Rattle.board_lines.specs.declared.control_item.ControlItem.{ControlItem}
 use Rattle.board_lines.specs.declared.control_item.ControlItem.TheVariants.{Line, TooLong, Policy}
 use Rattle.board_lines.specs.ControlItems.{Control, Text, is_new_policy, items_in, items_of, line_item, next_number, policy_item}
 use Rattle.board_lines.specs.KeptTexts.{Kept, keep, kept_text, nothing_kept}
-use Rattle.board_lines.specs.Laws.{AnyPieces, BeginsAt, EndsAt, GoesOnAt, given_by, given_of, held_behind}
-use Rattle.board_lines.specs.Readings.{Reading, beginning, behind, behind_end, is_end, item_at, item_at_end, item_of_rest, items_from, last_text, line_kept, longer, text_ahead}
+use Rattle.board_lines.specs.Laws.{AnyFirstLine, AnyPieces, BeginsAt, EndsAt, GoesOnAt, given_by, given_of, held_behind}
+use Rattle.board_lines.specs.Readings.{Reading, beginning, beginning_at, behind, behind_end, is_end, item_at, item_at_end, item_of_rest, items_from, last_text, line_kept, longer, text_ahead}
 use Rattle.board_lines.proofs.Kept.{during, during_ahead, during_line, during_more}
 
 -- ---- lines
@@ -236,3 +236,6 @@ pieces_given r (p ∷ ps) = ap (λ x. given_by r p ++ x) (pieces_given (held_beh
 
 pub any_pieces : AnyPieces
 any_pieces pieces = pieces_given beginning pieces ∙ sym (begins_at (concat pieces))
+
+pub any_first_line : AnyFirstLine
+any_first_line n text = pieces_given (beginning_at n) (text ∷ []) ∙ ap (items_from (beginning_at n)) (append-nil text) ∙ (reads text).0 [] [] n nothing_kept tt (inl refl)

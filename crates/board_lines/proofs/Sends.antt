@@ -9,9 +9,10 @@ use Rattle.std.proofs.lemmas.List.Folds.{list_all-append, list_any-append}
 use Rattle.maple_io.specs.declared.act.Act.{Act}
 use Rattle.maple_io.specs.declared.act.Act.TheVariants.{Starts, Gives, Takes, Closes}
 use Rattle.maple_io.specs.declared.board.Sent.{Sent}
+use Rattle.maple_io.specs.declared.board.Sent.TheVariants as sends
 use Rattle.maple_base.specs.Counts.{HasRisen}
 use Rattle.maple_io.specs.Boards.{BoardView, LinkBroke, NoLinkBroke, control_in, heard_in, is_closing, is_opening, sent, sent_in}
-use Rattle.board_lines.specs.Deliveries.{LastAnswers, OnlySends, StepsOn, is_send}
+use Rattle.board_lines.specs.Deliveries.{FailsAtLast, GoodSends, LastAnswers, OnlySends, StepsOn, is_good_send, is_send}
 use Rattle.board_lines.specs.Laws.{NothingElse}
 use Rattle.board_lines.specs.Queues.{QueueView}
 
@@ -74,6 +75,34 @@ last_then answer k m l old mid new h same last =
       acts ++ last.0,
       last.1 ∙ ap (λ (x : List Act). x ++ last.0 ++ Takes m.number [] answer ∷ []) ahead ∙ ap (λ (x : List Act). x ++ Takes m.number [] answer ∷ []) (append_assoc old acts last.0),
     )
+
+-- ---- sends that didn't fail
+
+pub took_some : (c n : ℕ) (bytes : List ℕ) (log new : List Act) → new ≡ log ++ Takes c bytes (sends.Took n) ∷ [] → GoodSends c log new
+took_some c n bytes log new e = (Takes c bytes (sends.Took n) ∷ [], e, ap (λ t. t && true) (same_number c))
+
+pub took_none : (c : ℕ) (log new : List Act) → new ≡ log ++ Takes c [] sends.NotYet ∷ [] → GoodSends c log new
+took_none c log new e = (Takes c [] sends.NotYet ∷ [], e, ap (λ t. t && true) (same_number c))
+
+pub good_none : (c : ℕ) (log new : List Act) → new ≡ log ++ [] → GoodSends c log new
+good_none c log new e = ([], e, refl)
+
+pub fails_now : (c : ℕ) (log new : List Act) → new ≡ log ++ Takes c [] sends.Failed ∷ [] → FailsAtLast c log new
+fails_now c log new e = (log, good_none c log log (sym (append-nil log)), e)
+
+pub good_then : (k m : QueueView) (old mid new : List Act) → m.number ≡ k.number → GoodSends k.number old mid → GoodSends m.number mid new → GoodSends k.number old new
+good_then k m old mid new same h i = (
+  h.0 ++ i.0,
+  i.1 ∙ ap (λ l. l ++ i.0) h.1 ∙ append_assoc old h.0 i.0,
+  list_all-append (is_good_send k.number) h.0 i.0 ∙ ap (λ t. t && list_all (is_good_send k.number) i.0) h.2 ∙ subst (λ c. list_all (is_good_send c) i.0 ≡ true) same i.2,
+)
+
+pub fails_then : (k m : QueueView) (old mid new : List Act) → m.number ≡ k.number → GoodSends k.number old mid → FailsAtLast m.number mid new → FailsAtLast k.number old new
+fails_then k m old mid new same h i = (
+  i.0,
+  good_then k m old mid i.0 same h i.1,
+  i.2 ∙ ap (λ (c : ℕ). i.0 ++ Takes c [] sends.Failed ∷ []) same,
+)
 
 -- ---- sends leave all else
 

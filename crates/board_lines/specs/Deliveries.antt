@@ -26,6 +26,20 @@ OnlySends c old new = (acts : List Act) × (new ≡ old ++ acts) × (list_all (i
 abbrev pub LastAnswers : Sent → ℕ → List Act → List Act → Type 0
 LastAnswers answer c old new = (acts : List Act) × (new ≡ old ++ acts ++ Takes c [] answer ∷ [])
 
+-- a send for a connection that didn't fail
+abbrev pub is_good_send : ℕ → Act → Bool
+is_good_send c (Takes d bytes sends.Failed) = false
+is_good_send c (Takes d bytes answer) = d == c
+is_good_send c act = false
+
+-- such sends, and nothing else
+abbrev pub GoodSends : ℕ → List Act → List Act → Type 0
+GoodSends c old new = (acts : List Act) × (new ≡ old ++ acts) × (list_all (is_good_send c) acts ≡ true)
+
+-- such sends, and then one that failed
+abbrev pub FailsAtLast : ℕ → List Act → List Act → Type 0
+FailsAtLast c old new = (mid : List Act) × GoodSends c old mid × (new ≡ mid ++ Takes c [] sends.Failed ∷ [])
+
 -- ---- a delivery
 
 -- what is left behind it: nothing; some, since its last send found no room; or a send has failed
@@ -102,6 +116,15 @@ EndsSo (sends.Took n) c old new = ⊤
 EndsSo sends.NoMemory c old new = ⊤
 EndsSo answer c old new = LastAnswers answer c old new
 
+-- one that failed is the last that was done, and no other failed
+abbrev pub AnswersSo : Sent → ℕ → List Act → List Act → Type 0
+AnswersSo sends.Failed c old new = FailsAtLast c old new
+AnswersSo answer c old new = GoodSends c old new
+
+abbrev pub FailsSo : Result Reach NoMemory → ℕ → List Act → List Act → Type 0
+FailsSo (Ok reach.Failed) c old new = FailsAtLast c old new
+FailsSo result c old new = GoodSends c old new
+
 -- what comes of sending all that is left
 abbrev pub SendsSo : Result Reach NoMemory → QueueView → BoardView → BoardView → Type 0
 SendsSo (Ok reach.All) l old new = (l.rest ≡ []) × NoLinkBroke old new
@@ -112,4 +135,15 @@ SendsSo (Err e) l old new = NoLinkBroke old new
 pub record SendsRest (result : Result Reach NoMemory) (k l : QueueView) (old new : BoardView) : Type 0 where
   pub steps : StepsOn k l old.log new.log
   pub so : SendsSo result l old new
+  pub answers : FailsSo result k.number old.log new.log
+  pub faults : NoBoardFailed old new
+
+-- the same, and behind a failed send the queue tells of it
+pub record SendsAll (result : Result Reach NoMemory) (k l : QueueView) (old new : BoardView) : Type 0 where
+  pub number : l.number ≡ k.number
+  pub failed : l.failed ≡ is_failed result
+  pub own : sent k.number new.log ++ l.rest ≡ sent k.number old.log ++ k.rest
+  pub acts : OnlySends k.number old.log new.log
+  pub so : SendsSo result l old new
+  pub answers : FailsSo result k.number old.log new.log
   pub faults : NoBoardFailed old new

@@ -12,10 +12,12 @@ use Rattle.policy_tokens.specs.Faults.{earliest, faults, told}
 use Rattle.board_lines.specs.declared.control_item.ControlItem.{ControlItem}
 use Rattle.script_text.specs.Orders.{order_of}
 use Rattle.script_text.specs.Orders.Order.{NewPolicy}
-use Rattle.board_lines.specs.ControlItems.{is_new_policy, items_of}
+use Rattle.script_text.specs.Lines.{ended_lines}
+use Rattle.board_lines.specs.ControlItems.{is_new_policy, items_in, items_of}
+use Rattle.board_lines.specs.ControlItems.Within.{Control}
 use Rattle.board_lines.specs.Deliveries.{OnlySends}
 use Rattle.board_lines.specs.KeptTexts.{kept_text, most_kept}
-use Rattle.board_lines.specs.Readings.{Reading, beginning, behind, item_at, items_from, last_item}
+use Rattle.board_lines.specs.Readings.{Reading, beginning, beginning_at, behind, item_at, items_from, last_item}
 
 -- ---- control text
 
@@ -53,6 +55,10 @@ given_of r (piece ∷ pieces) = given_by r piece ++ given_of (held_behind r piec
 -- whatever the pieces, what is given is what the pieces, joined, have
 abbrev pub AnyPieces : Type 0
 AnyPieces = (pieces : List (List ℕ)) → given_of beginning pieces ≡ items_of (concat pieces)
+
+-- the same of a text whose first line has any number
+abbrev pub AnyFirstLine : Type 0
+AnyFirstLine = (n : ℕ) (text : List ℕ) → given_of (beginning_at n) (text ∷ []) ≡ items_in Control n (ended_lines text)
 
 -- a line begins the text of a policy just where a script's line asks for a new policy, whatever places there are
 abbrev pub BeginsAsOrdered : Type 0

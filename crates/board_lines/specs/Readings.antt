@@ -16,8 +16,12 @@ pub record Reading : Type 0 where
   pub policy : Option ℕ
   pub kept : Kept
 
+-- nothing was read of a text whose first line has this number
+abbrev pub beginning_at : ℕ → Reading
+beginning_at n = record { number = n; line = []; policy = None; kept = nothing_kept }
+
 abbrev pub beginning : Reading
-beginning = record { number = 1; line = []; policy = None; kept = nothing_kept }
+beginning = beginning_at 1
 
 -- how many bytes are stored
 abbrev pub stored : Reading → ℕ

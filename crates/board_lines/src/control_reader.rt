@@ -2,7 +2,7 @@
 ghost use Rattle.std.specs.Prelude.{◌≡◌, IfOk, None, OnErr, OnOk, Some};
 ghost use Rattle.board_lines.specs.ControlItems.{is_new_policy, line_item};
 ghost use Rattle.board_lines.specs.KeptTexts.{nothing_kept};
-ghost use Rattle.board_lines.specs.Readings.{IsBounded, beginning, behind, behind_end, going_on, is_end, item_at, item_at_end};
+ghost use Rattle.board_lines.specs.Readings.{IsBounded, beginning, beginning_at, behind, behind_end, going_on, is_end, item_at, item_at_end};
 ghost use Rattle.board_lines.specs.Readings.{item_of_rest, last_item, last_text, next_line, stored};
 
 use crate::{ControlItem, KeptText};
@@ -50,8 +50,15 @@ impl ControlReader {
     pub fn new(alloc: Global) -> ControlReader
         ensures { result ≡ beginning }
     {
+        ControlReader::new_at(alloc, 1)
+    }
+
+    /// One of a text whose first line has this number.
+    pub fn new_at(alloc: Global, number: u32) -> ControlReader
+        ensures { result ≡ beginning_at number }
+    {
         ControlReader {
-            number: 1,
+            number,
             line: Vec::new(alloc),
             policy: None,
             kept: KeptText::new(alloc),

@@ -1,15 +1,16 @@
 // What holds of whatever is sent and read.
-ghost use Rattle.board_lines.specs.Laws.{AnyPieces, BeginsAsOrdered, BeginsAt, EndsAt, GoesOnAt, IsFew, KeepsAll};
+ghost use Rattle.board_lines.specs.Laws.{AnyFirstLine, AnyPieces, BeginsAsOrdered, BeginsAt, EndsAt, GoesOnAt, IsFew, KeepsAll};
 ghost use Rattle.board_lines.specs.Laws.{KeepsFaults, NothingElse, PoliciesAlike, RefusedAlike};
 
 /// What a reader gave and what it holds are what the text has that was read so far: when it is new,
-/// behind each byte, and at the end. So pieces make no difference. A line begins the text of a policy just
-/// where it asks for a new policy as a line of a script.
+/// behind each byte, and at the end. So pieces make no difference, nor does the number of the first line.
+/// A line begins the text of a policy just where it asks for a new policy as a line of a script.
 pub fn control_laws()
     ensures begins { BeginsAt }
     ensures goes_on { GoesOnAt }
     ensures ends { EndsAt }
     ensures pieces { AnyPieces }
+    ensures numbered { AnyFirstLine }
     ensures ordered { BeginsAsOrdered }
 {}
 

@@ -16,4 +16,4 @@ pub use kept_text::KeptText;
 pub use laws::{control_laws, kept_laws, sending_laws};
 pub use outbox::Outbox;
 pub use send_queue::SendQueue;
-pub use sending::{Reach, deliver};
+pub use sending::{Reach, deliver, send_all};

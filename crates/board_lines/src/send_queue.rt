@@ -1,8 +1,8 @@
 // What lies between who has bytes for a connection and the board.
-ghost use Rattle.std.specs.Prelude.{◌≡◌, ◌≢◌, ◌<◌, ◌↔◌, [], false, true, length, IfOk, IsTrue, OnErr, OnOk};
+ghost use Rattle.std.specs.Prelude.{◌≡◌, ◌≢◌, ◌<◌, ◌↔◌, ◌++◌, [], false, true, length, IfOk, IsTrue, OnErr, OnOk};
 ghost use Rattle.maple_io.specs.Boards.{LinkBroke, MayBeFull, NoBoardFailed, NoLinkBroke};
 ghost use Rattle.board_lines.specs.Queues.{AsksNone, AsksOnce, GivesNone};
-ghost use Rattle.board_lines.specs.Deliveries.{EndsSo, Shortens, StepsOn, TakesFrom};
+ghost use Rattle.board_lines.specs.Deliveries.{AnswersSo, EndsSo, Shortens, StepsOn, TakesFrom};
 
 use crate::Outbox;
 use maple_base::NoMemory;
@@ -69,6 +69,22 @@ impl SendQueue {
         self.pieces.is_empty()
     }
 
+    /// What was taken out for the connection stands behind what wasn't sent yet.
+    ///
+    /// # Errors
+    ///
+    /// `NoMemory`; the queue is as before.
+    pub fn put(&mut self, piece: Piece) -> Result<(), NoMemory>
+        ensures ok { OnOk result (self.new ≡ record self.old { rest = self.old.rest ++ piece }) }
+        ensures err { OnErr result (self.new ≡ self.old) }
+    {
+        self.pieces.reserve(1)?;
+        if !piece.items().is_empty() {
+            self.pieces.push_back_reserved(piece);
+        }
+        Ok(())
+    }
+
     /// A send failed.
     pub(crate) fn fail(&mut self)
         ensures { self.new ≡ record self.old { failed = true } }
@@ -99,6 +115,7 @@ impl SendQueue {
         ensures steps { StepsOn self.old self.new (B.tells board.old).log (B.tells board.new).log }
         ensures shorter { Shortens result self.old.rest self.new.rest }
         ensures last { EndsSo result self.old.number (B.tells board.old).log (B.tells board.new).log }
+        ensures answers { AnswersSo result self.old.number (B.tells board.old).log (B.tells board.new).log }
         ensures full { result ≡ Sent.NotYet → MayBeFull self.old.number (B.tells board.old) }
         ensures cause { result ≡ Sent.Failed → LinkBroke (B.tells board.old) (B.tells board.new) }
         ensures spared { result ≢ Sent.Failed → NoLinkBroke (B.tells board.old) (B.tells board.new) }

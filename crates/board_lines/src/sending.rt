@@ -2,7 +2,7 @@
 ghost use Rattle.std.specs.Prelude.{◌≡◌, ◌≢◌, ◌++◌, Ok, false, true, IfOk, OnErr, OnOk, length, ◌<◌};
 ghost use Rattle.maple_io.specs.Boards.{NoBoardFailed};
 ghost use Rattle.board_lines.specs.Queues.{AsksOnce, InStep};
-ghost use Rattle.board_lines.specs.Deliveries.{Breaks, GivesOthersNone, IsTold, Lacks, OnlySends, Reaches, SendsRest, Stands, is_failed};
+ghost use Rattle.board_lines.specs.Deliveries.{Breaks, GivesOthersNone, IsTold, Lacks, OnlySends, Reaches, SendsAll, SendsRest, Stands, is_failed};
 
 use crate::{Outbox, SendQueue};
 use maple_base::NoMemory;
@@ -50,10 +50,25 @@ pub fn deliver<U: Outbox, B: Board>(
         return Ok(Reach::Failed);
     }
     queue.take_from(outbox)?;
+    let reach = send_all(board, queue)?;
+    if reach == Reach::Failed {
+        outbox.gone(queue.number());
+    }
+    Ok(reach)
+}
+
+/// Sends all that wasn't sent yet, up to a send that finds no room or fails, which the queue tells from then on.
+///
+/// # Errors
+///
+/// `NoMemory`, in a send; the next one goes on.
+pub fn send_all<B: Board>(board: &mut B, queue: &mut SendQueue) -> Result<Reach, NoMemory>
+    requires whole { queue.old.failed ≡ false }
+    ensures sends { SendsAll result queue.old queue.new (B.tells board.old) (B.tells board.new) }
+{
     let reach = send_rest(board, queue)?;
     if reach == Reach::Failed {
         queue.fail();
-        outbox.gone(queue.number());
     }
     Ok(reach)
 }

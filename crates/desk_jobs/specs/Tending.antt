@@ -138,7 +138,18 @@ pub record StopsAsleep (until : Until) (s t : Sight) : Type 0 where
   pub asks : AsksInVain until before t
   pub sleeps : MaySleep until t.queue
 
+-- who is told that a worker gave up so: where that was at a worn hall it asks once more
+abbrev pub BreaksBy : GaveUp → Broken → DeskView → DeskView → Type 0
+BreaksBy NoMemory why a b = (why ≡ Worker NoMemory) × (b ≡ a)
+BreaksBy Worn (Own cause) a b = (cause ≡ Worn) × WearsOut a b
+BreaksBy Worn (Worker cause) a b = (cause ≡ Worn) × (count : ℕ) × Enters a OpenJobs (Count count) b
+
+-- then it was told that a worker gave up so; where that was at a worn hall it asked once more itself, and the hall had room for that
+abbrev pub StopsBeside : Until → GaveUp → Sight → Sight → Type 0
+StopsBeside until NoMemory s t = StopsAsleep until s t
+StopsBeside until Worn s t = (asleep : Sight) × StopsAsleep until s asleep × (count : ℕ) × Asks count asleep t
+
 -- by itself; or it was told so of a worker: of that nothing is known here
 abbrev pub Stops : Until → Broken → Sight → Sight → Type 0
 Stops until (Own cause) s t = StopsBy until cause s t
-Stops until (Worker cause) s t = StopsAsleep until s t
+Stops until (Worker cause) s t = StopsBeside until cause s t

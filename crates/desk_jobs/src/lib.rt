@@ -2,8 +2,12 @@
 //! driver itself where the workers don't take them, and waited for.
 #![tactic(auto)]
 
+pub mod crew;
 pub mod laws;
+pub mod stopped;
 pub mod tending;
 
+pub use crew::Crew;
 pub use laws::tending_laws;
+pub use stopped::Stopped;
 pub use tending::{Broken, Handed, Tender};

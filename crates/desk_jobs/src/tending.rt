@@ -4,7 +4,7 @@ ghost use Rattle.machine_steps.specs.declared.entry.Entry.TheVariants.{OpenJobs}
 ghost use Rattle.machine_steps.specs.declared.reply.Reply.TheVariants.{Count};
 ghost use Rattle.worker_crew.specs.Takers.{IsTakerOf, account, places};
 ghost use Rattle.machine_desk.specs.Desks.{Enters, WearsOut};
-ghost use Rattle.desk_jobs.specs.Tending.{Done, GoesOn, HandsOver, IsEmptyFor, Reaches, Room, Stops, TakesAndWorks, WorksSo, at};
+ghost use Rattle.desk_jobs.specs.Tending.{BreaksBy, Done, GoesOn, HandsOver, IsEmptyFor, Reaches, Room, Stops, TakesAndWorks, WorksSo, at};
 
 use core_machine::{Entry, JobItem, Reply};
 use machine_desk::{Desk, Worn};
@@ -117,7 +117,7 @@ impl<'a, G: Gate> Tender<'a, G> {
                 Ok(true) => {}
                 Ok(false) => {
                     if let Some(cause) = self.lobby.wait_past(rt, seen).broken {
-                        return Err(Broken::Worker(cause));
+                        return Err(self.broken_by(rt, desk, cause));
                     }
                 }
                 Err(cause) => return Err(Broken::Own(cause)),
@@ -158,13 +158,24 @@ impl<'a, G: Gate> Tender<'a, G> {
                 Ok(true) => {}
                 Ok(false) => {
                     if let Some(cause) = self.lobby.wait_past(rt, news.moves).broken {
-                        return Err(Broken::Worker(cause));
+                        return Err(self.broken_by(rt, desk, cause));
                     }
                 }
                 Err(cause) => return Err(Broken::Own(cause)),
             }
         }
         unreachable!()
+    }
+
+    // Why it can't go on, where a worker gave up so: who is told of a worn hall asks once more, and finds it so itself.
+    fn broken_by<R: Wait>(&self, rt: &R, desk: &mut Desk<'_>, cause: GaveUp) -> Broken
+        ensures breaks { BreaksBy cause result desk.old desk.new }
+        ensures footing { desk.new.footing ≡ desk.old.footing }
+    {
+        if cause == GaveUp::Worn && self.open_jobs(rt, desk).is_err() {
+            return Broken::Own(GaveUp::Worn);
+        }
+        Broken::Worker(cause)
     }
 
     // How many packets wait in the machine.

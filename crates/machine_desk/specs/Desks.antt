@@ -70,8 +70,8 @@ abbrev pub IsMemoryTold : Bool → Known State Entry Reply → Type 0
 IsMemoryTold lacked k = lacked ≡ false → HadMemory k.seen k.own
 
 -- all of it, of what a pass knows, which has seen all that it had seen at the mark
-abbrev pub IsDriven : Known State Entry Reply → Known State Entry Reply → State → Bool → Bool → Bool → ℕ → Type 0
-IsDriven mark k start worn lacked learning budget =
+abbrev pub IsLed : Known State Entry Reply → Known State Entry Reply → State → Bool → Bool → Bool → ℕ → Type 0
+IsLed mark k start worn lacked learning budget =
     IsDesk k start worn × IsTold learning budget (state_behind start k.seen) × StartsWith k.seen mark.seen × IsMemoryTold lacked k
 
 -- the desk's machine is sound, and its turns are a legal history of the one that it was at first, which begins with those ahead of the mark

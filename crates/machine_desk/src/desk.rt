@@ -42,7 +42,7 @@ impl<'h> Model for Desk<'h> {
     ghost use Rattle.machine_steps.specs.contracts.entry.Entry as entry;
     ghost use Rattle.machine_steps.specs.contracts.reply.Reply as reply;
     ghost use Rattle.history_lock.specs.Passes.{IsPassOf, hall as place_of, known};
-    ghost use Rattle.machine_desk.specs.Desks.{DeskView, IsDriven, view_by};
+    ghost use Rattle.machine_desk.specs.Desks.{DeskView, IsLed, view_by};
 
     ghost Value = { DeskView };
 
@@ -50,7 +50,7 @@ impl<'h> Model for Desk<'h> {
 
     ghost view = { λ d. view_by (place_of d.pass.now) d.pass.ghost_name (known d.pass.now) (known d.mark.value) d.start.value d.worn };
 
-    ghost invariant = { λ d. IsPassOf d.hall.now d.pass.now × IsDriven (known d.mark.value) (known d.pass.now) d.start.value d.worn d.lacked d.learning d.budget };
+    ghost invariant = { λ d. IsPassOf d.hall.now d.pass.now × IsLed (known d.mark.value) (known d.pass.now) d.start.value d.worn d.lacked d.learning d.budget };
 }
 
 impl<'h> Desk<'h> {

@@ -1,10 +1,11 @@
 // The session of a connection is opened, what it sends is heard, and the session ends.
-ghost use Rattle.std.specs.Prelude.{◌≡◌, IfErr, IfOk, OnErr, OnOk};
+ghost use Rattle.std.specs.Prelude.{◌≡◌, false, true, IfErr, IfOk, OnErr, OnOk};
 ghost use Rattle.machine_moves.specs.Told.{is_end};
 ghost use Rattle.machine_steps.specs.Admitting.{IsHeard};
 ghost use Rattle.machine_steps.specs.declared.entry.Entry.TheVariants as entries;
+ghost use Rattle.machine_steps.specs.Machine.{was_opened};
 ghost use Rattle.machine_desk.specs.Desks.{WearsOut};
-ghost use Rattle.machine_desk.specs.Hearing.{Closes, Hears, Opens, heard_by, stage_heard, stage_opened};
+ghost use Rattle.machine_desk.specs.Hearing.{Closes, Hears, IsStaged, Opens, heard_by, stage_heard, stage_opened, was_begun};
 ghost use Rattle.machine_desk.specs.Orders.{Stops};
 
 use crate::{Desk, DeskStop, Inbound, Stage, Worn};
@@ -31,18 +32,14 @@ impl<'h> Desk<'h> {
     /// # Errors
     ///
     /// As `ask`; the connection is as before.
-    pub fn open<R: Wait>(
-        &mut self,
-        rt: &R,
-        connection: u32,
-        inbound: &mut Inbound,
-    ) -> Result<(), DeskStop>
-        ensures ok { OnOk result (Opens connection self.old inbound.old self.new inbound.new) }
-        ensures stops { IfErr result (λ stop. Stops stop (entries.Open connection) self.old self.new) }
+    pub fn open<R: Wait>(&mut self, rt: &R, inbound: &mut Inbound) -> Result<(), DeskStop>
+        ensures ok { OnOk result (Opens self.old inbound.old self.new inbound.new) }
+        ensures staged { OnOk result (was_opened inbound.old.connection self.old.now ≡ false → IsStaged inbound.new self.new.now) }
+        ensures stops { IfErr result (λ stop. Stops stop (entries.Open inbound.old.connection) self.old self.new) }
         ensures same { OnErr result (inbound.new ≡ inbound.old) }
         ensures footing { self.new.footing ≡ self.old.footing }
     {
-        let reply = self.ask(rt, Entry::Open(connection))?;
+        let reply = self.ask(rt, Entry::Open(inbound.connection))?;
         inbound.stage = stage_opened(&reply);
         Ok(())
     }
@@ -55,17 +52,17 @@ impl<'h> Desk<'h> {
     pub fn hear<R: Wait>(
         &mut self,
         rt: &R,
-        connection: u32,
         inbound: &mut Inbound,
         input: Input,
     ) -> Result<Heard, DeskStop>
         requires heard { IsHeard input }
-        ensures ok { IfOk result (λ heard. Hears connection input heard self.old inbound.old self.new inbound.new) }
-        ensures stops { IfErr result (λ stop. Stops stop (entries.Heard connection input) self.old self.new) }
+        ensures ok { IfOk result (λ heard. Hears input heard self.old inbound.old self.new inbound.new) }
+        ensures staged { OnOk result (IsStaged inbound.old self.old.now → IsStaged inbound.new self.new.now) }
+        ensures stops { IfErr result (λ stop. Stops stop (entries.Heard inbound.old.connection input) self.old self.new) }
         ensures same { OnErr result (inbound.new ≡ inbound.old) }
         ensures footing { self.new.footing ≡ self.old.footing }
     {
-        let reply = self.ask(rt, Entry::Heard(connection, input))?;
+        let reply = self.ask(rt, Entry::Heard(inbound.connection, input))?;
         let heard = heard_by(reply);
         inbound.stage = stage_heard(&heard, inbound.stage);
         Ok(heard)
@@ -79,15 +76,16 @@ impl<'h> Desk<'h> {
     pub fn close<R: Wait>(
         &mut self,
         rt: &R,
-        connection: u32,
         inbound: &mut Inbound,
         fault: bool,
     ) -> Result<(), Worn>
-        ensures ok { OnOk result (Closes connection fault self.old inbound.old self.new inbound.new) }
+        ensures ok { OnOk result (Closes fault self.old inbound.old self.new inbound.new) }
+        ensures staged { OnOk result (was_begun inbound.old.stage ≡ true → IsStaged inbound.old self.old.now → IsStaged inbound.new self.new.now) }
         ensures worn { OnErr result (WearsOut self.old self.new) }
         ensures same { OnErr result (inbound.new ≡ inbound.old) }
         ensures footing { self.new.footing ≡ self.old.footing }
     {
+        let connection = inbound.connection;
         self.enter(rt, Entry::Gone { connection, fault })?;
         inbound.stage = Stage::Over;
         Ok(())

@@ -4,7 +4,7 @@ ghost use Rattle.of10_stream.specs.declared.reassembly.Next.TheVariants as answe
 ghost use Rattle.of10_stream.specs.Steps.{Tells, beginning, fed};
 ghost use Rattle.machine_steps.specs.Admitting.{IsHeard};
 ghost use Rattle.machine_desk.specs.declared.inbound.Stage.TheVariants.{Unopened};
-ghost use Rattle.machine_desk.specs.Hearing.{Comes, LacksMemoryFor, told_as};
+ghost use Rattle.machine_desk.specs.Hearing.{Comes, IsSameSession, LacksMemoryFor, told_as};
 
 use core_machine::Input;
 use maple_base::NoMemory;
@@ -25,21 +25,31 @@ pub enum Stage {
 /// What comes of one connection, and how its session stands.
 #[derive(Drop)]
 pub struct Inbound {
+    pub(crate) connection: u32,
     pub(crate) stage: Stage,
     /// The bytes, behind the messages that were heard.
     pub(crate) from: Reassembly,
 }
 
 impl Inbound {
-    /// A connection whose session was never opened, and of which nothing came.
-    pub fn new(alloc: Global) -> Inbound
+    /// The connection of this number, whose session was never opened, and of which nothing came.
+    pub fn new(alloc: Global, connection: u32) -> Inbound
+        ensures connection { result.connection ≡ connection }
         ensures stage { result.stage ≡ Unopened }
         ensures nothing { result.from.stream ≡ beginning }
     {
         Inbound {
+            connection,
             stage: Stage::Unopened,
             from: Reassembly::new(alloc),
         }
+    }
+
+    /// Its number.
+    pub fn connection(&self) -> u32
+        ensures { result ≡ self.now.connection }
+    {
+        self.connection
     }
 
     /// How its session stands.
@@ -58,7 +68,7 @@ impl Inbound {
         ensures ok { OnOk result (self.new.from.stream ≡ fed piece.now self.old.from.stream) }
         ensures err { OnErr result (self.new.from.stream ≡ self.old.from.stream) }
         ensures whole { OnErr result (self.old.from.stream.broken ≡ None) }
-        ensures stage { self.new.stage ≡ self.old.stage }
+        ensures session { IsSameSession self.old self.new }
     {
         self.from.feed(piece)
     }

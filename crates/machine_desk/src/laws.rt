@@ -1,5 +1,6 @@
 // What holds of the machine and its histories, for the desk.
 ghost use Rattle.machine_desk.specs.Driving.{DeskLaws};
+ghost use Rattle.machine_desk.specs.Hearing.{StagesStay};
 ghost use Rattle.machine_desk.specs.Working.{RoundsArePlain, RoundsClose};
 
 use machine_moves::reply_laws;
@@ -20,3 +21,10 @@ pub fn working_laws()
     ensures plain { RoundsArePlain }
     ensures close { RoundsClose }
 {}
+
+/// How a session stands, others leave as it is.
+pub fn hearing_laws()
+    ensures stay { StagesStay }
+{
+    between_laws();
+}

@@ -13,6 +13,6 @@ pub use asking::DeskStop;
 pub use desk::{Desk, Worn};
 pub use hearing::Heard;
 pub use inbound::{Inbound, Stage};
-pub use laws::{desk_laws, working_laws};
+pub use laws::{desk_laws, hearing_laws, working_laws};
 pub use opening::{Opening, close_hall, open_hall};
 pub use report::ReportStop;

@@ -1,5 +1,5 @@
 -- A delivery at a place, put together, and one place after the other.
-use Rattle.std.proofs.Common.{◌≡◌, ℕ, ◌+◌, ◌<◌, ◌==◌, Bool, true, List, [], length, get_or, refl, sym, ap, ◌∙◌, subst, inl, inr, ⊎_elim, arith}
+use Rattle.std.proofs.Common.{◌≡◌, ℕ, ◌+◌, ◌<◌, ◌==◌, Bool, true, List, [], length, get_or, sym, ap, ◌∙◌, subst, inl, inr, ⊎_elim, arith}
 use Rattle.std.proofs.lemmas.Bool.{cases_eq, eqb-true}
 use Rattle.std.proofs.lemmas.List.{nil_from_length}
 use Rattle.std.proofs.lemmas.Option.{get_or_from_slice_get, slice_get_within}
@@ -8,34 +8,18 @@ use Rattle.device_port.specs.Devices.{Meaning}
 use Rattle.sim_steps.specs.Parts.{IsHeardOut}
 use Rattle.sim_steps.specs.Stretches.{Carried}
 use Rattle.sim_steps.proofs.Joining.{carried_then}
-use Rattle.sim_steps.proofs.Others.{carried_beside}
 use Rattle.sim_channels.specs.declared.channel.Channel.{Channel}
 use Rattle.sim_channels.specs.declared.driver.Driver.{Driver}
-use Rattle.sim_channels.specs.Channels.{Fits, IsSame, WorksAlone, bench}
-use Rattle.sim_channels.specs.Delivering.{Delivers, GoesOn, IsPluggedIn, MayGoOn, OffersAt, TakesOut}
+use Rattle.sim_channels.specs.Channels.{Fits, IsSame, bench}
+use Rattle.sim_channels.specs.Delivering.{Delivers, GoesOn, MayGoOn, OffersAt}
 use Rattle.sim_channels.specs.Driving.{DrivingLaws}
 use Rattle.sim_channels.specs.Passes.{AwaitsAll}
 use Rattle.sim_channels.specs.Waiting.{IsAtRest, IsDone, IsHeard, IsHeardThrough, IsOffered, IsQuiet, IsTaken, NoneWaits, StaysBut, WhilePlugged}
-use Rattle.sim_channels.proofs.Keeping.{messages_same}
-use Rattle.sim_channels.proofs.Kept.{plugged_at, spares_then, waiting_but}
-use Rattle.sim_channels.proofs.Others.{alone_back, quiet_on, same_then, tends_beside, tends_channel, tends_fits}
-use Rattle.sim_channels.proofs.Places.{there_too}
+use Rattle.sim_channels.proofs.Kept.{spares_then}
+use Rattle.sim_channels.proofs.Others.{alone_back, quiet_on, same_then, tends_carried, tends_channel, tends_fits}
+use Rattle.sim_channels.proofs.Places.{taken_still, while_still}
 
 -- ---- one place
-
--- what is to be offered was taken out
-pub delivers_first : (at : ℕ) (old new : Driver) (ds : List Meaning) → Fits old ds → TakesOut at old new → Delivers at old ds new ds
-delivers_first at old new ds fits h = record {
-  fits = record {
-    kept = h.kept;
-    places = h.places ∙ fits.places;
-    waiting = waiting_but old new ds ds at fits h.spares.others.channels (λ n o. refl)
-        (λ l d there is. (let was = there_too old.channels.items new.channels.items at l (sym h.places) there in h.waiting was.0 l was.1 there ∙ fits.waiting at was.0 d was.1 is));
-  };
-  carried = h.carried ds (sym fits.places);
-  spares = h.spares;
-  taken = λ quiet. h.taken;
-}
 
 pub delivers_then : (at : ℕ) (a : Driver) (xs : List Meaning) (b : Driver) (ys : List Meaning) (c : Driver) (zs : List Meaning) → Delivers at a xs b ys → OffersAt at b ys c zs → Delivers at a xs c zs
 delivers_then at a xs b ys c zs h k = record {
@@ -49,8 +33,8 @@ no_messages : (ms : List Message) → (length ms == 0) ≡ true → ms ≡ []
 no_messages ms e = nil_from_length ms (eqb-true (length ms) 0 e)
 
 -- nothing is left to be offered, where that is read of the channel
-pub offered_all : (at : ℕ) (driver : Driver) (r : Channel) → IsPluggedIn at driver → r ≡ get_or driver.channels.items at r → (length r.to == 0) ≡ true → IsOffered at driver
-offered_all at driver r plugged value none = λ k there stage.
+pub offered_all : (at : ℕ) (driver : Driver) (r : Channel) → r ≡ get_or driver.channels.items at r → (length r.to == 0) ≡ true → IsOffered at driver
+offered_all at driver r value none = λ k there stage.
     (let same : r ≡ k = value ∙ get_or_from_slice_get driver.channels.items at k r there in
     ap (λ (y : Channel). y.to) (sym same) ∙ no_messages r.to none)
 
@@ -62,13 +46,10 @@ went_on took at old new is h = subst (λ b. GoesOn b at old new) is h
 
 module _ (Where : Type 0) (here : ℕ) (old new : Driver) (h : StaysBut Where here old new) (n : ℕ) (other : n ≡ here → ⊥) where
   pub stays_so : (P : Channel → Type 0) → WhilePlugged P n old → WhilePlugged P n new
-  stays_so P was = λ k there plugged. was k (sym (h.channels n other) ∙ there) plugged
+  stays_so P = while_still P n old new (h.channels n other)
 
   pub taken_stays : DrivingLaws → (ds es : List Meaning) → Fits old ds → Fits new es → Where → IsTaken n old → IsTaken n new
-  taken_stays laws ds es f g holds was = λ k there plugged.
-      (let there_before = sym (h.channels n other) ∙ there in
-      messages_same laws (n + 1) old.desk.now new.desk.now f.kept.reached g.kept.reached (plugged_at old n k f.kept there_before plugged)
-      (h.sessions holds (n + 1) (λ e. other (omega (arith, e)))) ∙ was k there_before plugged)
+  taken_stays laws ds es f g holds = taken_still laws old new n f.kept g.kept (h.sessions holds (n + 1) (λ e. other (omega (arith, e)))) (h.channels n other)
 
 -- ---- one place after the other
 
@@ -117,21 +98,16 @@ module _ (count : ℕ) (old : Driver) (before : List Meaning) (new : Driver) (af
 
 -- ---- behind a wait for who works beside
 
-module _ (laws : DrivingLaws) (old mid : Driver) (ds : List Meaning) (fits : Fits old ds) (some : WorksAlone old → ⊥) (h : AwaitsAll old mid) where
-  pub awaited_none : NoneWaits mid.desk
-  awaited_none = ⊎_elim (λ alone. absurd (some alone)) (λ none. none) h.none
-
+module _ (laws : DrivingLaws) (old mid : Driver) (ds : List Meaning) (fits : Fits old ds) (h : AwaitsAll old mid) where
   pub awaited_fits : Fits mid ds
   awaited_fits = tends_fits laws old mid fits.kept h.tends ds fits
 
   pub awaited_through : IsAtRest old → IsHeardThrough mid
   awaited_through rest = record {
-    jobs = λ alone. awaited_none;
+    jobs = λ alone. ⊎_elim (λ none. subst (λ (d : Driver). NoneWaits d.desk) (sym (h.alone none)) (rest.done none).jobs) (λ none. none) h.none;
     offered = λ n. tends_channel laws old mid fits.kept h.tends (λ k. k.to ≡ []) n (rest.offered n);
     heard = λ n. tends_channel laws old mid fits.kept h.tends (λ k. IsHeardOut k.inbound.from.stream) n (rest.heard n);
   }
 
   pub awaited_then : (new : Driver) (es : List Meaning) → Carried (bench mid ds) (bench new es) → Carried (bench old ds) (bench new es)
-  awaited_then new es carried =
-      carried_then (bench old ds) (bench mid ds) (bench new es)
-      (carried_beside (bench old ds) (bench mid ds) (tends_beside laws old mid fits.kept h.tends (λ solo. some (fits.kept.crew.none solo)) ds)) carried
+  awaited_then new es = carried_then (bench old ds) (bench mid ds) (bench new es) (tends_carried laws old mid fits.kept h.tends h.alone ds (sym fits.places))

@@ -1,11 +1,11 @@
 -- What entries leave of the machine: the legal history behind it, which sessions are open, the policy, and what waits in it for a place.
-use Rattle.std.proofs.Common.{◌≡◌, ℕ, Bool, true, false, not, List, [], ◌∷◌, ◌++◌, refl, sym, ap, ◌∙◌, subst, inl, inr, ⊎_elim}
+use Rattle.std.proofs.Common.{◌≡◌, ℕ, ◌+◌, Bool, true, false, not, List, [], ◌∷◌, ◌++◌, refl, sym, ap, ◌∙◌, subst, inl, inr, ⊎_elim}
 use Rattle.std.specs.Prelude.{◌&&◌, ◌==◌, Option, Some, None, is_some}
 use Rattle.std.specs.List.{AllByRecursion}
-use Rattle.std.proofs.lemmas.Bool.{cases_Bool, eq-eqb}
-use Rattle.policy_lang.specs.declared.Policy.{Policy}
+use Rattle.std.proofs.lemmas.Bool.{cases_Bool, eq-eqb, ne_eqb}
+use Rattle.machine_moves.specs.MoveLaws.{OpensOnly}
 use Rattle.machine_moves.specs.Moves.{Fares, TakesBy}
-use Rattle.machine_moves.specs.Told.{concerns, is_end, may_end, policy_behind}
+use Rattle.machine_moves.specs.Told.{concerns, is_end, may_end}
 use Rattle.machine_moves.specs.Sends.{CanBeOffered, OutboxesCanBeOffered}
 use Rattle.machine_steps.specs.declared.entry.Entry.{Entry}
 use Rattle.machine_steps.specs.declared.entry.Entry.TheVariants as entries
@@ -46,22 +46,28 @@ some_at : {X : Type 0} (o : Option X) → is_some o ≡ true → (x : X) × (o �
 some_at None e = absurd (cc)
 some_at (Some x) e = (x, refl)
 
--- ---- which entries open a connection, and put another policy in force
+-- ---- which entries bear on the session of a connection
 
-abbrev pub is_opening : Entry → Bool
-is_opening (entries.Open c) = true
-is_opening entry = false
+-- they may open it, or end it
+abbrev pub bears_on : ℕ → Entry → Bool
+bears_on c (entries.Open d) = d == c
+bears_on c entry = may_end c entry
 
-abbrev pub is_policy : Entry → Bool
-is_policy (entries.NewPolicy p) = true
-is_policy entry = false
+-- of another connection than that of a place
+pub elsewhere : (at c : ℕ) → (c ≡ at + 1 → ⊥) → (at + 1 == c) ≡ false
+elsewhere at c other = ne_eqb (at + 1) c (λ e. other (sym e))
 
-opens_none : (entry : Entry) (c : ℕ) → is_opening entry ≡ false → entry ≡ entries.Open c → ⊥
-opens_none entry c f e = (let g : true ≡ false = sym (ap is_opening e) ∙ f in cc)
+opens_none : (entry : Entry) (c : ℕ) → bears_on c entry ≡ false → entry ≡ entries.Open c → ⊥
+opens_none entry c f e = (let g : true ≡ false = sym (eq-eqb c c refl) ∙ sym (ap (bears_on c) e) ∙ f in cc)
 
-same_policy : (entry : Entry) (reply : Reply) (p : Policy) → is_policy entry ≡ false → policy_behind entry reply p ≡ p
-same_policy (entries.NewPolicy q) reply p f = absurd (cc)
-same_policy entry reply p f = refl
+ends_none : (entry : Entry) (c : ℕ) → bears_on c entry ≡ false → may_end c entry ≡ false
+ends_none (entries.Open d) c f = refl
+ends_none entry c f = f
+
+-- the session of a connection is open as it was, and was opened if it was
+pub record StandsStill (c : ℕ) (old new : State) : Type 0 where
+  pub live : is_plugged c new ≡ is_plugged c old
+  pub opened : was_opened c new ≡ was_opened c old
 
 module _ (laws : DrivingLaws) where
   sound_along : (m : State) (ts : List Turn) (n : State) → IsSound m → Leads m ts n → IsSound n
@@ -99,28 +105,21 @@ module _ (laws : DrivingLaws) where
     pub session_same : may_make entry ≡ false → (c : ℕ) → concerns c entry old ≡ false → session_at c new ≡ session_at c old
     session_same none c other = laws.others old entry reply new sound steps (no_state old entry reply new none steps) c other
 
-    pub opened_same : is_opening entry ≡ false → (c : ℕ) → was_opened c new ≡ was_opened c old
-    opened_same none c =
-        let only = laws.connections old entry reply new steps in
-        ⊎_elim (λ was. only.stay c was ∙ sym was)
-        (λ was. ⊎_elim (λ is. absurd (opens_none entry c none (only.others c was is))) (λ is. is ∙ sym was) (cases_Bool (was_opened c new))) (cases_Bool (was_opened c old))
-
-    pub plugged_same : is_opening entry ≡ false → (c : ℕ) → (may_end c entry && is_end reply) ≡ false → is_plugged c new ≡ is_plugged c old
-    plugged_same none c no_end = go (session_at c old) refl (session_at c new) refl
+    pub stands_still : (c : ℕ) → bears_on c entry ≡ false → StandsStill c old new
+    stands_still c none = record {
+      live = live (session_at c old) refl (session_at c new) refl;
+      opened = ⊎_elim (λ was. only.stay c was ∙ sym was)
+          (λ was. ⊎_elim (λ is. absurd (opens_none entry c none (only.others c was is))) (λ is. is ∙ sym was) (cases_Bool (was_opened c new)))
+          (cases_Bool (was_opened c old));
+    }
       where
-        go : (o : Option Session) → session_at c old ≡ o → (p : Option Session) → session_at c new ≡ p → is_plugged c new ≡ is_plugged c old
-        go (Some s) e p f = laws.ends old entry reply new sound steps c s e ∙ ap not no_end ∙ sym (ap is_some e)
-        go None e None f = ap is_some f ∙ sym (ap is_some e)
-        go None e (Some t) f = absurd (opens_none entry c none (laws.sessions old entry reply new sound steps c t e f).entry_is)
+        only : OpensOnly old entry reply new
+        only = laws.connections old entry reply new steps
 
-    -- the session of a connection ends
-    pub plugged_ends : (c : ℕ) → is_plugged c old ≡ true → may_end c entry ≡ true → is_end reply ≡ true → is_plugged c new ≡ false
-    plugged_ends c plugged may end =
-        let found = some_at (session_at c old) plugged in
-        laws.ends old entry reply new sound steps c found.0 found.1 ∙ ap (λ b. not (b && is_end reply)) may ∙ ap not end
-
-    pub policy_same : is_policy entry ≡ false → new.policy ≡ old.policy
-    policy_same none = laws.policy old entry reply new steps ∙ same_policy entry reply old.policy none
+        live : (o : Option Session) → session_at c old ≡ o → (p : Option Session) → session_at c new ≡ p → is_plugged c new ≡ is_plugged c old
+        live (Some s) e p f = laws.ends old entry reply new sound steps c s e ∙ ap (λ b. not (b && is_end reply)) (ends_none entry c none) ∙ sym (ap is_some e)
+        live None e None f = ap is_some f ∙ sym (ap is_some e)
+        live None e (Some t) f = absurd (opens_none entry c none (laws.sessions old entry reply new sound steps c t e f).entry_is)
 
   -- what waited in the machine for an open session was taken out
   pub nothing_left : (c : ℕ) (old : State) (reply : Reply) (new : State) → IsReached old → Steps old (entries.TakeOut c) reply new → lacks_memory reply ≡ false → is_plugged c old ≡ true
@@ -130,7 +129,7 @@ module _ (laws : DrivingLaws) where
       go found.0 (laws.moves old (entries.TakeOut c) reply new (reached_sound old r) tt steps c found.0 found.1)
     where
       there : is_plugged c new ≡ true
-      there = plugged_same old (entries.TakeOut c) reply new r steps refl c refl ∙ plugged
+      there = (stands_still old (entries.TakeOut c) reply new r steps c refl).live ∙ plugged
 
       go : (s : Session) → Fares c old (entries.TakeOut c) reply new s → messages_for c new ≡ []
       go s (inl lacks) = (let g : true ≡ false = sym (ap lacks_memory lacks.0) ∙ memory in absurd (cc))

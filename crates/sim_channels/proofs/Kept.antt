@@ -1,13 +1,12 @@
 -- What the driver keeps of the machine, behind an entry and where one channel became another.
-use Rattle.std.proofs.Common.{◌≡◌, ℕ, ◌+◌, ◌^◌, ◌<◌, ◌≤◌, true, false, List, length, set, refl, sym, ap, ◌∙◌, subst, ⊎_elim, arith}
-use Rattle.std.specs.Prelude.{◌&&◌, Some}
+use Rattle.std.proofs.Common.{◌≡◌, ℕ, ◌+◌, true, false, List, length, set, refl, sym, ap, ◌∙◌, subst, ⊎_elim, arith}
+use Rattle.std.specs.Prelude.{Some}
 use Rattle.std.specs.List.{slice_get}
 use Rattle.std.proofs.lemmas.Bool.{cases_eq}
 use Rattle.std.proofs.lemmas.List.{length-set}
-use Rattle.std.proofs.lemmas.Option.{same_Some}
+use Rattle.std.proofs.lemmas.Option.{same_Some, slice_get_within}
 use Rattle.device_port.specs.Devices.{Meaning}
-use Rattle.machine_moves.specs.Told.{concerns, is_end, is_heard, may_end}
-use Rattle.machine_steps.proofs.Changes.{changes}
+use Rattle.machine_moves.specs.Told.{concerns, is_heard}
 use Rattle.machine_steps.specs.declared.entry.Entry.{Entry}
 use Rattle.machine_steps.specs.declared.entry.Entry.TheVariants as entries
 use Rattle.machine_steps.specs.declared.reply.Reply.{Reply}
@@ -17,17 +16,23 @@ use Rattle.machine_steps.specs.Steps.{Steps}
 use Rattle.sim_steps.specs.Benches.{is_plugged}
 use Rattle.sim_steps.specs.Parts.{IsHeardOut}
 use Rattle.sim_channels.specs.declared.channel.Channel.{Channel}
-use Rattle.machine_desk.specs.declared.inbound.Stage.{Stage}
+use Rattle.machine_desk.specs.Desks.{Enters}
+use Rattle.machine_desk.specs.declared.inbound.Inbound.{Inbound}
 use Rattle.machine_desk.specs.declared.inbound.Stage.TheVariants.{Over, Live, Unopened}
 use Rattle.sim_channels.specs.declared.driver.Driver.{Driver}
-use Rattle.sim_channels.specs.Channels.{Fits, IsFresh, IsKept, IsSame, IsStaged, is_plugged_in, was_plugged_in}
+use Rattle.machine_desk.specs.Hearing.{IsSameSession, IsStaged, is_live, was_begun}
+use Rattle.sim_channels.specs.Channels.{EntersNext, Fits, IsFresh, IsKept, IsReached, IsSame, OthersDid}
 use Rattle.sim_channels.specs.Delivering.{Spares}
 use Rattle.sim_channels.specs.Driving.{DrivingLaws}
 use Rattle.sim_channels.specs.Waiting.{WhilePlugged}
-use Rattle.sim_channels.proofs.Keeping.{is_opening, is_policy, opened_same, plugged_ends, plugged_same, reached_on, session_same}
+use Rattle.sim_channels.proofs.Keeping.{StandsStill, stands_still, bears_on, reached_on, session_same}
 use Rattle.sim_channels.proofs.Making.{may_make}
-use Rattle.sim_channels.proofs.Others.{crew_on, quiet_on, same_desk, same_then}
+use Rattle.sim_channels.proofs.Others.{IsPlaced, ahead, enters_next, kept_ahead, kept_all, kept_each, others_ahead, quiet_on, same_desk, same_then, still_placed}
 use Rattle.sim_channels.proofs.Slots.{set_beside, set_there}
+
+-- a channel with another inbound
+abbrev pub with_inbound : Inbound → Channel → Channel
+with_inbound j k = record k { inbound = j }
 
 -- of the channels this one became another
 pub record ChannelAt (at : ℕ) (k l : Channel) (old new : Driver) : Type 0 where
@@ -45,6 +50,27 @@ module _ (at : ℕ) (k l : Channel) (old new : Driver) (h : ChannelAt at k l old
   pub is_as_long : length new.channels.items ≡ length old.channels.items
   is_as_long = ap length h.channels ∙ length-set old.channels.items at l
 
+  -- of the channel that stands there now
+  pub now_there : (P : Channel → Type 0) → P l → (x : Channel) → slice_get new.channels.items at ≡ Some x → P x
+  now_there P p x there = subst P (same_Some l x (sym is_there ∙ there)) p
+
+  pub while_there : (P : Channel → Type 0) → (l.inbound.stage ≡ Live → P l) → WhilePlugged P at new
+  while_there P p = now_there (λ x. x.inbound.stage ≡ Live → P x) p
+
+  pub waits_as : l.waiting ≡ k.waiting → (x y : Channel) → slice_get old.channels.items at ≡ Some x → slice_get new.channels.items at ≡ Some y → y.waiting ≡ x.waiting
+  waits_as same x y was = now_there (λ z. z.waiting ≡ x.waiting) (same ∙ ap (λ (z : Channel). z.waiting) (same_Some k x (sym h.there ∙ was))) y
+
+  -- all stays kept, where the one channel is placed and the sessions of others are as they were
+  pub kept_but : IsKept old → new.desk.now.settings ≡ old.desk.now.settings → IsReached new.desk.now → IsPlaced at new.desk.now l
+      → ((c : ℕ) → (c ≡ at + 1 → ⊥) → StandsStill c old.desk.now new.desk.now) → IsKept new
+  kept_but kept settings reached placed aside =
+      kept_each old new kept h.same settings reached is_as_long
+      (λ n x there. ⊎_elim
+      (λ e. subst (λ i. IsPlaced i new.desk.now x) (sym e) (now_there (IsPlaced at new.desk.now) placed x (ap (slice_get new.channels.items) (sym e) ∙ there)))
+      (λ o. still_placed old new kept h.same settings reached n x (sym (is_beside n o) ∙ there) (aside (n + 1) (λ e. o (omega (arith, e))))) (cases_eq n at))
+      (λ c open_now. ⊎_elim (λ e. (let within = slice_get_within old.channels.items at k h.there in (omega (arith, e), omega (arith, e, within))))
+      (λ o. kept.places_alone c (sym (aside c o).live ∙ open_now)) (cases_eq c (at + 1)))
+
 -- from how the machine is given an entry, and how a channel is written then
 pub channel_at : (at : ℕ) (old mid : Driver) (k : Channel) → slice_get old.channels.items at ≡ Some k → mid ≡ record old { desk = mid.desk } → (l : Channel) (new : Driver)
     → new.channels.items ≡ set mid.channels.items at l → IsSame old new → ChannelAt at k l old new
@@ -54,113 +80,69 @@ channel_at at old mid k there rest l new channels same = record {
   same = same;
 }
 
+-- that is made by an entry, behind what others did
+pub record IsBehind (at : ℕ) (k l : Channel) (old next : Driver) (entry : Entry) (reply : Reply) (new : Driver) : Type 0 where
+  pub others : OthersDid old next
+  pub kept : IsKept next
+  pub enters : EntersNext entry reply next.desk new.desk
+  pub channel : ChannelAt at k l next new
+
+pub behind : DrivingLaws → (at : ℕ) (k l : Channel) (old new : Driver) (entry : Entry) (reply : Reply) (kept : IsKept old) (h : Enters old.desk entry reply new.desk)
+    → slice_get old.channels.items at ≡ Some k → new.channels.items ≡ set old.channels.items at l → IsSame old new → IsBehind at k l old (ahead old entry reply new.desk kept h) entry reply new
+behind laws at k l old new entry reply kept h there channels same = record {
+  others = others_ahead old entry reply new.desk kept h;
+  kept = kept_ahead laws old entry reply new.desk kept h;
+  enters = enters_next old entry reply new.desk kept h;
+  channel = record { there = there; channels = channels; same = record { footing = same.footing; crew = same.crew } };
+}
+
 -- ---- stages
 
+pub staged_as : (i j : Inbound) (m : State) → IsSameSession i j → IsStaged i m → IsStaged j m
+staged_as i j m same h = record {
+  live = ap (λ c. is_plugged c m) same.0 ∙ h.live ∙ ap is_live (sym same.1);
+  opened = ap (λ c. was_opened c m) same.0 ∙ h.opened ∙ ap was_begun (sym same.1);
+}
+
+pub staged_at : (driver : Driver) (at : ℕ) (k : Channel) → IsKept driver → slice_get driver.channels.items at ≡ Some k → is_plugged (at + 1) driver.desk.now ≡ is_live k.inbound.stage
+staged_at driver at k kept there = ap (λ c. is_plugged c driver.desk.now) (sym (kept.names at k there)) ∙ (kept.stages at k there).live
+
 pub plugged_at : (driver : Driver) (at : ℕ) (k : Channel) → IsKept driver → slice_get driver.channels.items at ≡ Some k → k.inbound.stage ≡ Live → is_plugged (at + 1) driver.desk.now ≡ true
-plugged_at driver at k kept there plugged = (kept.stages at k there).plugged ∙ ap is_plugged_in plugged
-
-pub staged : (c : ℕ) (m n : State) (stage : Stage) → is_plugged c n ≡ is_plugged c m → was_opened c n ≡ was_opened c m → IsStaged c m stage → IsStaged c n stage
-staged c m n stage p o h = record { plugged = p ∙ h.plugged; opened = o ∙ h.opened }
-
--- where one channel became another, by the stage of that one and of those beside it
-pub stages_but : (m : State) (at : ℕ) (k l : Channel) (old new : Driver) → ChannelAt at k l old new → IsStaged (at + 1) m l.inbound.stage
-    → ((n : ℕ) (x : Channel) → (n + 1 ≡ at + 1 → ⊥) → slice_get old.channels.items n ≡ Some x → IsStaged (n + 1) m x.inbound.stage)
-    → (n : ℕ) (x : Channel) → slice_get new.channels.items n ≡ Some x → IsStaged (n + 1) m x.inbound.stage
-stages_but m at k l old new h here beside n x there =
-    ⊎_elim (λ e. (let is : l ≡ x = same_Some l x (sym (is_there at k l old new h) ∙ ap (slice_get new.channels.items) (sym e) ∙ there) in
-    subst (λ i. IsStaged (i + 1) m x.inbound.stage) (sym e) (subst (IsStaged (at + 1) m) (ap (λ (y : Channel). y.inbound.stage) is) here)))
-    (λ o. beside n x (λ e. o (omega (arith, e))) (sym (is_beside at k l old new h n o) ∙ there)) (cases_eq n at)
-
--- it holds of what is not plugged in, whatever it says
-pub none_plugged : (P : Channel → Type 0) (at : ℕ) (driver : Driver) (k : Channel) → slice_get driver.channels.items at ≡ Some k → (k.inbound.stage ≡ Live → ⊥) → WhilePlugged P at driver
-none_plugged P at driver k there other = λ l e plugged. absurd (other (ap (λ (x : Channel). x.inbound.stage) (same_Some k l (sym there ∙ e)) ∙ plugged))
+plugged_at driver at k kept there plugged = staged_at driver at k kept there ∙ ap is_live plugged
 
 pub all_left : (P : Channel → Type 0) (at : ℕ) (driver : Driver) → ((k : Channel) → slice_get driver.channels.items at ≡ Some k → k.inbound.stage ≡ Over) → WhilePlugged P at driver
 all_left P at driver left = λ k e plugged. (let other : Over ≡ Live = sym (left k e) ∙ plugged in absurd (cc))
 
--- it holds of what stands there
-pub plugged_has : (P : Channel → Type 0) (at : ℕ) (driver : Driver) (k : Channel) → slice_get driver.channels.items at ≡ Some k → P k → WhilePlugged P at driver
-plugged_has P at driver k there p = λ l e plugged. subst P (same_Some k l (sym there ∙ e)) p
-
--- who never was plugged in has a fresh channel still, where that holds of the one channel that changes
-pub fresh_but : (old new : Driver) → IsKept old → (at : ℕ) (k l : Channel) → ChannelAt at k l old new → (l.inbound.stage ≡ Unopened → IsFresh l) → (n : ℕ) (x : Channel)
-    → slice_get new.channels.items n ≡ Some x → x.inbound.stage ≡ Unopened → IsFresh x
-fresh_but old new kept at k l h fresh n x there unplugged =
-    ⊎_elim (λ e. (let is : l ≡ x = same_Some l x (sym (is_there at k l old new h) ∙ ap (slice_get new.channels.items) (sym e) ∙ there) in
-    subst IsFresh is (fresh (ap (λ (y : Channel). y.inbound.stage) is ∙ unplugged))))
-    (λ o. kept.fresh n x (sym (is_beside at k l old new h n o) ∙ there) unplugged) (cases_eq n at)
-
 pub not_fresh : (k : Channel) → k.inbound.stage ≡ Live → k.inbound.stage ≡ Unopened → IsFresh k
 not_fresh k plugged unplugged = (let f : Live ≡ Unopened = sym plugged ∙ unplugged in absurd (cc))
 
-module _ (laws : DrivingLaws) (old new : Driver) (entry : Entry) (reply : Reply) (kept : IsKept old) (admitted : Admits old.desk.now entry) (steps : Steps old.desk.now entry reply new.desk.now)
-    (opens : is_opening entry ≡ false) (policy : is_policy entry ≡ false) where
-  pub kept_with : length new.channels.items ≡ length old.channels.items → IsSame old new
-      → ((n : ℕ) (k : Channel) → slice_get new.channels.items n ≡ Some k → IsStaged (n + 1) new.desk.now k.inbound.stage) → ((c : ℕ) → is_plugged c new.desk.now ≡ true → is_plugged c old.desk.now ≡ true)
-      → ((n : ℕ) (k : Channel) → slice_get new.channels.items n ≡ Some k → k.inbound.stage ≡ Unopened → IsFresh k) → IsKept new
-  kept_with long same stages plugs fresh = record {
-    crew = crew_on old new same (changes old.desk.now entry reply new.desk.now steps).settings kept.crew;
-    reached = reached_on old.desk.now entry reply new.desk.now kept.reached admitted steps;
-    numbers = subst (λ n. n < 2 ^ 32) (sym long) kept.numbers;
-    stages = stages;
-    places_alone = λ c plugged. (let place = kept.places_alone c (plugs c plugged) in (place.0, subst (λ n. c ≤ n) (sym long) place.1));
-    fresh = fresh;
-  }
+-- ---- behind an entry
 
-  -- ---- no session ends
+module _ (laws : DrivingLaws) (old new : Driver) (entry : Entry) (reply : Reply) (kept : IsKept old) (admitted : Admits old.desk.now entry) (steps : Steps old.desk.now entry reply new.desk.now) where
+  settings : new.desk.now.settings ≡ old.desk.now.settings
+  settings = (laws.grow old.desk.now entry reply new.desk.now steps).settings
 
-  module _ (no_end : (c : ℕ) → (may_end c entry && is_end reply) ≡ false) where
-    still_plugged : (c : ℕ) → is_plugged c new.desk.now ≡ is_plugged c old.desk.now
-    still_plugged c = plugged_same laws old.desk.now entry reply new.desk.now kept.reached steps opens c (no_end c)
+  reached : IsReached new.desk.now
+  reached = reached_on old.desk.now entry reply new.desk.now kept.reached admitted steps
 
-    still_staged : (c : ℕ) (stage : Stage) → IsStaged c old.desk.now stage → IsStaged c new.desk.now stage
-    still_staged c stage h = staged c old.desk.now new.desk.now stage (still_plugged c) (opened_same laws old.desk.now entry reply new.desk.now kept.reached steps opens c) h
+  beside : (c : ℕ) → bears_on c entry ≡ false → StandsStill c old.desk.now new.desk.now
+  beside = stands_still laws old.desk.now entry reply new.desk.now kept.reached steps
 
-    -- and no channel changes
+  -- of the session at a place, if of any
+  pub kept_session : (at : ℕ) (k l : Channel) → ChannelAt at k l old new → IsPlaced at new.desk.now l → ((c : ℕ) → (c ≡ at + 1 → ⊥) → bears_on c entry ≡ false) → IsKept new
+  kept_session at k l h placed others = kept_but at k l old new h kept settings reached placed (λ c o. beside c (others c o))
+
+  -- of no session, where no channel changes
+  module _ (none : (c : ℕ) → bears_on c entry ≡ false) where
     pub kept_entry : new ≡ record old { desk = new.desk } → new.desk.footing ≡ old.desk.footing → IsKept new
     kept_entry e footing =
-        kept_with (ap (λ (x : Driver). length x.channels.items) e) (same_desk old new e footing)
-        (λ n k there. still_staged (n + 1) k.inbound.stage (kept.stages n k (sym (ap (λ (x : Driver). slice_get x.channels.items n) e) ∙ there)))
-        (λ c plugged. sym (still_plugged c) ∙ plugged)
-        (λ n k there unplugged. kept.fresh n k (sym (ap (λ (x : Driver). slice_get x.channels.items n) e) ∙ there) unplugged)
+        kept_all old new kept (same_desk old new e footing) settings reached (ap (λ (x : Driver). x.channels.items) e) (λ c. beside c (none c))
 
-    -- and of one channel no stage
-    pub kept_channel : (at : ℕ) (k l : Channel) → ChannelAt at k l old new → l.inbound.stage ≡ k.inbound.stage → (l.inbound.stage ≡ Unopened → IsFresh l) → IsKept new
-    kept_channel at k l h same fresh =
-        kept_with (is_as_long at k l old new h) h.same (λ n x there. still_staged (n + 1) x.inbound.stage (was n x there)) (λ c open_now. sym (still_plugged c) ∙ open_now)
-        (fresh_but old new kept at k l h fresh)
-      where
-        was : (n : ℕ) (x : Channel) → slice_get new.channels.items n ≡ Some x → IsStaged (n + 1) old.desk.now x.inbound.stage
-        was = stages_but old.desk.now at k l old new h (subst (IsStaged (at + 1) old.desk.now) (sym same) (kept.stages at k h.there)) (λ n x o there. kept.stages n x there)
-
-  -- ---- the session at a place ends
-
-  module _ (at : ℕ) (k l : Channel) (h : ChannelAt at k l old new) (plugged : k.inbound.stage ≡ Live) (left : l.inbound.stage ≡ Over) (may : may_end (at + 1) entry ≡ true) (end : is_end reply ≡ true)
-      (others : (c : ℕ) → (c ≡ at + 1 → ⊥) → may_end c entry ≡ false) where
-    beside_plugged : (c : ℕ) → (c ≡ at + 1 → ⊥) → is_plugged c new.desk.now ≡ is_plugged c old.desk.now
-    beside_plugged c o = plugged_same laws old.desk.now entry reply new.desk.now kept.reached steps opens c (ap (λ b. b && is_end reply) (others c o))
-
-    shut : is_plugged (at + 1) new.desk.now ≡ false
-    shut = plugged_ends laws old.desk.now entry reply new.desk.now kept.reached steps (at + 1) (plugged_at old at k kept h.there plugged) may end
-
-    pub kept_left : IsKept new
-    kept_left = kept_with (is_as_long at k l old new h) h.same stages plugs (fresh_but old new kept at k l h (λ unplugged. (let f : Over ≡ Unopened = sym left ∙ unplugged in absurd (cc))))
-      where
-        opened : (c : ℕ) → was_opened c new.desk.now ≡ was_opened c old.desk.now
-        opened c = opened_same laws old.desk.now entry reply new.desk.now kept.reached steps opens c
-
-        here : IsStaged (at + 1) new.desk.now Over
-        here = record { plugged = shut; opened = opened (at + 1) ∙ (kept.stages at k h.there).opened ∙ ap was_plugged_in plugged }
-
-        stages : (n : ℕ) (x : Channel) → slice_get new.channels.items n ≡ Some x → IsStaged (n + 1) new.desk.now x.inbound.stage
-        stages =
-            stages_but new.desk.now at k l old new h (subst (IsStaged (at + 1) new.desk.now) (sym left) here)
-            (λ n x o there. staged (n + 1) old.desk.now new.desk.now x.inbound.stage (beside_plugged (n + 1) o) (opened (n + 1)) (kept.stages n x there))
-
-        plugs : (c : ℕ) → is_plugged c new.desk.now ≡ true → is_plugged c old.desk.now ≡ true
-        plugs c open_now =
-            ⊎_elim (λ e. (let f : true ≡ false = sym open_now ∙ ap (λ n. is_plugged n new.desk.now) e ∙ shut in absurd (cc)))
-            (λ o. sym (beside_plugged c o) ∙ open_now) (cases_eq c (at + 1))
+    -- or one does, and its session stays as it is
+    pub kept_channel : (at : ℕ) (k l : Channel) → ChannelAt at k l old new → IsSameSession k.inbound l.inbound → (l.inbound.stage ≡ Unopened → IsFresh l) → IsKept new
+    kept_channel at k l h session fresh =
+        let was = still_placed old new kept h.same settings reached at k h.there (beside (at + 1) (none (at + 1))) in
+        kept_session at k l h (record { name = session.0 ∙ was.name; staged = staged_as k.inbound l.inbound new.desk.now session was.staged; fresh = fresh }) (λ c o. none c)
 
 -- ---- other places
 
@@ -176,10 +158,7 @@ spares laws old new entry reply kept steps none at k l h others from stage = rec
     sessions = λ quiet c o. session_same laws old.desk.now entry reply new.desk.now kept.reached steps none c (others c o);
     channels = λ n o. is_beside at k l old new h n o;
   };
-  heard = λ was x there plugged.
-      (let is : l ≡ x = same_Some l x (sym (is_there at k l old new h) ∙ there) in
-      subst (λ (y : Channel). IsHeardOut y.inbound.from.stream) is
-      (subst IsHeardOut (sym from) (was k h.there (stage (ap (λ (y : Channel). y.inbound.stage) is ∙ plugged)))));
+  heard = λ was. while_there at k l old new h (λ x. IsHeardOut x.inbound.from.stream) (λ plugged. subst IsHeardOut (sym from) (was k h.there (stage plugged)));
   jobs = λ jobs. laws.none old.desk.now entry reply new.desk.now jobs (unheard entry none) steps;
   same = h.same;
 }

@@ -1,5 +1,5 @@
 -- The driver ahead of its first entry.
-use Rattle.std.proofs.Common.{◌≡◌, ℕ, zero, suc, ◌+◌, ◌^◌, ◌<◌, true, false, List, [], ◌∷◌, length, map, refl, sym, ap, ◌∙◌, subst, arith}
+use Rattle.std.proofs.Common.{◌≡◌, ◌⊎◌, ℕ, zero, suc, ◌+◌, ◌^◌, ◌<◌, true, false, List, [], ◌∷◌, ◌++◌, inl, inr, ⊎_elim, length, map, refl, sym, ap, ◌∙◌, subst, arith}
 use Rattle.std.specs.Prelude.{Some}
 use Rattle.std.specs.FinSet as set
 use Rattle.std.specs.List.{AllByRecursion, slice_get}
@@ -14,7 +14,9 @@ use Rattle.sim_steps.specs.Showing.{AllIdle}
 use Rattle.sim_channels.specs.declared.channel.Channel.{Channel}
 use Rattle.machine_desk.specs.declared.inbound.Stage.TheVariants.{Live, Unopened}
 use Rattle.sim_channels.specs.declared.driver.Driver.{Driver}
-use Rattle.sim_channels.specs.Channels.{Fits, IsAtStart, IsKept, IsStaged, MayHave, bench, bench_at_start, slot_by, slots_of}
+use Rattle.desk_jobs.specs.Crews.{MayHave}
+use Rattle.machine_desk.specs.Hearing.{is_live, was_begun}
+use Rattle.sim_channels.specs.Channels.{AreNumbered, Fits, IsAtStart, IsKept, bench, bench_at_start, slot_by, slots_of}
 use Rattle.sim_channels.specs.Delivering.{IsUnused}
 use Rattle.sim_channels.specs.Waiting.{IsAtRest, WhilePlugged}
 
@@ -38,6 +40,17 @@ slots_unused (k ∷ ks) [] e all = absurd (omega (arith, e))
 slots_unused (k ∷ ks) (d ∷ ds) e all =
     ap (λ s. s ∷ slots_of ks ds) (slot_unused k d all.0) ∙ ap (λ ss. slot_of d ∷ ss) (slots_unused ks ds (omega (arith, e)) all.1)
 
+-- one channel more is of the next connection
+last_or : (ks : List Channel) (k : Channel) (n : ℕ) (x : Channel) → slice_get (ks ++ k ∷ []) n ≡ Some x → (slice_get ks n ≡ Some x) ⊎ ((n ≡ length ks) × (k ≡ x))
+last_or [] k zero x e = inr (refl, same_Some k x e)
+last_or [] k (suc n) x e = absurd (none-some x e)
+last_or (y ∷ ks) k zero x e = inl e
+last_or (y ∷ ks) k (suc n) x e = ⊎_elim inl (λ h. inr (ap suc h.0, h.1)) (last_or ks k n x e)
+
+pub numbered_more : (ks : List Channel) (k : Channel) → AreNumbered ks → k.inbound.connection ≡ length ks + 1 → AreNumbered (ks ++ k ∷ [])
+numbered_more ks k names is n x there =
+    ⊎_elim (λ e. names n x e) (λ e. ap (λ (y : Channel). y.inbound.connection) (sym e.1) ∙ is ∙ ap (λ m. m + 1) (sym e.0)) (last_or ks k n x there)
+
 -- a driver at a desk at its start
 pub record IsNewDriver (driver : Driver) (places : ℕ) : Type 0 where
   pub start : IsAtStart driver.desk
@@ -45,6 +58,7 @@ pub record IsNewDriver (driver : Driver) (places : ℕ) : Type 0 where
   pub unused : AllByRecursion IsUnused driver.channels.items
   pub count : length driver.channels.items ≡ places
   pub few : places < 2 ^ 32
+  pub names : AreNumbered driver.channels.items
 
 module _ (driver : Driver) (ds : List Meaning) (h : IsNewDriver driver (length ds)) where
   pub new_bench : bench driver ds ≡ bench_at_start driver.desk ds
@@ -61,8 +75,10 @@ module _ (driver : Driver) (ds : List Meaning) (h : IsNewDriver driver (length d
     crew = h.crew;
     reached = record { policy = driver.desk.now.policy; settings = driver.desk.now.settings; ranges = h.start.ranges; turns = []; leads = h.start.opening };
     numbers = subst (λ n. n < 2 ^ 32) (sym h.count) h.few;
+    names = h.names;
     stages = λ n k there.
-        subst (IsStaged (n + 1) driver.desk.now) (sym (unused_at driver.channels.items n k h.unused there).stage) (record { plugged = none_open (n + 1); opened = none_opened (n + 1) });
+        (let stage = (unused_at driver.channels.items n k h.unused there).stage in
+        record { live = none_open k.inbound.connection ∙ ap is_live (sym stage); opened = none_opened k.inbound.connection ∙ ap was_begun (sym stage) });
     places_alone = λ c plugged. (let f : true ≡ false = sym plugged ∙ none_open c in absurd (cc));
     fresh = λ n k there unplugged. (let unused = unused_at driver.channels.items n k h.unused there in record { to = unused.to; from = unused.from });
   }

@@ -14,19 +14,22 @@ use Rattle.machine_steps.specs.Histories.{Leads, Turn}
 use Rattle.machine_steps.specs.Machine.{Session, State, session_at, was_opened}
 use Rattle.machine_sharing.specs.Between.{Both, OnlyGrows, Stays}
 use Rattle.machine_desk.specs.Desks.{DeskView, Enters, Footing, calls_of}
+use Rattle.machine_desk.specs.Hearing.{IsStaged}
+use Rattle.machine_desk.specs.declared.inbound.Stage.TheVariants.{Unopened}
 use Rattle.sim_steps.specs.Benches.{Bench, IsSolo, is_plugged}
 use Rattle.sim_steps.specs.Parts.{IsHeardOut}
 use Rattle.sim_steps.specs.Stretches.{Beside}
 use Rattle.sim_steps.proofs.Others.{beside_none, carried_beside}
 use Rattle.sim_steps.proofs.Silent.{beside_along}
 use Rattle.sim_channels.specs.declared.channel.Channel.{Channel}
-use Rattle.sim_channels.specs.declared.crew.Crew.{Crew}
+use Rattle.desk_jobs.specs.declared.crew.Crew.{Crew}
 use Rattle.sim_channels.specs.declared.driver.Driver.{Driver}
-use Rattle.sim_channels.specs.Channels.{CarriedOver, EntersNext, Fits, IsCrew, IsKept, IsSame, MayHave, OthersDid, SameCrew, Tends, WorksAlone, bench, slots_of}
+use Rattle.desk_jobs.specs.Crews.{IsCrew, MayHave, SameCrew}
+use Rattle.sim_channels.specs.Channels.{CarriedOver, EntersNext, Fits, IsFresh, IsKept, IsReached, IsSame, OthersDid, Tends, WorksAlone, bench, slots_of}
 use Rattle.sim_channels.specs.Driving.{DrivingLaws}
-use Rattle.sim_channels.specs.Delivering.{IsPluggedIn, Spares}
-use Rattle.sim_channels.specs.Waiting.{IsAtRest, IsAtRestBut, IsDone, IsQuiet, IsTaken, NoneWaits, WhilePlugged}
-use Rattle.sim_channels.proofs.Keeping.{reached_along, reached_sound}
+use Rattle.sim_channels.specs.Delivering.{Spares}
+use Rattle.sim_channels.specs.Waiting.{IsAtRest, IsDone, IsQuiet, IsTaken, NoneWaits, WhilePlugged}
+use Rattle.sim_channels.proofs.Keeping.{StandsStill, reached_along, reached_sound}
 
 -- ---- the same driver
 
@@ -55,12 +58,15 @@ same_driver a = record { footing = refl; crew = same_crew a.crew }
 pub same_then : (a b c : Driver) → IsSame a b → IsSame b c → IsSame a c
 same_then a b c h k = record { footing = k.footing ∙ h.footing; crew = crew_then a.crew b.crew c.crew h.crew k.crew }
 
--- where at most the desk and the channels change
+-- where the crew stays as it is: at most the desk and the channels change, or the desk
+pub same_by : (a b : Driver) → b.crew ≡ a.crew → b.desk.footing ≡ a.desk.footing → IsSame a b
+same_by a b crew footing = record { footing = footing; crew = subst (SameCrew a.crew) (sym crew) (same_crew a.crew) }
+
 pub same_but : (a b : Driver) → b ≡ record a { desk = b.desk; channels = b.channels } → b.desk.footing ≡ a.desk.footing → IsSame a b
-same_but a b rest footing = record { footing = footing; crew = subst (SameCrew a.crew) (sym (ap (λ (x : Driver). x.crew) rest)) (same_crew a.crew) }
+same_but a b rest = same_by a b (ap (λ (x : Driver). x.crew) rest)
 
 pub same_desk : (a b : Driver) → b ≡ record a { desk = b.desk } → b.desk.footing ≡ a.desk.footing → IsSame a b
-same_desk a b rest footing = record { footing = footing; crew = subst (SameCrew a.crew) (sym (ap (λ (x : Driver). x.crew) rest)) (same_crew a.crew) }
+same_desk a b rest = same_by a b (ap (λ (x : Driver). x.crew) rest)
 
 pub alone_on : (a b : Driver) → IsSame a b → WorksAlone a → WorksAlone b
 alone_on a b h alone = some_crew a.crew b.crew h.crew ∙ alone
@@ -71,6 +77,14 @@ alone_back a b h alone = sym (some_crew a.crew b.crew h.crew) ∙ alone
 pub quiet_on : (a b : Driver) → IsSame a b → (NoneWaits a.desk → NoneWaits b.desk) → IsQuiet a → IsQuiet b
 quiet_on a b h jobs (inl alone) = inl (alone_on a b h alone)
 quiet_on a b h jobs (inr none) = inr (jobs none)
+
+-- somebody works beside, or nobody
+pub by_crew : (driver : Driver) {P : Type 0} → (WorksAlone driver → P) → ((WorksAlone driver → ⊥) → P) → P
+by_crew driver {P} alone beside = go (is_some driver.crew) refl
+  where
+    go : (b : Bool) → is_some driver.crew ≡ b → P
+    go false e = alone e
+    go true e = beside (λ none. (let f : true ≡ false = sym e ∙ none in cc))
 
 -- it still may have its crew
 pub crew_on : (a b : Driver) → IsSame a b → b.desk.now.settings ≡ a.desk.now.settings → MayHave a.crew a.desk.footing.parts a.desk.now
@@ -89,6 +103,42 @@ crew_on a b h settings may = record {
     go (Some c) (Some d) s is = s.is is
     go None (Some d) s is = absurd s
     go (Some c) None s is = absurd s
+
+-- ---- what is kept
+
+-- a channel is as one at its place is kept
+pub record IsPlaced (n : ℕ) (m : State) (k : Channel) : Type 0 where
+  pub name : k.inbound.connection ≡ n + 1
+  pub staged : IsStaged k.inbound m
+  pub fresh : k.inbound.stage ≡ Unopened → IsFresh k
+
+module _ (old new : Driver) (kept : IsKept old) (same : IsSame old new) (settings : new.desk.now.settings ≡ old.desk.now.settings) (reached : IsReached new.desk.now) where
+  -- where all channels are so, and sessions at places alone are open
+  pub kept_each : length new.channels.items ≡ length old.channels.items → ((n : ℕ) (x : Channel) → slice_get new.channels.items n ≡ Some x → IsPlaced n new.desk.now x)
+      → ((c : ℕ) → is_plugged c new.desk.now ≡ true → (1 ≤ c) × (c ≤ length old.channels.items)) → IsKept new
+  kept_each long each alone = record {
+    crew = crew_on old new same settings kept.crew;
+    reached = reached;
+    numbers = subst (λ n. n < 2 ^ 32) (sym long) kept.numbers;
+    names = λ n x there. (each n x there).name;
+    stages = λ n x there. (each n x there).staged;
+    places_alone = λ c open_now. (let place = alone c open_now in (place.0, subst (λ n. c ≤ n) (sym long) place.1));
+    fresh = λ n x there. (each n x there).fresh;
+  }
+
+  -- a channel of the driver as it was, whose session is as it was
+  pub still_placed : (n : ℕ) (x : Channel) → slice_get old.channels.items n ≡ Some x → StandsStill (n + 1) old.desk.now new.desk.now → IsPlaced n new.desk.now x
+  still_placed n x there aside =
+      let name = kept.names n x there in
+      let a = subst (λ c. StandsStill c old.desk.now new.desk.now) (sym name) aside in
+      let s = kept.stages n x there in
+      record { name = name; staged = record { live = a.live ∙ s.live; opened = a.opened ∙ s.opened }; fresh = kept.fresh n x there }
+
+  -- where no channel changed, and no session
+  pub kept_all : new.channels.items ≡ old.channels.items → ((c : ℕ) → StandsStill c old.desk.now new.desk.now) → IsKept new
+  kept_all channels aside =
+      kept_each (ap length channels) (λ n x there. still_placed n x (ap (λ ks. slice_get ks n) (sym channels) ∙ there) (aside (n + 1)))
+      (λ c open_now. kept.places_alone c (sym (aside c).live ∙ open_now))
 
 -- ---- what others did, ahead of an entry
 
@@ -150,18 +200,9 @@ module _ (laws : DrivingLaws) (old mid : Driver) (kept : IsKept old) (h : Tends 
   opened_stays c = ap (λ (s : set.FinSet nat_cmp). set.contains s c) stay.opened
 
   pub tends_kept : IsKept mid
-  tends_kept = record {
-    crew = crew_on old mid h.same stay.settings kept.crew;
-    reached = reached_along old.desk.now turns mid.desk.now kept.reached h.meanwhile.leads;
-    numbers = subst (λ (ks : List Channel). length ks < 2 ^ 32) (sym items_stay) kept.numbers;
-    stages = λ n k there.
-        (let s = kept.stages n k (sym (channel_stays n) ∙ there) in
-        record { plugged = plugged_stays (n + 1) ∙ s.plugged; opened = opened_stays (n + 1) ∙ s.opened });
-    places_alone = λ c open_now.
-        (let place = kept.places_alone c (sym (plugged_stays c) ∙ open_now) in
-        (place.0, subst (λ (ks : List Channel). c ≤ length ks) (sym items_stay) place.1));
-    fresh = λ n k there unplugged. kept.fresh n k (sym (channel_stays n) ∙ there) unplugged;
-  }
+  tends_kept =
+      kept_all old mid kept h.same stay.settings (reached_along old.desk.now turns mid.desk.now kept.reached h.meanwhile.leads) items_stay
+      (λ c. record { live = plugged_stays c; opened = opened_stays c })
 
   pub tends_fits : (ds : List Meaning) → Fits old ds → Fits mid ds
   tends_fits ds fits = record {
@@ -196,13 +237,21 @@ module _ (laws : DrivingLaws) (old mid : Driver) (kept : IsKept old) (h : Tends 
   pub tends_slots : (ds : List Meaning) → (bench mid ds).slots ≡ (bench old ds).slots
   tends_slots ds = ap (λ (ks : List Channel). slots_of ks ds) items_stay
 
-  -- beside it
-  pub tends_beside : (IsSolo old.desk.now → ⊥) → (ds : List Meaning) → Beside (bench old ds) (bench mid ds)
-  tends_beside beside ds =
+  did_beside : (IsSolo old.desk.now → ⊥) → (ds : List Meaning) → Beside (bench old ds) (bench mid ds)
+  did_beside beside ds =
       subst (λ (b : Bench). Beside (bench old ds) b)
       (ap (λ (ts : List Turn). record { past = ts; machine = mid.desk.now; slots = slots_of old.channels.items ds }) (sym h.meanwhile.past)
       ∙ ap (λ (ks : List Channel). record { past = mid.desk.past; machine = mid.desk.now; slots = slots_of ks ds }) (sym items_stay))
       (beside_along (bench old ds) turns mid.desk.now beside h.meanwhile.leads h.meanwhile.allowed)
+
+  -- nobody did anything, or it was done beside it
+  pub tends_beside : (WorksAlone old → mid ≡ old) → (ds : List Meaning) → Beside (bench old ds) (bench mid ds)
+  tends_beside alone ds =
+      by_crew old (λ none. subst (λ (d : Driver). Beside (bench old ds) (bench d ds)) (sym (alone none)) (beside_none (bench old ds)))
+      (λ some. did_beside (λ solo. some (kept.crew.none solo)) ds)
+
+  pub tends_carried : (WorksAlone old → mid ≡ old) → CarriedOver old mid
+  tends_carried alone ds long = carried_beside (bench old ds) (bench mid ds) (tends_beside alone ds)
 
 -- ---- the same of what others did ahead of an entry
 
@@ -221,39 +270,18 @@ module _ (laws : DrivingLaws) (old mid : Driver) (kept : IsKept old) (h : Others
   pub others_taken : IsQuiet old → (n : ℕ) → IsTaken n old → IsTaken n mid
   others_taken quiet n was = taken_on laws old mid kept tends (others_quiet quiet) n was
 
-  done_alone : (WorksAlone old → IsDone old) → WorksAlone mid → IsDone mid
-  done_alone done alone = subst IsDone (sym (h.alone before)) (done before)
-    where
-      before : WorksAlone old
-      before = alone_back old mid tends.same alone
-
   pub others_rest : IsAtRest old → IsAtRest mid
   others_rest rest = record {
-    done = done_alone rest.done;
+    done = λ alone. (let before = alone_back old mid tends.same alone in subst IsDone (sym (h.alone before)) (rest.done before));
     offered = λ n. tends_channel laws old mid kept tends (λ k. k.to ≡ []) n (rest.offered n);
     heard = λ n. tends_channel laws old mid kept tends (λ k. IsHeardOut k.inbound.from.stream) n (rest.heard n);
   }
 
-  pub others_rest_but : (here : ℕ) → IsAtRestBut here old → IsAtRestBut here mid
-  others_rest_but here rest = record {
-    done = done_alone rest.done;
-    offered = λ n. tends_channel laws old mid kept tends (λ k. k.to ≡ []) n (rest.offered n);
-    heard = λ n other. tends_channel laws old mid kept tends (λ k. IsHeardOut k.inbound.from.stream) n (rest.heard n other);
-  }
-
-  pub others_plugged : (at : ℕ) → IsPluggedIn at old → IsPluggedIn at mid
-  others_plugged at p =
-      record { channel = p.channel; there = channel_stays laws old mid kept tends at ∙ p.there; plugged = p.plugged }
-
   pub others_beside : (ds : List Meaning) → Beside (bench old ds) (bench mid ds)
-  others_beside ds = by (is_some old.crew) refl
-    where
-      by : (b : Bool) → is_some old.crew ≡ b → Beside (bench old ds) (bench mid ds)
-      by false none = subst (λ (d : Driver). Beside (bench old ds) (bench d ds)) (sym (h.alone none)) (beside_none (bench old ds))
-      by true some = tends_beside laws old mid kept tends (λ solo. (let f : true ≡ false = sym some ∙ kept.crew.none solo in cc)) ds
+  others_beside = tends_beside laws old mid kept tends h.alone
 
   pub others_carried : CarriedOver old mid
-  others_carried ds long = carried_beside (bench old ds) (bench mid ds) (others_beside ds)
+  others_carried = tends_carried laws old mid kept tends h.alone
 
   -- what an entry behind it spares was spared of what there was ahead of it
   pub spares_others : (at : ℕ) (new : Driver) → Spares at mid new → Spares at old new
@@ -268,3 +296,9 @@ module _ (laws : DrivingLaws) (old mid : Driver) (kept : IsKept old) (h : Others
     jobs = λ none. s.jobs (tends_none laws old mid kept tends none);
     same = same_then old mid new tends.same s.same;
   }
+
+-- ---- an entry behind what they did
+
+module _ (laws : DrivingLaws) (old : Driver) (entry : Entry) (reply : Reply) (b : DeskView) (kept : IsKept old) (h : Enters old.desk entry reply b) where
+  pub kept_ahead : IsKept (ahead old entry reply b kept h)
+  kept_ahead = others_kept laws old (ahead old entry reply b kept h) kept (others_ahead old entry reply b kept h)

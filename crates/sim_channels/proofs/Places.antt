@@ -1,10 +1,12 @@
 -- What is kept, and what is left to do, where at most one place changed.
-use Rattle.std.proofs.Common.{◌≡◌, ℕ, zero, suc, ◌+◌, ◌<◌, List, [], ◌∷◌, length, set, refl, sym, ap, ◌∙◌, subst, inl, ⊎_elim, arith}
+use Rattle.std.proofs.Common.{◌≡◌, ℕ, ◌+◌, List, length, refl, sym, ap, ◌∙◌, subst, inl, ⊎_elim, arith}
 use Rattle.std.specs.Prelude.{Some}
 use Rattle.std.specs.List.{slice_get}
 use Rattle.std.proofs.lemmas.Bool.{cases_eq}
 use Rattle.std.proofs.lemmas.Option.{slice_get_within}
 use Rattle.device_port.specs.Devices.{Meaning}
+use Rattle.machine_steps.specs.declared.entry.Entry.{Entry}
+use Rattle.machine_steps.specs.declared.reply.Reply.{Reply}
 use Rattle.machine_steps.specs.Machine.{session_at}
 use Rattle.sim_channels.specs.declared.channel.Channel.{Channel}
 use Rattle.machine_desk.specs.declared.inbound.Stage.{Stage}
@@ -15,9 +17,9 @@ use Rattle.sim_channels.specs.Waiting.{IsAtRest, IsHeard, IsOffered, IsQuiet, Is
 use Rattle.sim_channels.proofs.Keeping.{messages_same}
 use Rattle.sim_channels.proofs.Kept.{plugged_at}
 use Rattle.sim_channels.proofs.Others.{alone_back}
-use Rattle.sim_channels.proofs.Slots.{slots_alike}
+use Rattle.sim_channels.proofs.Slots.{item_at, slots_alike}
 use Rattle.sim_channels.specs.Hearing.{KeepsChannels}
-use Rattle.sim_channels.specs.Staging.{Restages}
+use Rattle.sim_channels.specs.Staging.{EntersAndStages}
 
 -- an index is this one or another
 pub by_index : (at here : ℕ) {P : Type 0} → (at ≡ here → P) → ((at ≡ here → ⊥) → P) → P
@@ -25,24 +27,14 @@ by_index at here same other = ⊎_elim same other (cases_eq at here)
 
 -- a list of the same length has an element there too
 pub there_too : {X Y : Type 0} (xs : List X) (ys : List Y) (at : ℕ) (y : Y) → length xs ≡ length ys → slice_get ys at ≡ Some y → (x : X) × (slice_get xs at ≡ Some x)
-there_too {X} {Y} xs ys at y same e = within xs at (let h = slice_get_within ys at y e in omega (arith, h, same))
-  where
-    within : (zs : List X) (n : ℕ) → n < length zs → (x : X) × (slice_get zs n ≡ Some x)
-    within [] n h = absurd (omega (arith, h))
-    within (z ∷ zs) zero h = (z, refl)
-    within (z ∷ zs) (suc n) h = within zs n (omega (arith, h))
+there_too xs ys at y same e = item_at xs at (let h = slice_get_within ys at y e in omega (arith, h, same))
 
--- a channel's stage is written
-pub restaged : (d : Driver) (at : ℕ) (stage : Stage) (k : Channel) → slice_get d.channels.items at ≡ Some k → (e : Driver) → e ≡ record d { channels = e.channels }
-    → e.channels.items ≡ set d.channels.items at (with_stage stage k) → Restages at stage d e
-restaged d at stage k there e rest sets = record {
-  rest = rest;
-  channel = k;
-  there = there;
-  channels = sets;
-  slots = λ devices. ap (λ (x : Driver). bench x devices) rest ∙ ap (λ xs. record { past = d.desk.past; machine = d.desk.now; slots = slots_of xs devices }) sets
-      ∙ ap (λ xs. record { past = d.desk.past; machine = d.desk.now; slots = xs }) (slots_alike d.channels.items devices at k (with_stage stage k) there refl refl);
-}
+-- no bench shows a stage
+pub staged_slots : (at : ℕ) (entry : Entry) (reply : Reply) (stage : Stage) (d e : Driver) → EntersAndStages at entry reply stage d e → (devices : List Meaning)
+    → bench e devices ≡ bench (record d { desk = e.desk }) devices
+staged_slots at entry reply stage d e h devices =
+    ap (λ ss. record { past = e.desk.past; machine = e.desk.now; slots = ss })
+    (ap (λ ks. slots_of ks devices) h.channels ∙ slots_alike d.channels.items devices at h.channel (with_stage stage h.channel) h.there refl refl)
 
 -- ---- the devices
 

@@ -1,5 +1,5 @@
 -- A driver at rest has a still bench, and hears in order.
-use Rattle.std.proofs.Common.{◌≡◌, ◌⊎◌, ℕ, zero, suc, ◌+◌, ◌-◌, ◌<◌, Bool, true, List, [], ◌∷◌, length, refl, sym, ap, ◌∙◌, subst, inl, inr, arith}
+use Rattle.std.proofs.Common.{◌≡◌, ◌⊎◌, ℕ, ◌+◌, ◌-◌, Bool, true, List, [], refl, sym, ap, ◌∙◌, subst, inl, inr, arith}
 use Rattle.std.specs.Prelude.{Some}
 use Rattle.std.specs.List.{slice_get}
 use Rattle.device_port.specs.Devices.{Meaning}
@@ -14,11 +14,13 @@ use Rattle.sim_channels.specs.declared.channel.Channel.{Channel}
 use Rattle.machine_desk.specs.declared.inbound.Stage.{Stage}
 use Rattle.machine_desk.specs.declared.inbound.Stage.TheVariants.{Over, Live, Unopened}
 use Rattle.sim_channels.specs.declared.driver.Driver.{Driver}
-use Rattle.sim_channels.specs.Channels.{IsKept, WorksAlone, bench, is_plugged_in}
+use Rattle.machine_desk.specs.Hearing.{is_live}
+use Rattle.sim_channels.specs.Channels.{IsKept, WorksAlone, bench}
 use Rattle.sim_channels.specs.Waiting.{IsAtRest, IsDone, IsOffered, NoneWaits}
-use Rattle.sim_channels.proofs.Slots.{SlotBy, slots_found}
+use Rattle.sim_channels.proofs.Kept.{staged_at}
+use Rattle.sim_channels.proofs.Slots.{SlotBy, item_at, slots_found}
 
-pub plugged_in : (stage : Stage) → is_plugged_in stage ≡ true → stage ≡ Live
+pub plugged_in : (stage : Stage) → is_live stage ≡ true → stage ≡ Live
 plugged_in Unopened e = absurd (cc)
 plugged_in Live e = refl
 plugged_in Over e = absurd (cc)
@@ -32,19 +34,14 @@ pub record PluggedBy (c : ℕ) (driver : Driver) : Type 0 where
   pub plugged : channel.inbound.stage ≡ Live
 
 pub stage_plugged : (driver : Driver) (at : ℕ) (k : Channel) → IsKept driver → slice_get driver.channels.items at ≡ Some k → is_plugged (at + 1) driver.desk.now ≡ true → k.inbound.stage ≡ Live
-stage_plugged driver at k kept there open_now = plugged_in k.inbound.stage (sym (kept.stages at k there).plugged ∙ open_now)
+stage_plugged driver at k kept there open_now = plugged_in k.inbound.stage (sym (staged_at driver at k kept there) ∙ open_now)
 
 pub plugged_by : (driver : Driver) (c : ℕ) → IsKept driver → is_plugged c driver.desk.now ≡ true → PluggedBy c driver
 plugged_by driver c kept open_now =
     let place = kept.places_alone c open_now in
-    let found = channel_there driver.channels.items (c - 1) (omega (arith, place.0, place.1)) in
+    let found = item_at driver.channels.items (c - 1) (omega (arith, place.0, place.1)) in
     let is : c ≡ (c - 1) + 1 = omega (arith, place.0) in
     record { at = c - 1; place = is; channel = found.0; there = found.1; plugged = stage_plugged driver (c - 1) found.0 kept found.1 (ap (λ n. is_plugged n driver.desk.now) (sym is) ∙ open_now) }
-  where
-    channel_there : (ks : List Channel) (n : ℕ) → n < length ks → (k : Channel) × (slice_get ks n ≡ Some k)
-    channel_there [] n within = absurd (omega (arith, within))
-    channel_there (k ∷ ks) zero within = (k, refl)
-    channel_there (k ∷ ks) (suc n) within = channel_there ks n (omega (arith, within))
 
 -- the slot of an open session, by its channel and its device
 pub record SlotPlugged (c : ℕ) (driver : Driver) (devices : List Meaning) (s : Slot) : Type 0 where

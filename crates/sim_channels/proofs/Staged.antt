@@ -1,52 +1,155 @@
--- A session is opened at the desk, or ends there.
-use Rattle.std.proofs.Common.{◌≡◌, ℕ, ◌+◌, Bool, true, false, List, length, set, refl, sym, ap, ◌∙◌, subst}
-use Rattle.std.specs.Prelude.{Some, Result, Ok, Err, OnOk}
+-- A session is opened at the desk, something of it is heard there, or it ends.
+use Rattle.std.proofs.Common.{◌≡◌, ℕ, ◌+◌, Bool, true, false, List, length, set, get_or, sym, ap, ◌∙◌, subst, inl, inr}
+use Rattle.std.specs.Prelude.{◌==◌, Some, Result, Ok, Err, OnErr}
 use Rattle.std.specs.List.{slice_get}
 use Rattle.std.specs.Vec.{with_item}
 use Rattle.std.proofs.Math.Nat.{ℕ_set}
-use Rattle.std.proofs.lemmas.Option.{same_Some}
+use Rattle.std.proofs.lemmas.Option.{get_or_from_slice_get}
 use Rattle.machine_desk.specs.Desks.{DeskView, Enters}
-use Rattle.machine_desk.specs.Hearing.{Closes, Opens, stage_opened}
+use Rattle.machine_desk.specs.Hearing.{Closes, Hears, IsStaged, Opens, heard_by, stage_heard, stage_opened, was_begun}
+use Rattle.machine_desk.specs.declared.hearing.Heard.{Heard}
+use Rattle.machine_desk.specs.declared.hearing.Heard.TheVariants as heards
 use Rattle.machine_desk.specs.declared.inbound.Inbound.{Inbound}
 use Rattle.machine_desk.specs.declared.inbound.Stage.{Stage}
-use Rattle.machine_desk.specs.declared.inbound.Stage.TheVariants.{Over}
-use Rattle.machine_moves.specs.Told.{is_end}
+use Rattle.machine_desk.specs.declared.inbound.Stage.TheVariants.{Live, Over, Unopened}
+use Rattle.machine_moves.specs.Told.{WaitsAs, is_end}
 use Rattle.machine_steps.specs.declared.entry.Entry.{Entry}
 use Rattle.machine_steps.specs.declared.entry.Entry.TheVariants as entries
+use Rattle.machine_steps.specs.declared.entry.Input.{Input}
+use Rattle.machine_steps.specs.declared.job.Job.{Job}
 use Rattle.machine_steps.specs.declared.reply.Reply.{Reply}
+use Rattle.machine_steps.specs.declared.reply.Reply.TheVariants.{Ended, NewState, Job as JobOpened}
+use Rattle.machine_steps.specs.Machine.{State, was_opened}
+use Rattle.machine_steps.specs.Steps.{Steps}
 use Rattle.world_steps.specs.Worlds.{lacks_memory}
 use Rattle.sim_channels.specs.declared.channel.Channel.{Channel}
 use Rattle.sim_channels.specs.declared.driver.Driver.{Driver}
-use Rattle.sim_channels.specs.Channels.{IsKept, IsSame, with_stage}
-use Rattle.sim_channels.specs.Delivering.{IsPluggedIn, Leaves}
+use Rattle.sim_channels.specs.Channels.{IsKept, IsSame}
 use Rattle.sim_channels.specs.Driving.{DrivingLaws}
-use Rattle.sim_channels.specs.Staging.{ClosesAt, EntersAndStages, OpensAt}
-use Rattle.sim_channels.proofs.Ended.{gone_enough, leaves}
+use Rattle.sim_channels.specs.Passes.{WaitsBy}
+use Rattle.sim_channels.specs.Staging.{ClosesAt, HasStage, OpensAt}
+use Rattle.sim_channels.specs.Waiting.{NoneWaits}
+use Rattle.sim_channels.proofs.Keeping.{bears_on, elsewhere}
+use Rattle.sim_channels.proofs.Kept.{kept_session, with_inbound}
 use Rattle.sim_channels.proofs.Making.{had_memory}
-use Rattle.sim_channels.proofs.Places.{restaged}
+use Rattle.sim_channels.proofs.Others.{ahead, kept_ahead, others_ahead, tends_none, tends_of}
 use Rattle.sim_channels.proofs.Slots.{set_same}
 
--- the machine was given the entry, and the session stands so behind it
-module _ (old new : Driver) (at : ℕ) (k : Channel) (j : Inbound) (there : slice_get old.channels.items at ≡ Some k) (rest : new ≡ record old { desk = new.desk; channels = new.channels })
-    (channels : new.channels.items ≡ set old.channels.items at (record k { inbound = j })) where
-  staged_so : (entry : Entry) (reply : Reply) (stage : Stage) → Enters old.desk entry reply new.desk → lacks_memory reply ≡ false → j ≡ record k.inbound { stage = stage }
-      → EntersAndStages at entry reply stage old new
-  staged_so entry reply stage enters memory is = record {
-    enters = enters;
-    memory = memory;
-    stages = restaged (record old { desk = new.desk }) at stage k there new rest (channels ∙ ap (λ (i : Inbound). set old.channels.items at (record k { inbound = i })) is);
-  }
+-- ---- the channel that is read
 
-  pub opens_at : Opens (at + 1) old.desk k.inbound new.desk j → OpensAt at old new
-  opens_at h = (h.reply, staged_so (entries.Open (at + 1)) h.reply (stage_opened (is_end h.reply)) h.asks.enters (had_memory h.reply h.asks.memory) h.stage)
+pub record Stands (at : ℕ) (stage : Stage) (driver : Driver) (k : Channel) : Type 0 where
+  pub there : slice_get driver.channels.items at ≡ Some k
+  pub is : k.inbound.stage ≡ stage
 
-  pub closes_at : (fault : Bool) → Closes (at + 1) fault old.desk k.inbound new.desk j → ClosesAt at fault old new
-  closes_at fault h = (
-    h.reply,
-    staged_so (entries.Gone (at + 1) fault) h.reply Over h.enters (gone_enough (at + 1) fault h.enters.between h.reply new.desk.now h.enters.made.steps) h.stage,
-  )
+pub stands : (at : ℕ) (stage : Stage) (driver : Driver) (k : Channel) → HasStage at stage driver → k ≡ get_or driver.channels.items at k → Stands at stage driver k
+stands at stage driver k has value =
+    let same : k ≡ has.channel = value ∙ get_or_from_slice_get driver.channels.items at has.channel k has.there in
+    record { there = has.there ∙ ap Some (sym same); is = ap (λ (x : Channel). x.inbound.stage) same ∙ has.is }
+
+-- ---- what is kept
+
+never_unopened : (b : Bool) → stage_opened b ≡ Unopened → ⊥
+never_unopened true e = absurd (cc)
+never_unopened false e = absurd (cc)
+
+still_unopened : (heard : Heard) (stage : Stage) → stage_heard heard stage ≡ Unopened → stage ≡ Unopened
+still_unopened heards.Ended stage e = absurd (cc)
+still_unopened heard stage e = e
+
+-- a packet that was heard waits
+waits_by : (c : ℕ) (reply : Reply) (jobs : List Job) → WaitsAs c reply jobs → WaitsBy (heard_by reply) jobs
+waits_by c (JobOpened item) jobs (j, alone, is, its) = (j, alone, is)
+waits_by c (Ended end) jobs w = tt
+waits_by c (NewState state pruned) jobs w = tt
+waits_by c other jobs w = tt
+
+-- that takes no memory
+gone_enough : (c : ℕ) (fault : Bool) (old : State) (reply : Reply) (new : State) → Steps old (entries.Gone c fault) reply new → lacks_memory reply ≡ false
+gone_enough c fault old reply new (inl (none, passes)) = ap lacks_memory passes.0
+gone_enough c fault old reply new (inr (s, found, r, e)) = ap lacks_memory r
+
+-- the inbound of a channel is another behind an entry of its session
+module _ (laws : DrivingLaws) (old new : Driver) (at : ℕ) (k : Channel) (j : Inbound) (kept : IsKept old) (there : slice_get old.channels.items at ≡ Some k)
+    (rest : new ≡ record old { desk = new.desk; channels = new.channels }) (channels : new.channels.items ≡ set old.channels.items at (with_inbound j k)) (same : IsSame old new) where
+  name : k.inbound.connection ≡ at + 1
+  name = kept.names at k there
+
+  others : (c : ℕ) → (c ≡ at + 1 → ⊥) → (k.inbound.connection == c) ≡ false
+  others c other = ap (λ n. n == c) name ∙ elsewhere at c other
+
+  -- with another stage, which is that of the session
+  kept_staged : (entry : Entry) (reply : Reply) (stage : Stage) → Enters old.desk entry reply new.desk → j ≡ record k.inbound { stage = stage } → IsStaged j new.desk.now
+      → (stage ≡ Unopened → k.inbound.stage ≡ Unopened) → ((c : ℕ) → (c ≡ at + 1 → ⊥) → bears_on c entry ≡ false) → IsKept new
+  kept_staged entry reply stage enters is staged fresh =
+      kept_session laws (ahead old entry reply new.desk kept enters) new entry reply (kept_ahead laws old entry reply new.desk kept enters) enters.made.admitted enters.made.steps at k (with_inbound j k)
+      (record { there = there; channels = channels; same = record { footing = same.footing; crew = same.crew } })
+      (record {
+        name = ap (λ (i : Inbound). i.connection) is ∙ name;
+        staged = staged;
+        fresh = λ unopened.
+            (let f = kept.fresh at k there (fresh (sym (ap (λ (i : Inbound). i.stage) is) ∙ unopened)) in
+            record { to = f.to; from = ap (λ (i : Inbound). i.from.stream) is ∙ f.from });
+      })
+
+  channels_as : (stage : Stage) → j ≡ record k.inbound { stage = stage } → new.channels.items ≡ set old.channels.items at (with_inbound (record k.inbound { stage = stage }) k)
+  channels_as stage is = channels ∙ ap (λ (i : Inbound). set old.channels.items at (with_inbound i k)) is
+
+  module _ (h : Opens old.desk k.inbound new.desk j) where
+    pub opens_at : OpensAt at old new
+    opens_at = (
+      h.reply,
+      record {
+        enters = subst (λ n. Enters old.desk (entries.Open n) h.reply new.desk) name h.asks.enters;
+        memory = had_memory h.reply h.asks.memory;
+        channel = k;
+        there = there;
+        rest = rest;
+        channels = channels_as (stage_opened (is_end h.reply)) h.stage;
+      },
+    )
+
+    pub kept_opened : k.inbound.stage ≡ Unopened → (was_opened k.inbound.connection old.desk.now ≡ false → IsStaged j new.desk.now) → IsKept new
+    kept_opened unopened staged =
+        kept_staged (entries.Open k.inbound.connection) h.reply (stage_opened (is_end h.reply)) h.asks.enters h.stage (staged ((kept.stages at k there).opened ∙ ap was_begun unopened))
+        (λ e. absurd (never_unopened (is_end h.reply) e)) others
+
+  module _ (fault : Bool) (h : Closes fault old.desk k.inbound new.desk j) where
+    pub closes_at : ClosesAt at fault old new
+    closes_at = (
+      h.reply,
+      record {
+        enters = subst (λ n. Enters old.desk (entries.Gone n fault) h.reply new.desk) name h.enters;
+        memory = gone_enough k.inbound.connection fault h.enters.between h.reply new.desk.now h.enters.made.steps;
+        channel = k;
+        there = there;
+        rest = rest;
+        channels = channels_as Over h.stage;
+      },
+    )
+
+    pub kept_closed : k.inbound.stage ≡ Live → (was_begun k.inbound.stage ≡ true → IsStaged k.inbound old.desk.now → IsStaged j new.desk.now) → IsKept new
+    kept_closed live staged =
+        kept_staged (entries.Gone k.inbound.connection fault) h.reply Over h.enters h.stage (staged (ap was_begun live) (kept.stages at k there)) (λ e. absurd (cc)) others
+
+  module _ (input : Input) (heard : Heard) (h : Hears input heard old.desk k.inbound new.desk j) where
+    pub kept_heard : (IsStaged k.inbound old.desk.now → IsStaged j new.desk.now) → IsKept new
+    kept_heard staged =
+        kept_staged (entries.Heard k.inbound.connection input) h.reply (stage_heard heard k.inbound.stage) h.asks.enters h.stage (staged (kept.stages at k there))
+        (still_unopened heard k.inbound.stage) others
+
+    pub waits_heard : NoneWaits old.desk → WaitsBy heard new.desk.now.jobs
+    waits_heard none =
+        let entry = entries.Heard k.inbound.connection input in
+        let enters = h.asks.enters in
+        let jobs = tends_none laws old (ahead old entry h.reply new.desk kept enters) kept (tends_of old _ (others_ahead old entry h.reply new.desk kept enters)) none in
+        subst (λ x. WaitsBy x new.desk.now.jobs) (sym h.heard_is)
+        (waits_by k.inbound.connection h.reply new.desk.now.jobs (laws.jobs enters.between k.inbound.connection input h.reply new.desk.now jobs enters.made.steps))
 
 -- ---- nothing was done
+
+pub on_err : {X Y P : Type 0} (result : Result X Y) → P → OnErr result P
+on_err (Ok x) p = tt
+on_err (Err y) p = p
 
 -- a channel is written back as it was
 same_channels : (driver : Driver) (at : ℕ) (k : Channel) → slice_get driver.channels.items at ≡ Some k → with_item driver.channels at k ≡ driver.channels
@@ -59,18 +162,7 @@ same_channels driver at k there =
     Writes ks = (long : driver.channels.len ≡ length ks) → record driver.channels { items = ks; ok = (long, driver.channels.ok.1) } ≡ driver.channels
 
 pub stays_as_it_was : (old : Driver) (at : ℕ) (k : Channel) (j : Inbound) (desk : DeskView) → slice_get old.channels.items at ≡ Some k → j ≡ k.inbound
-    → record old { desk = desk; channels = with_item old.channels at (record k { inbound = j }) } ≡ record old { desk = desk }
+    → record old { desk = desk; channels = with_item old.channels at (with_inbound j k) } ≡ record old { desk = desk }
 stays_as_it_was old at k j desk there same =
-    ap (λ (i : Inbound). record old { desk = desk; channels = with_item old.channels at (record k { inbound = i }) }) same
+    ap (λ (i : Inbound). record old { desk = desk; channels = with_item old.channels at (with_inbound i k) }) same
     ∙ ap (λ ks. record old { desk = desk; channels = ks }) (same_channels old at k there)
-
--- ---- a device failed
-
--- a device that failed is left so, where that succeeds
-pub left_by : DrivingLaws → (at : ℕ) (old new : Driver) {X Y : Type 0} (result : Result X Y) → IsKept old → IsPluggedIn at old → IsSame old new → OnOk result (ClosesAt at true old new)
-    → OnOk result (Leaves at old new)
-left_by laws at old new (Err stopped) kept plugged same h = tt
-left_by laws at old new (Ok done) kept plugged same (reply, h) =
-    leaves laws at old new reply h.stages.channel (with_stage Over h.stages.channel) kept
-    (record { there = h.stages.there; channels = h.stages.channels; same = same })
-    (ap (λ (k : Channel). k.inbound.stage) (same_Some h.stages.channel plugged.channel (sym h.stages.there ∙ plugged.there)) ∙ plugged.plugged) refl h.stages.rest h.enters

@@ -1,65 +1,32 @@
--- What the driver does with others about packets that wait: which parts its pass has then, and what that leaves.
-use Rattle.std.proofs.Common.{◌≡◌, ◌⊎◌, ℕ, ◌<◌, Bool, true, false, List, [], ◌∷◌, length, append-nil, refl, sym, ap, ◌∙◌, subst, inl, inr}
+-- What the driver does with others about packets that wait, and what that leaves.
+use Rattle.std.proofs.Common.{◌≡◌, ℕ, ◌<◌, Bool, true, false, List, [], length, append-nil, refl, sym, ap, ◌∙◌, subst, inl, inr}
 use Rattle.std.specs.Prelude.{Option, None, Some, is_some}
 use Rattle.std.specs.List.{slice_get}
 use Rattle.device_port.specs.Devices.{Meaning}
 use Rattle.machine_steps.specs.Machine.{session_at}
 use Rattle.machine_steps.specs.Sound.{IsSound}
 use Rattle.machine_steps.specs.Waiting.{Waiting}
-use Rattle.worker_crew.specs.declared.gave_up.GaveUp.{GaveUp}
-use Rattle.worker_crew.specs.declared.gave_up.GaveUp.TheVariants as gave_up
-use Rattle.worker_crew.specs.Takers.{places, shares}
+use Rattle.worker_crew.specs.Takers.{places}
 use Rattle.packet_workers.specs.declared.worked.Worked.{Worked}
 use Rattle.machine_desk.specs.Desks.{DeskView}
 use Rattle.machine_desk.specs.Working.{RoundsArePlain, RoundsClose, Works}
 use Rattle.machine_desk.specs.declared.hearing.Heard.{Heard}
 use Rattle.machine_desk.specs.declared.hearing.Heard.TheVariants as heards
-use Rattle.desk_jobs.specs.declared.tending.Broken.{Broken}
-use Rattle.desk_jobs.specs.declared.tending.Broken.TheVariants.{Own, Worker}
 use Rattle.desk_jobs.specs.Laws.{Meanwhile, NothingIsLeft, RoomStays, TendingIsAllowed}
 use Rattle.desk_jobs.specs.declared.tending.Handed.{Handed}
-use Rattle.desk_jobs.specs.Tending.{Done, FailsToAsk, FailsToWork, GoesOn, HandsOver, Reaches, Room, Rounds, Sight, Stops, Until, at}
+use Rattle.desk_jobs.specs.Tending.{Done, HandsOver, Reaches, Room, Sight}
 use Rattle.sim_steps.specs.Stretches.{Carried}
 use Rattle.sim_steps.proofs.Joining.{carried_none, carried_then}
-use Rattle.sim_steps.proofs.Others.{carried_beside}
-use Rattle.sim_channels.specs.declared.crew.Crew.{Crew}
+use Rattle.desk_jobs.specs.declared.crew.Crew.{Crew}
 use Rattle.sim_channels.specs.declared.driver.Driver.{Driver}
 use Rattle.sim_channels.specs.Answering.{IsWhole}
-use Rattle.sim_channels.specs.Channels.{CarriedOver, IsCrew, IsKept, SameCrew, Tends, WorksAlone, bench}
+use Rattle.desk_jobs.specs.Crews.{IsCrewStill, SameCrew, sight}
+use Rattle.sim_channels.specs.Channels.{CarriedOver, IsKept, IsSame, Tends, WorksAlone, bench}
 use Rattle.sim_channels.specs.Driving.{DrivingLaws}
-use Rattle.sim_channels.specs.Passes.{Attends, AwaitsAll, Beside, BySights, HasHeard, HearsBy, IsInHand, MakesRoom, WaitsBy, came_of, rest_at, rest_in}
+use Rattle.sim_channels.specs.Passes.{Attends, AwaitsAll, Beside, BySights, HasHeard, HearsBy, IsInHand, MakesRoom, Passed, WaitsBy, came_of, is_state, rest_at, rest_in}
 use Rattle.sim_channels.proofs.Answering.{answers_by}
 use Rattle.sim_channels.proofs.Keeping.{reached_sound}
-use Rattle.sim_channels.proofs.Others.{alone_on, channel_stays, items_stay, same_desk, same_driver, same_then, tends_beside, tends_channel, tends_kept, tends_learning}
-
--- ---- the parts of the pass for the queue stay
-
-abbrev pub parts : Sight → ℕ
-parts s = s.queue.parts
-
-module _ (until : Until) where
-  parts_goes_on : (works : Bool) (s t : Sight) → GoesOn until works s t → parts t ≡ parts s
-  parts_goes_on true s t works = ap (λ q. q.parts) works.makes.takes.after
-  parts_goes_on false s t (same, may) = ap parts same
-
-  parts_rounds : (ms : List Sight) (s t : Sight) → Rounds until ms s t → parts t ≡ parts s
-  parts_rounds [] s t same = ap parts same
-  parts_rounds (m ∷ ms) s t (one, rest) = parts_rounds ms m t rest ∙ parts_goes_on one.works one.asked m one.goes_on ∙ ap (λ q. q.parts) one.asks.asks.queue
-
-  pub parts_reached : (s t : Sight) → Reaches until s t → parts t ≡ parts s
-  parts_reached s t r = ap (λ q. q.parts) r.asks.queue ∙ parts_rounds r.tends.behind s r.before r.tends.rounds
-
-  parts_unasked : (cause : GaveUp) (s t : Sight) → FailsToAsk cause s t → parts t ≡ parts s
-  parts_unasked gave_up.Worn s t (wears, same) = ap (λ q. q.parts) same
-  parts_unasked gave_up.NoMemory s t fails = absurd fails
-
-  parts_failed : (cause : GaveUp) (s t : Sight) → FailsToAsk cause s t ⊎ FailsToWork until cause s t → parts t ≡ parts s
-  parts_failed cause s t (inl f) = parts_unasked cause s t f
-  parts_failed cause s t (inr f) = ap (λ q. q.parts) f.works.makes.takes.after ∙ ap (λ q. q.parts) f.asks.asks.queue
-
-  pub parts_stopped : (why : Broken) (s t : Sight) → Stops until why s t → parts t ≡ parts s
-  parts_stopped (Own cause) s t r = parts_failed cause r.before t r.fails ∙ parts_rounds r.tends.behind s r.before r.tends.rounds
-  parts_stopped (Worker cause) s t r = ap (λ q. q.parts) r.asks.asks.queue ∙ parts_rounds r.tends.behind s r.before r.tends.rounds
+use Rattle.sim_channels.proofs.Others.{alone_on, channel_stays, items_stay, same_desk, same_driver, same_then, tends_carried, tends_kept, tends_learning}
 
 -- ---- turns in between
 
@@ -72,55 +39,55 @@ worked_between item worked a b works = record { turns = works.turns; past = work
 pub tends_still : (driver : Driver) → Tends driver driver
 tends_still driver = record { meanwhile = none_between driver.desk; rest = refl; same = same_driver driver }
 
--- ---- a crew's pass
+-- ---- beside a crew
 
-pub crew_still : (o : Option Crew) (c d : Crew) → o ≡ Some c → d.jobs ≡ c.jobs → d.lobby ≡ c.lobby → d.taker.ghost_name ≡ c.taker.ghost_name → IsCrew d → shares d.taker.now ≡ shares c.taker.now → SameCrew o (Some d)
-crew_still o c d is jobs lobby name still same =
-    subst (λ (x : Option Crew). SameCrew x (Some d)) (sym is) (record { jobs = jobs; lobby = lobby; name = name; is = λ was. still; shares = λ was. same })
+pub same_beside : (old : Driver) (desk : DeskView) (c d : Crew) → old.crew ≡ Some c → IsCrewStill c d → desk.footing ≡ old.desk.footing → IsSame old (record old { desk = desk; crew = Some d })
+same_beside old desk c d is still footing = record { footing = footing; crew = subst (λ (x : Option Crew). SameCrew x (Some d)) (sym is) still }
 
-module _ (laws : DrivingLaws) (allowed : TendingIsAllowed) (old : Driver) (desk : DeskView) (c d : Crew) (kept : IsKept old) (is : old.crew ≡ Some c) (same : SameCrew old.crew (Some d))
-    (footing : desk.footing ≡ old.desk.footing) where
+module _ (old : Driver) (desk : DeskView) (c d : Crew) (is : old.crew ≡ Some c) (same : IsSame old (record old { desk = desk; crew = Some d })) where
   abbrev Later : Driver
   Later = record old { desk = desk; crew = Some d }
-
-  abbrev before : Sight
-  before = at old.desk c.taker.now
-
-  abbrev behind : Sight
-  behind = at desk d.taker.now
 
   beside : WorksAlone old → ⊥
   beside none = (let f : true ≡ false = sym (ap is_some is) ∙ none in cc)
 
   tends : Meanwhile old.desk desk → Tends old Later
-  tends meanwhile = record { meanwhile = meanwhile; rest = refl; same = record { footing = footing; crew = same } }
-
-  sound : Meanwhile old.desk desk → IsSound desk.now
-  sound meanwhile = reached_sound laws desk.now (tends_kept laws old Later kept (tends meanwhile)).reached
+  tends meanwhile = record { meanwhile = meanwhile; rest = refl; same = same }
 
   -- of these crews it holds of what is known by their passes
-  sights : (R : ℕ → Sight → Sight → Type 0) → R (places c.jobs.now) before behind → Beside R old Later
+  sights : (R : ℕ → Sight → Sight → Type 0) → R (places c.jobs.now) (sight old.desk c) (sight desk d) → Beside R old Later
   sights R r = subst (λ (o : Option Crew). BySights R old.desk desk o (Some d)) (sym is) r
 
-  pub room_by : RoomStays → Reaches Room before behind → MakesRoom old Later
-  room_by stays r =
-      let meanwhile = allowed.reaches Room before behind r in
-      record {
-        tends = tends meanwhile;
-        alone = λ none. absurd (beside none);
-        room = λ e m. inr (stays before behind e (sound meanwhile) r m);
-        asked = sights (λ n s t. Reaches Room s t) r;
-      }
+  pub handed_by : TendingIsAllowed → (item : Waiting) (handed : Handed) → IsInHand handed → HandsOver handed item (places c.jobs.now) (sight old.desk c) (sight desk d) → Attends item old Later
+  handed_by allowed item handed in_hand h = record {
+    tends = tends (allowed.hands handed item (places c.jobs.now) (sight old.desk c) (sight desk d) h);
+    answers = λ none. absurd (beside none);
+    hands = sights (λ n s t. (handed : Handed) × HandsOver handed item n s t × IsInHand handed) (handed, h, in_hand);
+  }
 
-  pub done_by : NothingIsLeft → Reaches Done before behind → AwaitsAll old Later
-  done_by left r =
-      let meanwhile = allowed.reaches Done before behind r in
-      record {
-        tends = tends meanwhile;
-        alone = λ none. absurd (beside none);
-        none = inr (left before behind desk (sound meanwhile) r (none_between desk)).1;
-        asked = sights (λ n s t. Reaches Done s t) r;
-      }
+  module _ (laws : DrivingLaws) (allowed : TendingIsAllowed) (kept : IsKept old) where
+    sound : Meanwhile old.desk desk → IsSound desk.now
+    sound meanwhile = reached_sound laws desk.now (tends_kept laws old Later kept (tends meanwhile)).reached
+
+    pub room_by : RoomStays → Reaches Room (sight old.desk c) (sight desk d) → MakesRoom old Later
+    room_by stays r =
+        let meanwhile = allowed.reaches Room (sight old.desk c) (sight desk d) r in
+        record {
+          tends = tends meanwhile;
+          alone = λ none. absurd (beside none);
+          room = λ e m. inr (stays (sight old.desk c) (sight desk d) e (sound meanwhile) r m);
+          asked = sights (λ n s t. Reaches Room s t) r;
+        }
+
+    pub done_by : NothingIsLeft → Reaches Done (sight old.desk c) (sight desk d) → AwaitsAll old Later
+    done_by left r =
+        let meanwhile = allowed.reaches Done (sight old.desk c) (sight desk d) r in
+        record {
+          tends = tends meanwhile;
+          alone = λ none. absurd (beside none);
+          none = inr (left (sight old.desk c) (sight desk d) desk (sound meanwhile) r (none_between desk)).1;
+          asked = sights (λ n s t. Reaches Done s t) r;
+        }
 
 -- without one
 
@@ -152,15 +119,7 @@ worked_alone old desk item worked plain close kept alone footing waits works who
   hands = no_sights (λ n s t. (handed : Handed) × HandsOver handed item n s t × IsInHand handed) old.desk desk old.crew old.crew alone;
 }
 
--- somebody works beside, or nobody
-pub by_crew : (driver : Driver) {P : Type 0} → (WorksAlone driver → P) → ((WorksAlone driver → ⊥) → P) → P
-by_crew driver {P} alone beside = go (is_some driver.crew) refl
-  where
-    go : (b : Bool) → is_some driver.crew ≡ b → P
-    go false e = alone e
-    go true e = beside (λ none. (let f : true ≡ false = sym e ∙ none in cc))
-
--- ---- ahead of what is heard, and behind it
+-- ---- ahead of what is heard
 
 pub over_none : (old new : Driver) → ((ds : List Meaning) → bench new ds ≡ bench old ds) → CarriedOver old new
 over_none old new same = λ ds long. subst (Carried (bench old ds)) (sym (same ds)) (carried_none (bench old ds))
@@ -175,20 +134,12 @@ module _ (laws : DrivingLaws) (a b : Driver) (kept : IsKept a) (t : Tends a b) w
   stays : (at : ℕ) → slice_get b.channels.items at ≡ slice_get a.channels.items at
   stays at = channel_stays laws a b kept t at
 
-  carried_tends : (WorksAlone a → ⊥) → CarriedOver a b
-  carried_tends beside ds long = carried_beside (bench a ds) (bench b ds) (tends_beside laws a b kept t (λ solo. beside (kept.crew.none solo)) ds)
-
   -- ahead
   module _ (alone : WorksAlone a → b ≡ a) (here : ℕ) (new : Driver) where
-    over_ahead : CarriedOver a b
-    over_ahead ds long =
-        by_crew a (λ none. subst (λ (d : Driver). Carried (bench a ds) (bench d ds)) (sym (alone none)) (carried_none (bench a ds)))
-        (λ beside. carried_tends beside ds long)
-
-    pub heard_ahead : (made : Bool) → HasHeard here made b new → HasHeard here made a new
+    heard_ahead : (made : Bool) → HasHeard here made b new → HasHeard here made a new
     heard_ahead made h = record {
       kept = h.kept;
-      carried = over_then a b new as_long over_ahead h.carried;
+      carried = over_then a b new as_long (tends_carried laws a b kept t alone) h.carried;
       jobs = λ none. h.jobs (alone_on a b t.same none);
       offered = h.offered;
       channels = record {
@@ -207,32 +158,11 @@ module _ (laws : DrivingLaws) (a b : Driver) (kept : IsKept a) (t : Tends a b) w
     }
 
     -- what came is told of a message
-    pub hears_ahead : (heard : Heard) → HearsBy (came_of heard) here b new → HearsBy (came_of heard) here a new
+    hears_ahead : (heard : Heard) → HearsBy (came_of heard) here b new → HearsBy (came_of heard) here a new
     hears_ahead heards.Ended h = h
     hears_ahead heards.State h = subst (λ n. rest_at here new < n) (ap rest_in (stays here)) h
     hears_ahead (heards.Packet item) h = subst (λ n. rest_at here new < n) (ap rest_in (stays here)) h
     hears_ahead heards.Other h = subst (λ n. rest_at here new < n) (ap rest_in (stays here)) h
 
-  -- behind, beside others
-  module _ (here : ℕ) (first : Driver) (beside : WorksAlone a → ⊥) where
-    pub heard_behind : (made : Bool) → HasHeard here made first a → HasHeard here made first b
-    heard_behind made h = record {
-      kept = tends_kept laws a b kept t;
-      carried = over_then first a b h.channels.count h.carried (carried_tends beside);
-      jobs = λ none. absurd (beside (alone_on first a h.same none));
-      offered = tends_channel laws a b kept t (λ k. k.to ≡ []) here h.offered;
-      channels = record {
-        count = as_long ∙ h.channels.count;
-        others = λ at other. stays at ∙ h.channels.others at other;
-        waiting = λ k l was there. h.channels.waiting k l was (sym (stays here) ∙ there);
-      };
-      others = λ untold no_hosts. record {
-        sessions = λ none c other. absurd (beside (alone_on first a h.same none));
-        channels = λ at other. stays at ∙ (h.others untold no_hosts).channels at other;
-      };
-      same = same_then first a b h.same t.same;
-      learning = tends_learning laws a b kept t ∙ h.learning;
-    }
-
-    pub fewer_behind : rest_at here a < rest_at here first → rest_at here b < rest_at here first
-    fewer_behind h = subst (λ n. n < rest_at here first) (sym (ap rest_in (stays here))) h
+    pub passed_ahead : (heard : Heard) → Passed here b new (came_of heard) → Passed here a new (came_of heard)
+    passed_ahead heard p = (heard_ahead (is_state (came_of heard)) p.0, hears_ahead heard p.1)

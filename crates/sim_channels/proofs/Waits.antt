@@ -5,7 +5,7 @@ use Rattle.std.specs.List.{slice_get}
 use Rattle.std.proofs.lemmas.Bool.{and_from, and_parts}
 use Rattle.std.proofs.lemmas.Bool.Decides.{nat_tests}
 use Rattle.std.proofs.lemmas.Option.{same_Some, slice_get_within}
-use Rattle.sim_channels.specs.Channels.{is_plugged_in}
+use Rattle.machine_desk.specs.Hearing.{is_live}
 use Rattle.sim_channels.specs.declared.channel.Channel.{Channel}
 use Rattle.sim_channels.specs.declared.driver.Driver.{Driver}
 use Rattle.sim_channels.proofs.Resting.{plugged_in}
@@ -21,14 +21,14 @@ pub waits_there : (driver : Driver) (at : ℕ) (k : Channel) → slice_get drive
 waits_there driver at k e waits = record {
   channel = k;
   there = e;
-  plugged = plugged_in k.inbound.stage (and_parts (is_plugged_in k.inbound.stage) (nat_lt 0 k.waiting) waits).0;
-  some = positive k.waiting (and_parts (is_plugged_in k.inbound.stage) (nat_lt 0 k.waiting) waits).1;
+  plugged = plugged_in k.inbound.stage (and_parts (is_live k.inbound.stage) (nat_lt 0 k.waiting) waits).0;
+  some = positive k.waiting (and_parts (is_live k.inbound.stage) (nat_lt 0 k.waiting) waits).1;
 }
 
 waits_now : (driver : Driver) (at : ℕ) (k : Channel) → slice_get driver.channels.items at ≡ Some k → Waits at driver → waits_in k ≡ true
 waits_now driver at k e h =
     let same : h.channel ≡ k = same_Some h.channel k (sym h.there ∙ e) in
-    let one : waits_in h.channel ≡ true = and_from (is_plugged_in h.channel.inbound.stage) (nat_lt 0 h.channel.waiting) (ap is_plugged_in h.plugged) (is_positive h.channel.waiting h.some) in
+    let one : waits_in h.channel ≡ true = and_from (is_live h.channel.inbound.stage) (nat_lt 0 h.channel.waiting) (ap is_live h.plugged) (is_positive h.channel.waiting h.some) in
     ap waits_in (sym same) ∙ one
 
 pub waits_not : (driver : Driver) (at : ℕ) (k : Channel) → slice_get driver.channels.items at ≡ Some k → waits_in k ≡ false → Waits at driver → ⊥

@@ -1,26 +1,26 @@
 -- The driver of the machine and devices: the bench that it is with the devices, and what it keeps.
-use Rattle.std.specs.Prelude.{◌≡◌, ℕ, ◌+◌, ◌^◌, ◌<◌, ◌≤◌, Bool, true, false, List, [], ◌∷◌, ◌++◌, length, Option, Some, None, IfSome, is_some}
+use Rattle.std.specs.Prelude.{◌≡◌, ℕ, ◌+◌, ◌^◌, ◌<◌, ◌≤◌, true, false, List, [], ◌∷◌, ◌++◌, length, Some, is_some}
 use Rattle.std.specs.List.{slice_get}
 use Rattle.maple_base.specs.declared.decision.Settings.{Settings}
 use Rattle.policy_lang.specs.declared.Policy.{Policy}
 use Rattle.of10_stream.specs.Steps.{beginning}
 use Rattle.device_port.specs.Devices.{Meaning}
 use Rattle.machine_desk.specs.Desks.{DeskView}
-use Rattle.worker_crew.specs.Takers.{IsTakerOf, shares}
+use Rattle.machine_desk.specs.Hearing.{IsStaged}
+use Rattle.desk_jobs.specs.Crews.{MayHave, SameCrew}
 use Rattle.desk_jobs.specs.Laws.{Meanwhile}
 use Rattle.machine_steps.specs.declared.entry.Entry.{Entry}
 use Rattle.machine_steps.specs.declared.reply.Reply.{Reply}
 use Rattle.machine_steps.specs.Histories.{Leads, Turn}
-use Rattle.machine_steps.specs.Machine.{State, opening, was_opened}
+use Rattle.machine_steps.specs.Machine.{State, opening}
 use Rattle.machine_steps.specs.Sound.{AreInRange}
 use Rattle.machine_steps.specs.Steps.{Steps}
-use Rattle.sim_steps.specs.Benches.{Slot, Bench, IsSolo, is_plugged, opening_bench}
+use Rattle.sim_steps.specs.Benches.{Slot, Bench, is_plugged, opening_bench}
 use Rattle.sim_steps.specs.Deeds.{turn_by}
 use Rattle.sim_steps.specs.Stretches.{Carried}
 use Rattle.sim_channels.specs.declared.channel.Channel.{Channel}
-use Rattle.sim_channels.specs.declared.crew.Crew.{Crew}
 use Rattle.machine_desk.specs.declared.inbound.Stage.{Stage}
-use Rattle.machine_desk.specs.declared.inbound.Stage.TheVariants.{Unopened, Live}
+use Rattle.machine_desk.specs.declared.inbound.Stage.TheVariants.{Unopened}
 use Rattle.sim_channels.specs.declared.driver.Driver.{Driver}
 
 -- ---- the bench
@@ -42,20 +42,6 @@ with_stage stage k = record k { inbound = record k.inbound { stage = stage } }
 
 -- ---- what is kept
 
--- the session of a connection is open; it was opened
-abbrev pub is_plugged_in : Stage → Bool
-is_plugged_in Live = true
-is_plugged_in stage = false
-
-abbrev pub was_plugged_in : Stage → Bool
-was_plugged_in Unopened = false
-was_plugged_in stage = true
-
--- the stage of the channel with this number is that of the session
-pub record IsStaged (c : ℕ) (m : State) (stage : Stage) : Type 0 where
-  pub plugged : is_plugged c m ≡ is_plugged_in stage
-  pub opened : was_opened c m ≡ was_plugged_in stage
-
 -- a legal history led to this state
 pub record IsReached (m : State) : Type 0 where
   pub policy : Policy
@@ -71,33 +57,9 @@ pub record IsFresh (k : Channel) : Type 0 where
 
 -- ---- who works beside the driver
 
--- the pass for the queue is one of this queue
-abbrev pub IsCrew : Crew → Type 0
-IsCrew crew = IsTakerOf crew.jobs.now crew.taker.now
-
--- a driver may have this crew, where its pass has so many parts and the machine is so: without a crew it has all parts, and it has none where the settings
--- have no workers
-pub record MayHave (crew : Option Crew) (parts : ℕ) (m : State) : Type 0 where
-  pub alone : is_some crew ≡ false → parts ≡ 1024
-  pub none : IsSolo m → is_some crew ≡ false
-  pub is : IfSome crew IsCrew
-
 -- nobody works beside the driver
 abbrev pub WorksAlone : Driver → Type 0
 WorksAlone driver = is_some driver.crew ≡ false
-
--- a crew's pass is the one that was lent, with as many parts of the same queue, and its lobby is the same
-pub record IsCrewStill (old new : Crew) : Type 0 where
-  pub jobs : new.jobs ≡ old.jobs
-  pub lobby : new.lobby ≡ old.lobby
-  pub name : new.taker.ghost_name ≡ old.taker.ghost_name
-  pub is : IsCrew old → IsCrew new
-  pub shares : IsCrew old → shares new.taker.now ≡ shares old.taker.now
-
-abbrev pub SameCrew : Option Crew → Option Crew → Type 0
-SameCrew None None = Unit {0}
-SameCrew (Some old) (Some new) = IsCrewStill old new
-SameCrew old new = ⊥
 
 -- what no call of the driver but `mark` changes: its footing, and who works beside it
 pub record IsSame (old new : Driver) : Type 0 where
@@ -106,12 +68,17 @@ pub record IsSame (old new : Driver) : Type 0 where
 
 -- ---- what is kept of the machine and the channels
 
+-- each channel is of the connection with the number of its place
+abbrev pub AreNumbered : List Channel → Type 0
+AreNumbered channels = (at : ℕ) (k : Channel) → slice_get channels at ≡ Some k → k.inbound.connection ≡ at + 1
+
 -- what the driver knows of the machine: who else uses it, and which stages its sessions have; a device that never was plugged in has a fresh channel
 pub record IsKept (driver : Driver) : Type 0 where
   pub crew : MayHave driver.crew driver.desk.footing.parts driver.desk.now
   pub reached : IsReached driver.desk.now
   pub numbers : length driver.channels.items < 2 ^ 32
-  pub stages : (at : ℕ) (k : Channel) → slice_get driver.channels.items at ≡ Some k → IsStaged (at + 1) driver.desk.now k.inbound.stage
+  pub names : AreNumbered driver.channels.items
+  pub stages : (at : ℕ) (k : Channel) → slice_get driver.channels.items at ≡ Some k → IsStaged k.inbound driver.desk.now
   pub places_alone : (c : ℕ) → is_plugged c driver.desk.now ≡ true → (1 ≤ c) × (c ≤ length driver.channels.items)
   pub fresh : (at : ℕ) (k : Channel) → slice_get driver.channels.items at ≡ Some k → k.inbound.stage ≡ Unopened → IsFresh k
 

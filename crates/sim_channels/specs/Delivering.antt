@@ -20,13 +20,8 @@ use Rattle.sim_channels.specs.declared.channel.Channel.{Channel}
 use Rattle.machine_desk.specs.declared.inbound.Stage.TheVariants.{Over, Live, Unopened}
 use Rattle.sim_channels.specs.declared.driver.Driver.{Driver}
 use Rattle.sim_channels.specs.Channels.{CarriedOver, Fits, IsKept, IsSame, OthersDid, bench, slot_by}
+use Rattle.sim_channels.specs.Staging.{HasStage}
 use Rattle.sim_channels.specs.Waiting.{IsHeard, IsQuiet, IsTaken, NoneWaits, StaysBut, WhilePlugged}
-
--- a device is plugged in at this place
-pub record IsPluggedIn (at : ℕ) (driver : Driver) : Type 0 where
-  pub channel : Channel
-  pub there : slice_get driver.channels.items at ≡ Some channel
-  pub plugged : channel.inbound.stage ≡ Live
 
 -- what was taken out for the device can be offered
 abbrev pub CanOffer : ℕ → Driver → Type 0
@@ -58,7 +53,7 @@ pub record TakesOut (at : ℕ) (old new : Driver) : Type 0 where
   pub waiting : (k l : Channel) → slice_get old.channels.items at ≡ Some k → slice_get new.channels.items at ≡ Some l → l.waiting ≡ k.waiting
   pub spares : Spares at old new
   pub taken : IsTaken at new
-  pub plugged : IsPluggedIn at new
+  pub plugged : HasStage at Live new
   pub can : CanOffer at new
 
 -- ---- the next message is offered
@@ -71,10 +66,9 @@ took_by false = Taken
 pub record OffersFirst (failed : Bool) (k : Channel) (d : Meaning) (l : Channel) (e : Meaning) : Type 0 where
   pub bytes : List ℕ
   pub offers : OffersNext bytes (took_by failed) (slot_by k d) (slot_by l e)
-  pub stage : l.inbound.stage ≡ k.inbound.stage
+  pub inbound : l.inbound ≡ k.inbound
   pub waiting : l.waiting ≡ length e.pending
   pub can : AllByRecursion CanBeOffered l.to
-  pub from : l.inbound.from ≡ k.inbound.from
   pub fewer : failed ≡ false → length l.to < length k.to
 
 -- the device failed, and its session ends, behind what others did
@@ -117,7 +111,7 @@ offers_left at driver = left_in (slice_get driver.channels.items at)
 
 -- the device took a message in, and others may be offered
 pub record MayGoOn (at : ℕ) (old new : Driver) : Type 0 where
-  pub plugged : IsPluggedIn at new
+  pub plugged : HasStage at Live new
   pub can : CanOffer at new
   pub fewer : offers_left at new < offers_left at old
 

@@ -9,8 +9,10 @@ use Rattle.world_steps.specs.Worlds.{lacks_memory}
 use Rattle.sim_steps.specs.Benches.{Bench}
 use Rattle.sim_steps.specs.Deeds.{CallsAt, LooksUp, has_failed}
 use Rattle.sim_channels.specs.Channels.{Fits, OthersDid, bench, slot_by}
-use Rattle.sim_channels.specs.Delivering.{IsPluggedIn}
+use Rattle.sim_channels.specs.Staging.{HasStage}
 use Rattle.sim_channels.specs.Waiting.{IsAtRestBut}
+use Rattle.machine_desk.specs.Hearing.{IsSameSession}
+use Rattle.machine_desk.specs.declared.inbound.Stage.TheVariants.{Live}
 use Rattle.sim_channels.specs.declared.channel.Channel.{Channel}
 use Rattle.sim_channels.specs.declared.driver.Driver.{Driver}
 
@@ -19,7 +21,7 @@ pub record LooksUpBy (port : ℕ) (frame : List ℕ) (seen : Seen) (k : Channel)
   pub bytes : List ℕ
   pub looks : LooksUp port frame seen bytes (slot_by k d) (slot_by l e)
   pub pending : length e.pending ≡ length d.pending
-  pub stage : l.inbound.stage ≡ k.inbound.stage
+  pub session : IsSameSession k.inbound l.inbound
   pub to : l.to ≡ k.to
   pub waiting : l.waiting ≡ k.waiting
 
@@ -40,7 +42,7 @@ pub record Called (c port : ℕ) (frame : List ℕ) (failed : Bool) (a b : Bench
 pub record IsCalled (at port : ℕ) (frame : List ℕ) (failed : Bool) (old : Driver) (before : List Meaning) (new : Driver) (after : List Meaning) : Type 0 where
   pub fits : Fits new after
   pub rest : IsAtRestBut at new
-  pub plugged : IsPluggedIn at new
+  pub plugged : HasStage at Live new
   pub ahead : Driver
   pub others : OthersDid old ahead
   pub called : Called (at + 1) port frame failed (bench ahead before) (bench new after)

@@ -1,5 +1,5 @@
 -- One message that is heard: what comes next on a channel, what its reply brings about, and what is known behind both.
-use Rattle.std.specs.Prelude.{◌≡◌, ◌⊎◌, ℕ, ◌+◌, ◌<◌, Bool, true, false, List, [], ◌∷◌, length, set, Option, Some, None}
+use Rattle.std.specs.Prelude.{◌≡◌, ◌⊎◌, ℕ, ◌<◌, Bool, true, false, List, [], ◌∷◌, length, set, Option, Some, None}
 use Rattle.std.specs.List.{slice_get}
 use Rattle.machine_steps.specs.declared.entry.Input.{Input}
 use Rattle.machine_steps.specs.declared.entry.Input.TheVariants.{Message as Whole, Bad}
@@ -10,7 +10,7 @@ use Rattle.machine_steps.specs.Machine.{most_jobs}
 use Rattle.machine_steps.specs.Steps.{item_of}
 use Rattle.machine_steps.specs.Waiting.{Waiting}
 use Rattle.machine_desk.specs.Desks.{DeskView}
-use Rattle.machine_desk.specs.Hearing.{Hears}
+use Rattle.machine_desk.specs.Hearing.{Comes, Hears}
 use Rattle.desk_jobs.specs.declared.tending.Handed.{Handed}
 use Rattle.desk_jobs.specs.declared.tending.Handed.TheVariants.{Queued, Worked}
 use Rattle.desk_jobs.specs.Laws.{Meanwhile}
@@ -23,7 +23,7 @@ use Rattle.sim_channels.specs.Answering.{Answers, IsWhole}
 use Rattle.sim_channels.specs.Channels.{CarriedOver, IsKept, IsSame, Tends, WorksAlone}
 use Rattle.sim_channels.specs.Waiting.{IsHeard, IsOffered, NoneWaits, StaysBut}
 use Rattle.sim_channels.specs.declared.channel.Channel.{Channel}
-use Rattle.sim_channels.specs.declared.crew.Crew.{Crew}
+use Rattle.desk_jobs.specs.declared.crew.Crew.{Crew}
 use Rattle.sim_channels.specs.declared.driver.Driver.{Driver}
 use Rattle.sim_channels.specs.Hearing.{KeepsChannels}
 use Rattle.sim_channels.specs.declared.hear.Came.{Came}
@@ -36,7 +36,7 @@ pub record HearsAt (here : ℕ) (input : Input) (heard : Heard) (old new : Drive
   pub channel : Channel
   pub there : slice_get old.channels.items here ≡ Some channel
   pub behind : Inbound
-  pub hears : Hears (here + 1) input heard old.desk channel.inbound new.desk behind
+  pub hears : Hears input heard old.desk channel.inbound new.desk behind
   pub rest : new ≡ record old { desk = new.desk; channels = new.channels }
   pub channels : new.channels.items ≡ set old.channels.items here (record channel { inbound = behind })
 
@@ -104,6 +104,35 @@ abbrev pub came_of : Heard → Came
 came_of heard.State = State
 came_of heard.Ended = Ended
 came_of rest = Message
+
+-- ---- what comes next
+
+-- this came next from a place, or nothing did yet; of its channel the stream alone changes
+pub record ComesAt (here : ℕ) (found : Option Input) (old new : Driver) : Type 0 where
+  pub channel : Channel
+  pub there : slice_get old.channels.items here ≡ Some channel
+  pub behind : Inbound
+  pub comes : Comes found channel.inbound behind
+  pub rest : new ≡ record old { channels = new.channels }
+  pub channels : new.channels.items ≡ set old.channels.items here (record channel { inbound = behind })
+
+-- an input came next, room was made for the packet in it, it was heard, and then was done what is to be done about it: one behind the other, and nothing else
+pub record HearsInput (here : ℕ) (came : Came) (old new : Driver) : Type 0 where
+  pub input : Input
+  pub next : Driver
+  pub comes : ComesAt here (Some input) old next
+  pub room : Driver
+  pub makes : MakesRoomFor input next room
+  pub heard : Heard
+  pub hearing : Driver
+  pub hears : HearsAt here input heard room hearing
+  pub follows : Follows heard hearing new
+  pub told : came ≡ came_of heard
+
+-- by what came
+abbrev pub HearsNext : ℕ → Came → Driver → Driver → Type 0
+HearsNext here Nothing old new = ComesAt here None old new
+HearsNext here came old new = HearsInput here came old new
 
 -- ---- messages, one after the other
 

@@ -1,7 +1,6 @@
 -- How the session of a device stands, and what opens and ends it.
-use Rattle.std.specs.Prelude.{◌≡◌, ℕ, ◌+◌, Bool, false, List, set, Some}
+use Rattle.std.specs.Prelude.{◌≡◌, ℕ, ◌+◌, Bool, false, set, Some}
 use Rattle.std.specs.List.{slice_get}
-use Rattle.device_port.specs.Devices.{Meaning}
 use Rattle.machine_steps.specs.declared.entry.Entry.{Entry}
 use Rattle.machine_steps.specs.declared.entry.Entry.TheVariants as entries
 use Rattle.machine_steps.specs.declared.reply.Reply.{Reply}
@@ -13,7 +12,7 @@ use Rattle.sim_channels.specs.declared.channel.Channel.{Channel}
 use Rattle.machine_desk.specs.declared.inbound.Stage.{Stage}
 use Rattle.sim_channels.specs.declared.driver.Driver.{Driver}
 use Rattle.machine_desk.specs.Desks.{Enters}
-use Rattle.sim_channels.specs.Channels.{bench, with_stage}
+use Rattle.sim_channels.specs.Channels.{with_stage}
 
 -- the channel with this index has this stage
 pub record HasStage (at : ℕ) (stage : Stage) (driver : Driver) : Type 0 where
@@ -21,19 +20,14 @@ pub record HasStage (at : ℕ) (stage : Stage) (driver : Driver) : Type 0 where
   pub there : slice_get driver.channels.items at ≡ Some channel
   pub is : channel.inbound.stage ≡ stage
 
--- the channel with this index has this stage from now on, which no bench shows
-pub record Restages (at : ℕ) (stage : Stage) (old new : Driver) : Type 0 where
-  pub rest : new ≡ record old { channels = new.channels }
-  pub channel : Channel
-  pub there : slice_get old.channels.items at ≡ Some channel
-  pub channels : new.channels.items ≡ set old.channels.items at (with_stage stage channel)
-  pub slots : (devices : List Meaning) → bench new devices ≡ bench old devices
-
--- the machine was given an entry, with memory enough, and the channel with this index has this stage behind it
+-- the machine was given an entry, with memory enough, and the channel with this index has this stage behind it; nothing else changes
 pub record EntersAndStages (at : ℕ) (entry : Entry) (reply : Reply) (stage : Stage) (old new : Driver) : Type 0 where
   pub enters : Enters old.desk entry reply new.desk
   pub memory : lacks_memory reply ≡ false
-  pub stages : Restages at stage (record old { desk = new.desk }) new
+  pub channel : Channel
+  pub there : slice_get old.channels.items at ≡ Some channel
+  pub rest : new ≡ record old { desk = new.desk; channels = new.channels }
+  pub channels : new.channels.items ≡ set old.channels.items at (with_stage stage channel)
 
 -- a session was opened for the device with this index, or the device is left as the machine had no place for it
 abbrev pub OpensAt : ℕ → Driver → Driver → Type 0

@@ -2,7 +2,7 @@
 use Rattle.std.specs.Prelude.{◌≡◌, ℕ, ◌+◌, ◌<◌, Bool, nat_lt, ◌&&◌, List, set, Some}
 use Rattle.std.specs.List.{slice_get}
 use Rattle.of10_stream.specs.Steps.{fed}
-use Rattle.sim_channels.specs.Channels.{is_plugged_in}
+use Rattle.machine_desk.specs.Hearing.{IsSameSession, is_live}
 use Rattle.sim_channels.specs.declared.channel.Channel.{Channel}
 use Rattle.machine_desk.specs.declared.inbound.Stage.TheVariants.{Live}
 use Rattle.sim_channels.specs.declared.driver.Driver.{Driver}
@@ -15,7 +15,7 @@ pub record Waits (at : ℕ) (driver : Driver) : Type 0 where
   pub some : 0 < channel.waiting
 
 abbrev pub waits_in : Channel → Bool
-waits_in k = is_plugged_in k.inbound.stage && nat_lt 0 k.waiting
+waits_in k = is_live k.inbound.stage && nat_lt 0 k.waiting
 
 -- no message waits in any device ahead of the one with this index
 abbrev pub NoneBefore : ℕ → Driver → Type 0
@@ -36,7 +36,7 @@ pub record ChannelMoves (at : ℕ) (Moves : Channel → Channel → Type 0) (old
 
 -- these bytes came from the device, and one message less waits in it
 pub record Appends (bytes : List ℕ) (k l : Channel) : Type 0 where
-  pub stage : l.inbound.stage ≡ k.inbound.stage
+  pub session : IsSameSession k.inbound l.inbound
   pub to : l.to ≡ k.to
   pub from : l.inbound.from.stream ≡ fed bytes k.inbound.from.stream
   pub waiting : k.waiting ≡ l.waiting + 1

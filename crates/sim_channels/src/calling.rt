@@ -1,9 +1,10 @@
 // A frame comes to a device.
 ghost use Rattle.std.specs.Prelude.{◌≡◌, ◌<◌, ◌≤◌, map, length, IfOk};
+ghost use Rattle.machine_desk.specs.declared.inbound.Stage.TheVariants.{Live};
 ghost use Rattle.script_text.specs.Grammar.{most_bytes};
 ghost use Rattle.sim_channels.specs.Channels.{Fits, IsSame};
-ghost use Rattle.sim_channels.specs.Delivering.{IsPluggedIn};
 ghost use Rattle.sim_channels.specs.Looking.{IsCalled, LooksUpBy, is_failure};
+ghost use Rattle.sim_channels.specs.Staging.{HasStage};
 ghost use Rattle.sim_channels.specs.Waiting.{IsAtRest};
 
 use crate::laws::driving_laws;
@@ -31,7 +32,7 @@ impl<'h> Driver<'h> {
     ) -> Result<bool, Stopped>
         requires fits { Fits self.old (map D.meaning devices.old) }
         requires rest { IsAtRest self.old }
-        requires plugged { IsPluggedIn at self.old }
+        requires plugged { HasStage at Live self.old }
         requires within { at < length devices.old }
         requires short { length frame ≤ most_bytes }
         ensures called { IfOk result (λ failed. IsCalled at port frame failed self.old (map D.meaning devices.old) self.new (map D.meaning devices.new)) }

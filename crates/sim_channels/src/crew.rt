@@ -8,44 +8,10 @@ ghost use Rattle.sim_channels.specs.Passes.{Attends, AwaitsAll, MakesRoom, Waits
 use crate::laws::driving_laws;
 use crate::{Driver, Stopped};
 use core_machine::JobItem;
-use desk_jobs::{Handed, Tender, tending_laws};
+use desk_jobs::{Handed, tending_laws};
 use machine_desk::working_laws;
 use packet_workers::{Gate, Worked};
 use std::sync::Wait;
-use worker_crew::{JobPass, Jobs, Lobby};
-
-/// Workers beside the driver: the queue from which they take packets that wait, the driver's pass for it, and the lobby in
-/// which all wait for each other.
-#[derive(Drop)]
-pub struct Crew<'h> {
-    pub(crate) jobs: &'h Jobs<JobItem>,
-    pub(crate) taker: &'h mut JobPass<JobItem>,
-    pub(crate) lobby: &'h Lobby,
-}
-
-impl<'h> Crew<'h> {
-    /// Of this queue, with this pass, which is lent.
-    pub fn new(
-        jobs: &'h Jobs<JobItem>,
-        taker: &'h mut JobPass<JobItem>,
-        lobby: &'h Lobby,
-    ) -> Crew<'h>
-        ensures jobs { result.jobs ≡ jobs.entry }
-        ensures taker { (result.taker.now ≡ taker.old) × (result.taker.ghost_name ≡ taker.entry.ghost_name) }
-        ensures lobby { result.lobby ≡ lobby.entry }
-    {
-        Crew { jobs, taker, lobby }
-    }
-
-    /// The pass again, which is lent no longer.
-    pub fn end(self) -> &'h mut JobPass<JobItem>
-        ensures reference { result.ghost_name ≡ self.entry.taker.ghost_name }
-        ensures taker { result.now ≡ self.entry.taker.now }
-    {
-        let Crew { taker, .. } = self;
-        taker
-    }
-}
 
 impl<'h> Driver<'h> {
     /// Whether nobody works beside the driver.
@@ -56,6 +22,7 @@ impl<'h> Driver<'h> {
     }
 
     // Beside workers: waits until the machine takes a further packet in, whatever they do then.
+    #[tactic(auto, using(crate::proofs::Tended::same_beside))]
     pub(crate) fn make_room<R: Wait, G: Gate>(&mut self, rt: &R, gate: &G) -> Result<(), Stopped>
         requires kept { IsKept self.old }
         ensures room { OnOk result (MakesRoom self.old self.new) }
@@ -65,19 +32,12 @@ impl<'h> Driver<'h> {
         tending_laws();
         match &mut self.crew {
             None => Ok(()),
-            Some(crew) => {
-                let tender = Tender {
-                    jobs: crew.jobs,
-                    lobby: crew.lobby,
-                    gate,
-                    alloc: self.alloc,
-                };
-                Ok(tender.make_room(rt, &mut self.desk, crew.taker)?)
-            }
+            Some(crew) => Ok(crew.make_room(rt, gate, self.alloc, &mut self.desk)?),
         }
     }
 
     // Beside workers: waits until no packet waits.
+    #[tactic(auto, using(crate::proofs::Tended::same_beside))]
     pub(crate) fn await_all<R: Wait, G: Gate>(&mut self, rt: &R, gate: &G) -> Result<(), Stopped>
         requires kept { IsKept self.old }
         ensures awaits { OnOk result (AwaitsAll self.old self.new) }
@@ -87,19 +47,12 @@ impl<'h> Driver<'h> {
         tending_laws();
         match &mut self.crew {
             None => Ok(()),
-            Some(crew) => {
-                let tender = Tender {
-                    jobs: crew.jobs,
-                    lobby: crew.lobby,
-                    gate,
-                    alloc: self.alloc,
-                };
-                Ok(tender.await_all(rt, &mut self.desk, crew.taker)?)
-            }
+            Some(crew) => Ok(crew.await_all(rt, gate, self.alloc, &mut self.desk)?),
         }
     }
 
     // A packet that waits is answered, or handed over to the workers; where their queue is full the driver answers it.
+    #[tactic(auto, using(crate::proofs::Tended::same_beside))]
     pub(crate) fn attend<R: Wait, G: Gate>(
         &mut self,
         rt: &R,
@@ -116,13 +69,7 @@ impl<'h> Driver<'h> {
         match &mut self.crew {
             None => answered(self.desk.work(rt, self.alloc, item, gate)),
             Some(crew) => {
-                let tender = Tender {
-                    jobs: crew.jobs,
-                    lobby: crew.lobby,
-                    gate,
-                    alloc: self.alloc,
-                };
-                match tender.hand_over(rt, &mut self.desk, crew.taker, item) {
+                match crew.hand_over(rt, gate, self.alloc, &mut self.desk, item) {
                     Handed::Queued => Ok(()),
                     Handed::Worked(worked) => answered(worked),
                 }

@@ -1,8 +1,10 @@
 // What the machine has for devices is taken out and offered to them.
 ghost use Rattle.std.specs.Prelude.{◌≡◌, ◌<◌, map, length, OnOk};
+ghost use Rattle.machine_desk.specs.declared.inbound.Stage.TheVariants.{Live};
 ghost use Rattle.sim_steps.specs.Stretches.{Carried};
 ghost use Rattle.sim_channels.specs.Channels.{Fits, IsSame, bench};
-ghost use Rattle.sim_channels.specs.Delivering.{Delivers, IsPluggedIn};
+ghost use Rattle.sim_channels.specs.Delivering.{Delivers};
+ghost use Rattle.sim_channels.specs.Staging.{HasStage};
 ghost use Rattle.sim_channels.specs.Waiting.{IsAtRest, IsDone, IsHeard, IsHeardThrough, IsOffered, IsQuiet, IsTaken, NoneWaits, StaysBut};
 
 use crate::laws::driving_laws;
@@ -104,7 +106,7 @@ impl<'h> Driver<'h> {
     ) -> Result<(), Stopped>
         requires fits { Fits self.old (map D.meaning devices.old) }
         requires within { at < length devices.old }
-        requires plugged { IsPluggedIn at self.old }
+        requires plugged { HasStage at Live self.old }
         requires offered { IsOffered at self.old }
         ensures done { OnOk result (Delivers at self.old (map D.meaning devices.old) self.new (map D.meaning devices.new)) }
         ensures offered { OnOk result (IsOffered at self.new) }

@@ -8,7 +8,8 @@ ghost use Rattle.machine_desk.specs.Orders.{Asked, Changes, Renews, Stops, Stops
 ghost use Rattle.machine_desk.specs.Reports.{ReportsBy};
 ghost use Rattle.machine_desk.specs.declared.report.ReportStop.TheVariants as stops;
 
-use crate::{Crew, Driver};
+use crate::Driver;
+use desk_jobs::Crew;
 use env_cells::Update;
 use machine_desk::{Desk, DeskStop, ReportStop};
 use maple_io::Sink;

@@ -3,12 +3,14 @@ ghost use Rattle.std.specs.Prelude.{◌≡◌, ℕ, ◌^◌, ◌<◌, [], IfErr,
 ghost use Rattle.std.specs.List.{AllByRecursion};
 ghost use Rattle.sim_steps.specs.Showing.{AllIdle};
 ghost use Rattle.world_steps.specs.Worlds.{messages_for};
-ghost use Rattle.sim_channels.specs.Channels.{Fits, IsAtStart, MayHave, bench, bench_at_start};
+ghost use Rattle.desk_jobs.specs.Crews.{MayHave};
+ghost use Rattle.sim_channels.specs.Channels.{AreNumbered, Fits, IsAtStart, bench, bench_at_start};
 ghost use Rattle.sim_channels.specs.Delivering.{IsUnused};
 ghost use Rattle.sim_channels.specs.Waiting.{IsAtRest};
 
+use crate::Channel;
 use crate::outbox::{connection_of, messages_for};
-use crate::{Channel, Crew};
+use desk_jobs::Crew;
 use device_port::Device;
 use machine_desk::{Desk, Inbound};
 use maple_base::{Bytes, NoMemory};
@@ -67,18 +69,17 @@ fn unplugged<'h>(alloc: Global, desk: &Desk<'h>, count: usize) -> Result<Vec<Cha
     ensures few { IfOk result (λ _. count < 2 ^ 32) }
     ensures count { IfOk result (λ channels. length channels.items ≡ count) }
     ensures unused { IfOk result (λ channels. AllByRecursion IsUnused channels.items) }
+    ensures names { IfOk result (λ channels. AreNumbered channels.items) }
 {
     if u32::try_from(count).is_err() {
         return Err(NoMemory);
     }
     let mut channels = Vec::new(alloc);
     for at in 0..count {
+        let connection = connection_of(at);
         channels.push(Channel {
-            inbound: Inbound::new(alloc),
-            to: Block::new(
-                Bytes::new(Vec::new(alloc)),
-                messages_for(desk, &connection_of(at)),
-            ),
+            inbound: Inbound::new(alloc, connection),
+            to: Block::new(Bytes::new(Vec::new(alloc)), messages_for(desk, &connection)),
             waiting: 0,
         })?;
     }

@@ -1,12 +1,11 @@
 // What a device appended is heard.
-ghost use Rattle.std.specs.Prelude.{◌≡◌, ◌^◌, ◌<◌, length, OnOk, IfOk};
+ghost use Rattle.std.specs.Prelude.{◌≡◌, ◌<◌, length, OnOk, IfOk, IfSome};
 ghost use Rattle.machine_steps.specs.Admitting.{IsHeard};
 ghost use Rattle.sim_channels.specs.Channels.{IsKept, IsSame, WorksAlone};
 ghost use Rattle.sim_channels.specs.Waiting.{IsOffered, NoneWaits};
-ghost use Rattle.sim_channels.specs.Passes.{Follows, HearsAt, MakesRoomFor, Passed, WaitsBy, came_of, is_packet};
+ghost use Rattle.sim_channels.specs.Passes.{ComesAt, Follows, HearsAt, HearsNext, MakesRoomFor, Passed, WaitsBy, came_of, is_packet};
 
 use crate::laws::driving_laws;
-use crate::outbox::connection_of;
 use crate::{Driver, Stopped};
 use core_machine::Input;
 use machine_desk::Heard;
@@ -15,6 +14,7 @@ use packet_workers::Gate;
 use std::sync::Wait;
 
 /// What came from a device.
+#[derive(Clone, Copy)]
 pub enum Came {
     /// Nothing that could be heard.
     Nothing,
@@ -43,16 +43,32 @@ impl<'h> Driver<'h> {
         requires within { at < length self.old.channels.items }
         requires jobs { WorksAlone self.old → NoneWaits self.old.desk }
         requires offered { IsOffered at self.old }
+        ensures next { IfOk result (λ came. HearsNext at came self.old self.new) }
         ensures passed { IfOk result (λ came. Passed at self.old self.new came) }
         ensures same { IsSame self.old self.new }
     {
         driving_laws();
-        let Some(input) = self.channels[at].inbound.next()? else {
+        let Some(input) = self.next(at)? else {
             return Ok(Came::Nothing);
         };
         self.make_room_for(rt, gate, &input)?;
         let heard = self.hear(rt, at, input)?;
-        self.follow(rt, gate, heard)
+        let came = came_of(&heard);
+        self.follow(rt, gate, heard)?;
+        Ok(came)
+    }
+
+    // What comes next from the device with this index is taken from its stream.
+    #[tactic(auto, using(crate::proofs::Others::same_but))]
+    fn next(&mut self, at: usize) -> Result<Option<Input>, Stopped>
+        requires kept { IsKept self.old }
+        requires within { at < length self.old.channels.items }
+        ensures comes { IfOk result (λ found. ComesAt at found self.old self.new) }
+        ensures heard { IfOk result (λ found. IfSome found IsHeard) }
+        ensures kept { OnOk result (IsKept self.new) }
+        ensures same { IsSame self.old self.new }
+    {
+        Ok(self.channels[at].inbound.next()?)
     }
 
     // Where a packet came: waits until the machine takes it in.
@@ -74,36 +90,40 @@ impl<'h> Driver<'h> {
 
     // An input from the device with this index is heard, whose session may end by it.
     fn hear<R: Wait>(&mut self, rt: &R, at: usize, input: Input) -> Result<Heard, Stopped>
+        requires kept { IsKept self.old }
         requires within { at < length self.old.channels.items }
-        requires few { length self.old.channels.items < 2 ^ 32 }
         requires heard { IsHeard input }
         ensures hears { IfOk result (λ heard. HearsAt at input heard self.old self.new) }
+        ensures kept { OnOk result (IsKept self.new) }
+        ensures waits { IfOk result (λ heard. NoneWaits self.old.desk → WaitsBy heard self.new.desk.now.jobs) }
         ensures same { IsSame self.old self.new }
     {
-        let connection = connection_of(at);
-        Ok(
-            self.desk
-                .hear(rt, connection, &mut self.channels[at].inbound, input)?,
-        )
+        driving_laws();
+        Ok(self.desk.hear(rt, &mut self.channels[at].inbound, input)?)
     }
 
     // The packet that was heard is answered, or handed over.
-    fn follow<R: Wait, G: Gate>(&mut self, rt: &R, gate: &G, heard: Heard) -> Result<Came, Stopped>
+    fn follow<R: Wait, G: Gate>(&mut self, rt: &R, gate: &G, heard: Heard) -> Result<(), Stopped>
         requires kept { IsKept self.old }
         requires waits { WorksAlone self.old → WaitsBy heard self.old.desk.now.jobs }
-        ensures came { IfOk result (λ came. came ≡ came_of heard) }
         ensures follows { OnOk result (Follows heard self.old self.new) }
         ensures same { IsSame self.old self.new }
     {
         match heard {
-            Heard::Packet(item) => {
-                self.attend(rt, gate, item)?;
-                Ok(Came::Message)
-            }
-            Heard::Ended => Ok(Came::Ended),
-            Heard::State => Ok(Came::State),
-            Heard::Other => Ok(Came::Message),
+            Heard::Packet(item) => self.attend(rt, gate, item),
+            Heard::Ended | Heard::State | Heard::Other => Ok(()),
         }
+    }
+}
+
+// What came, by what the machine made of it.
+fn came_of(heard: &Heard) -> Came
+    ensures { result ≡ came_of heard.now }
+{
+    match heard {
+        Heard::Ended => Came::Ended,
+        Heard::State => Came::State,
+        Heard::Packet(_) | Heard::Other => Came::Message,
     }
 }
 

@@ -3,7 +3,7 @@
 
 mod calling;
 pub mod channel;
-pub mod crew;
+mod crew;
 mod deliver;
 mod desk;
 pub mod driver;
@@ -14,14 +14,12 @@ mod offering;
 mod outbox;
 mod sessions;
 mod staging;
-mod stopped;
 mod taking;
 mod waiting;
 
 pub use channel::Channel;
-pub use crew::Crew;
+pub use desk_jobs::Stopped;
 pub use driver::Driver;
 pub use hear::Came;
 pub use laws::driving_laws;
 pub use outbox::connection_of;
-pub use stopped::Stopped;

@@ -3,7 +3,9 @@ ghost use Rattle.std.specs.Prelude.{◌≡◌, ◌<◌, IfOk, OnOk, length, map}
 ghost use Rattle.std.specs.List.{AllByRecursion};
 ghost use Rattle.machine_moves.specs.Sends.{CanBeOffered};
 ghost use Rattle.sim_channels.specs.Channels.{Fits, IsSame};
-ghost use Rattle.sim_channels.specs.Delivering.{CanOffer, GoesOn, IsPluggedIn, OffersAt, OffersFirst, offers_left};
+ghost use Rattle.machine_desk.specs.declared.inbound.Stage.TheVariants.{Live};
+ghost use Rattle.sim_channels.specs.Delivering.{CanOffer, GoesOn, OffersAt, OffersFirst, offers_left};
+ghost use Rattle.sim_channels.specs.Staging.{HasStage};
 
 use crate::laws::driving_laws;
 use crate::outbox::connection_of;
@@ -24,7 +26,7 @@ impl<'h> Driver<'h> {
     ) -> Result<bool, Stopped>
         requires fits { Fits self.old (map D.meaning devices.old) }
         requires within { at < length devices.old }
-        requires plugged { IsPluggedIn at self.old }
+        requires plugged { HasStage at Live self.old }
         requires can { CanOffer at self.old }
         requires some { 0 < offers_left at self.old }
         ensures done { OnOk result (OffersAt at self.old (map D.meaning devices.old) self.new (map D.meaning devices.new)) }

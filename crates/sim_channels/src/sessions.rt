@@ -3,14 +3,13 @@ ghost use Rattle.std.specs.Prelude.{◌≡◌, ◌+◌, IfErr, OnErr, OnOk};
 ghost use Rattle.machine_steps.specs.declared.entry.Entry.TheVariants as entries;
 ghost use Rattle.machine_desk.specs.Desks.{WearsOut};
 ghost use Rattle.machine_desk.specs.Orders.{Stops};
-ghost use Rattle.machine_desk.specs.declared.inbound.Stage.TheVariants.{Unopened};
+ghost use Rattle.machine_desk.specs.declared.inbound.Stage.TheVariants.{Live, Unopened};
 ghost use Rattle.sim_channels.specs.Channels.{IsKept, IsSame};
-ghost use Rattle.sim_channels.specs.Delivering.{IsPluggedIn, Leaves};
+ghost use Rattle.sim_channels.specs.Delivering.{Leaves};
 ghost use Rattle.sim_channels.specs.Staging.{ClosesAt, HasStage, OpensAt};
 
 use crate::Driver;
 use crate::laws::driving_laws;
-use crate::outbox::connection_of;
 use machine_desk::{DeskStop, Worn};
 use std::sync::Wait;
 
@@ -24,12 +23,14 @@ impl<'h> Driver<'h> {
         requires kept { IsKept self.old }
         requires unopened { HasStage at Unopened self.old }
         ensures opens { OnOk result (OpensAt at self.old self.new) }
+        ensures kept { OnOk result (IsKept self.new) }
         ensures stops { IfErr result (λ stop. Stops stop (entries.Open (at + 1)) self.old.desk self.new.desk) }
         ensures rest { OnErr result (self.new ≡ record self.old { desk = self.new.desk }) }
         ensures same { IsSame self.old self.new }
     {
-        self.desk
-            .open(rt, connection_of(at), &mut self.channels[at].inbound)
+        driving_laws();
+        self.desk.open(rt, &mut self.channels[at].inbound)?;
+        Ok(())
     }
 
     /// The session of the device with this index ends, as its link failed or not, and it is left alone from then on. That
@@ -40,13 +41,16 @@ impl<'h> Driver<'h> {
     /// `Worn`; the channel is as before.
     pub fn close<R: Wait>(&mut self, rt: &R, at: usize, fault: bool) -> Result<(), Worn>
         requires kept { IsKept self.old }
-        requires plugged { IsPluggedIn at self.old }
+        requires plugged { HasStage at Live self.old }
         ensures closes { OnOk result (ClosesAt at fault self.old self.new) }
+        ensures kept { OnOk result (IsKept self.new) }
         ensures worn { OnErr result (WearsOut self.old.desk self.new.desk) }
         ensures rest { OnErr result (self.new ≡ record self.old { desk = self.new.desk }) }
         ensures same { IsSame self.old self.new }
     {
-        self.desk.close(rt, connection_of(at), &mut self.channels[at].inbound, fault)
+        driving_laws();
+        self.desk.close(rt, &mut self.channels[at].inbound, fault)?;
+        Ok(())
     }
 
     /// The device with this index failed: its session ends, and it is left alone from then on.
@@ -56,13 +60,14 @@ impl<'h> Driver<'h> {
     /// `Worn`; the channel is as before.
     pub fn leave<R: Wait>(&mut self, rt: &R, at: usize) -> Result<(), Worn>
         requires kept { IsKept self.old }
-        requires plugged { IsPluggedIn at self.old }
+        requires plugged { HasStage at Live self.old }
         ensures worn { OnErr result (WearsOut self.old.desk self.new.desk) }
         ensures rest { OnErr result (self.new ≡ record self.old { desk = self.new.desk }) }
         ensures leaves { OnOk result (Leaves at self.old self.new) }
         ensures same { IsSame self.old self.new }
     {
         driving_laws();
-        self.close(rt, at, true)
+        self.close(rt, at, true)?;
+        Ok(())
     }
 }

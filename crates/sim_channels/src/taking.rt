@@ -1,7 +1,9 @@
 // The messages for a device are taken out of the machine.
 ghost use Rattle.std.specs.Prelude.{◌≡◌, IfOk, OnOk};
+ghost use Rattle.machine_desk.specs.declared.inbound.Stage.TheVariants.{Live};
 ghost use Rattle.sim_channels.specs.Channels.{IsKept, IsSame};
-ghost use Rattle.sim_channels.specs.Delivering.{IsPluggedIn, TakesMessages, TakesOut};
+ghost use Rattle.sim_channels.specs.Delivering.{TakesMessages, TakesOut};
+ghost use Rattle.sim_channels.specs.Staging.{HasStage};
 ghost use Rattle.sim_channels.specs.Waiting.{IsOffered};
 
 use crate::laws::driving_laws;
@@ -17,7 +19,7 @@ impl<'h> Driver<'h> {
     // What the machine has for the device with this index is taken out; all that was taken out before was offered.
     pub(crate) fn take_out<R: Wait>(&mut self, rt: &R, at: usize) -> Result<(), Stopped>
         requires kept { IsKept self.old }
-        requires plugged { IsPluggedIn at self.old }
+        requires plugged { HasStage at Live self.old }
         requires offered { IsOffered at self.old }
         ensures takes { OnOk result (TakesOut at self.old self.new) }
         ensures same { IsSame self.old self.new }

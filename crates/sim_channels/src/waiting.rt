@@ -1,7 +1,8 @@
 // Which devices have a message to deal with.
 ghost use Rattle.std.specs.Prelude.{◌≡◌, ℕ, ◌+◌, ◌<◌, true, false, length, MatchOption, OnOk};
 ghost use Rattle.sim_steps.specs.Benches.{is_plugged as is_plugged_place};
-ghost use Rattle.sim_channels.specs.Channels.{IsKept, IsSame, is_plugged_in};
+ghost use Rattle.machine_desk.specs.Hearing.{is_live};
+ghost use Rattle.sim_channels.specs.Channels.{IsKept, IsSame};
 ghost use Rattle.sim_channels.specs.Turns.{Appends, ChannelMoves, IsLowest, Waits, waits_in};
 
 use crate::{Channel, Driver};
@@ -59,7 +60,7 @@ impl<'h> Driver<'h> {
 }
 
 fn is_plugged(channel: &Channel) -> bool
-    ensures { result ≡ is_plugged_in channel.now.inbound.stage }
+    ensures { result ≡ is_live channel.now.inbound.stage }
 {
     channel.inbound.stage() == Stage::Live
 }

@@ -17,7 +17,8 @@ use Rattle.sim_steps.proofs.Joining.{carried_none}
 use Rattle.machine_desk.specs.declared.inbound.Stage.{Stage}
 use Rattle.machine_desk.specs.declared.inbound.Stage.TheVariants.{Live}
 use Rattle.sim_channels.specs.declared.driver.Driver.{Driver}
-use Rattle.sim_channels.specs.Channels.{Fits, IsKept, IsStaged, bench, is_plugged_in}
+use Rattle.machine_desk.specs.Hearing.{IsStaged, is_live}
+use Rattle.sim_channels.specs.Channels.{Fits, IsKept, bench}
 use Rattle.sim_channels.specs.Staging.{HasStage}
 use Rattle.sim_channels.specs.Waiting.{IsAtRest, IsQuiet, StaysBut}
 use Rattle.sim_channels.proofs.Others.{quiet_on}
@@ -40,7 +41,7 @@ pub staged_there : (d : Driver) (c at : ℕ) (stage : Stage) → IsKept d → c 
 staged_there d c at stage kept place h =
     subst (λ n. IsStaged n d.desk.now stage) (sym place) (subst (λ s. IsStaged (at + 1) d.desk.now s) h.is (kept.stages at h.channel h.there))
 
-pub others_closed : (stage : Stage) → (stage ≡ Live → ⊥) → is_plugged_in stage ≡ false
+pub others_closed : (stage : Stage) → (stage ≡ Live → ⊥) → is_live stage ≡ false
 others_closed Live other = absurd (other refl)
 others_closed stage other = refl
 

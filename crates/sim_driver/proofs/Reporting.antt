@@ -23,7 +23,7 @@ use Rattle.sim_steps.specs.Deeds.{Event}
 use Rattle.sim_steps.specs.Parts.{IsPart}
 use Rattle.sim_steps.specs.Stretches.{Carried, Obeyed, Stretch}
 use Rattle.sim_steps.proofs.Joining.{report_then}
-use Rattle.sim_channels.specs.declared.crew.Crew.{Crew}
+use Rattle.desk_jobs.specs.declared.crew.Crew.{Crew}
 use Rattle.sim_channels.specs.declared.driver.Driver.{Driver}
 use Rattle.sim_channels.specs.Channels.{EntersNext, Fits, IsKept, WorksAlone, bench}
 use Rattle.sim_channels.specs.Driving.{DrivingLaws}

@@ -20,7 +20,8 @@ use Rattle.machine_desk.specs.Hearing.{stage_opened}
 use Rattle.machine_desk.specs.declared.inbound.Stage.{Stage}
 use Rattle.machine_desk.specs.declared.inbound.Stage.TheVariants.{Over, Live, Unopened}
 use Rattle.sim_channels.specs.declared.driver.Driver.{Driver}
-use Rattle.sim_channels.specs.Channels.{Fits, IsKept, IsSame, OthersDid, bench, slots_of, was_plugged_in, with_stage}
+use Rattle.machine_desk.specs.Hearing.{was_begun}
+use Rattle.sim_channels.specs.Channels.{Fits, IsKept, IsSame, OthersDid, bench, slots_of, with_stage}
 use Rattle.sim_channels.specs.Driving.{DrivingLaws}
 use Rattle.sim_channels.specs.Waiting.{IsAtRest, IsDone}
 use Rattle.sim_channels.proofs.Keeping.{session_same}
@@ -46,7 +47,7 @@ may_open d at un devices fits =
     let device = there_too devices d.channels.items at un.channel (sym fits.places) un.there in
     let ks = d.channels.items in (
       ap (λ (o : Option Slot). is_some o) (slot_next at (slots_of ks devices) ∙ slots_get ks devices at un.channel device.0 un.there device.1),
-      (fits.kept.stages at un.channel un.there).opened ∙ ap was_plugged_in un.is,
+      (fits.kept.stages at un.channel un.there).opened ∙ ap was_begun un.is,
     )
 
 may_close : (d : Driver) (at : ℕ) (fault : Bool) → HasStage at Live d → (devices : List Meaning) → Fits d devices → MayEnter (entries.Gone (at + 1) fault) (bench d devices)

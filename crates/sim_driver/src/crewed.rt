@@ -11,13 +11,13 @@ ghost use Rattle.sim_driver.specs.Runs.{Ends, IsAtRefused, most_workers, refused
 use crate::drive::SimEnd;
 use crate::lines::{at_desk, deed_laws};
 use core_machine::{Core, JobItem};
+use desk_jobs::Crew;
 use device_port::Device;
 use history_lock::{Hall, Pass};
 use machine_desk::{Desk, Opening, close_hall};
 use machine_sharing::{between_laws, legal_laws};
 use maple_io::Sink;
 use packet_workers::{Gate, PacketWorks};
-use sim_channels::Crew;
 use std::alloc::Global;
 use std::sync::Wait;
 use std::thread::Threads;

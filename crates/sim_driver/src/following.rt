@@ -3,7 +3,8 @@ ghost use Rattle.std.specs.Prelude.{◌≡◌, ◌≢◌, map, length, false, tr
 ghost use Rattle.maple_io.specs.Views.{NoWriteFailed, WriteFailed};
 ghost use Rattle.script_text.specs.Steps.{IsKept as IsKeptStep};
 ghost use Rattle.machine_desk.specs.declared.report.ReportStop.TheVariants as stops;
-ghost use Rattle.sim_channels.specs.Channels.{SameCrew, bench};
+ghost use Rattle.desk_jobs.specs.Crews.{SameCrew};
+ghost use Rattle.sim_channels.specs.Channels.{bench};
 ghost use Rattle.sim_driver.specs.Passes.{Finished, IsMarked, IsReady, Passed};
 
 use crate::obeying::obey;

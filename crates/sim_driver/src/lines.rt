@@ -1,18 +1,19 @@
 // The lines of a script are run.
 ghost use Rattle.std.specs.Prelude.{◌≡◌, ◌≢◌, ◌+◌, ◌^◌, ◌<◌, None, map, length};
 ghost use Rattle.maple_io.specs.Views.{NoWriteFailed, WriteFailed};
-ghost use Rattle.sim_channels.specs.Channels.{MayHave, SameCrew};
+ghost use Rattle.desk_jobs.specs.Crews.{MayHave, SameCrew};
 ghost use Rattle.sim_driver.specs.Passes.{DeedLaws, DroveAt, EndsAt, IsOpened, IsOpenedAt, SameHall, end_of, given_at, with_memory};
 ghost use Rattle.sim_driver.specs.Runs.{IsAtRefused, refused_line};
 
 use crate::drive::SimEnd;
 use crate::following::{finish, follow};
+use desk_jobs::Crew;
 use device_port::Device;
 use machine_desk::{Desk, ReportStop};
 use maple_io::Sink;
 use packet_workers::Gate;
 use script_text::{StepStop, next_order};
-use sim_channels::{Crew, Driver};
+use sim_channels::Driver;
 use sim_laws::{agreeing_laws, past_law, world_law};
 use std::alloc::Global;
 use std::sync::Wait;

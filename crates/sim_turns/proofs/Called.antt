@@ -14,7 +14,8 @@ use Rattle.machine_steps.specs.declared.reply.Reply.TheVariants.{Done}
 use Rattle.sim_steps.specs.Benches.{Bench, Slot}
 use Rattle.sim_steps.specs.Deeds.{CallsAt, CallsSlot, TakesTurn, appends, has_failed}
 use Rattle.sim_steps.specs.Parts.{has_dealt}
-use Rattle.sim_channels.specs.Channels.{EntersNext, Fits, bench, is_plugged_in, slot_by, slots_of}
+use Rattle.machine_desk.specs.Hearing.{is_live}
+use Rattle.sim_channels.specs.Channels.{EntersNext, Fits, bench, slot_by, slots_of}
 use Rattle.sim_channels.specs.declared.channel.Channel.{Channel}
 use Rattle.sim_channels.specs.declared.driver.Driver.{Driver}
 use Rattle.sim_channels.specs.Turns.{Waits}
@@ -86,7 +87,7 @@ module _ (at : ℕ) (turned : Turned) (bytes : List ℕ) (old : Driver) (before 
   pub calls_at : (desk : DeskView) (l : Channel) → l.to ≡ waits.channel.to → l.inbound.from.stream ≡ fed bytes waits.channel.inbound.from.stream
       → EntersNext (entries.Note (notes.Turned (at + 1) turned)) Done old.desk desk → CallsAt (at + 1) (Turning turned bytes) Done (bench old before) (turned_bench desk l)
   calls_at desk l to from enters = record {
-    plugged = (fits.kept.stages at waits.channel waits.there).plugged ∙ ap is_plugged_in waits.plugged;
+    plugged = (fits.kept.stages at waits.channel waits.there).live ∙ ap is_live waits.plugged;
     slots = slots_move old.channels.items before at waits.channel l turns.before turns.behind (CallsSlot (Turning turned bytes)) waits.there turns.there
         (takes_turn turned bytes (slot_by waits.channel turns.before) (slot_by l turns.behind) turns.behind taken turns.turns
         (λ i. record { device = turns.behind; to = to i; from = from i }));

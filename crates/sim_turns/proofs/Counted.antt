@@ -16,7 +16,8 @@ use Rattle.sim_steps.specs.Deeds.Deed.{Enters, Calls}
 use Rattle.sim_steps.specs.Parts.{asked_of, asks, is_asked}
 use Rattle.sim_steps.specs.Stretches.{Carried}
 use Rattle.sim_steps.proofs.Turned.{is_turn}
-use Rattle.sim_channels.specs.Channels.{Fits, bench, is_plugged_in}
+use Rattle.machine_desk.specs.Hearing.{is_live}
+use Rattle.sim_channels.specs.Channels.{Fits, bench}
 use Rattle.sim_channels.specs.Driving.{DrivingLaws}
 use Rattle.sim_channels.specs.declared.channel.Channel.{Channel}
 use Rattle.sim_channels.specs.declared.driver.Driver.{Driver}
@@ -27,7 +28,7 @@ use Rattle.sim_turns.specs.Taking.{plugged_count}
 
 -- an open session was open before
 abbrev pub NoneOpens : List Channel → List Channel → Type 0
-NoneOpens ks ls = (n : ℕ) (k l : Channel) → slice_get ks n ≡ Some k → slice_get ls n ≡ Some l → is_plugged_in l.inbound.stage ≡ true → is_plugged_in k.inbound.stage ≡ true
+NoneOpens ks ls = (n : ℕ) (k l : Channel) → slice_get ks n ≡ Some k → slice_get ls n ≡ Some l → is_live l.inbound.stage ≡ true → is_live k.inbound.stage ≡ true
 
 one_by : Bool → ℕ
 one_by b = if b then 1 else 0
@@ -39,7 +40,7 @@ one_less true false h = omega arith
 one_less false true h = (let f : false ≡ true = h refl in absurd (cc))
 one_less false false h = omega arith
 
-counted : (k : Channel) (ks : List Channel) → plugged_count (k ∷ ks) ≡ one_by (is_plugged_in k.inbound.stage) + plugged_count ks
+counted : (k : Channel) (ks : List Channel) → plugged_count (k ∷ ks) ≡ one_by (is_live k.inbound.stage) + plugged_count ks
 unfolding one_by
 counted k ks = refl
 
@@ -48,7 +49,7 @@ count_le [] [] long h = omega arith
 count_le [] (l ∷ ls) long h = absurd (omega arith)
 count_le (k ∷ ks) [] long h = absurd (omega arith)
 count_le (k ∷ ks) (l ∷ ls) long h =
-    let one = one_less (is_plugged_in k.inbound.stage) (is_plugged_in l.inbound.stage) (h zero k l refl refl) in
+    let one = one_less (is_live k.inbound.stage) (is_live l.inbound.stage) (h zero k l refl refl) in
     let more = count_le ks ls (omega arith) (λ n x y e f. h (suc n) x y e f) in
     omega (arith, counted k ks, counted l ls)
 
@@ -60,15 +61,15 @@ one_fewer false b e f = absurd (cc)
 
 -- and one was open that isn't now
 pub count_lt : (ks ls : List Channel) (at : ℕ) (k l : Channel) → length ls ≡ length ks → NoneOpens ks ls → slice_get ks at ≡ Some k → slice_get ls at ≡ Some l
-    → is_plugged_in k.inbound.stage ≡ true → is_plugged_in l.inbound.stage ≡ false → plugged_count ls < plugged_count ks
+    → is_live k.inbound.stage ≡ true → is_live l.inbound.stage ≡ false → plugged_count ls < plugged_count ks
 count_lt [] ls at k l long h e f open_before shut = absurd (none-some k e)
 count_lt (x ∷ ks) [] at k l long h e f open_before shut = absurd (none-some l f)
 count_lt (x ∷ ks) (y ∷ ls) zero k l long h e f open_before shut =
-    let one = one_fewer (is_plugged_in x.inbound.stage) (is_plugged_in y.inbound.stage) (ap (λ (z : Channel). is_plugged_in z.inbound.stage) (same_Some x k e) ∙ open_before) (ap (λ (z : Channel). is_plugged_in z.inbound.stage) (same_Some y l f) ∙ shut) in
+    let one = one_fewer (is_live x.inbound.stage) (is_live y.inbound.stage) (ap (λ (z : Channel). is_live z.inbound.stage) (same_Some x k e) ∙ open_before) (ap (λ (z : Channel). is_live z.inbound.stage) (same_Some y l f) ∙ shut) in
     let more = count_le ks ls (omega arith) (λ n z w g i. h (suc n) z w g i) in
     omega (arith, counted x ks, counted y ls)
 count_lt (x ∷ ks) (y ∷ ls) (suc n) k l long h e f open_before shut =
-    let one = one_less (is_plugged_in x.inbound.stage) (is_plugged_in y.inbound.stage) (h zero x y refl refl) in
+    let one = one_less (is_live x.inbound.stage) (is_live y.inbound.stage) (h zero x y refl refl) in
     let more = count_lt ks ls n k l (omega arith) (λ m z w g i. h (suc m) z w g i) e f open_before shut in
     omega (arith, counted x ks, counted y ls)
 

@@ -17,7 +17,8 @@ use Rattle.machine_steps.specs.Machine.{session_at}
 use Rattle.sim_steps.specs.Benches.{Bench}
 use Rattle.sim_steps.specs.Stretches.{Stretch}
 use Rattle.sim_steps.proofs.Moments.{called, stretch_call}
-use Rattle.sim_channels.specs.Channels.{EntersNext, Fits, IsKept, IsSame, bench, is_plugged_in, slots_of}
+use Rattle.machine_desk.specs.Hearing.{is_live}
+use Rattle.sim_channels.specs.Channels.{EntersNext, Fits, IsKept, IsSame, bench, slots_of}
 use Rattle.sim_channels.specs.Driving.{DrivingLaws}
 use Rattle.sim_channels.specs.Waiting.{IsAtRest, IsAtRestBut, IsDone, IsOffered, IsQuiet, IsTaken as IsTakenOut, StaysBut}
 use Rattle.sim_channels.specs.declared.channel.Channel.{Channel}
@@ -105,8 +106,8 @@ module _ (laws : DrivingLaws) (at : ℕ) (turned : Turned) (bytes : List ℕ) (o
       ⊎_elim (λ here.
       (let is : L ≡ y = same_Some L y (sym (is_there at K L old new at_channel) ∙ ap (slice_get new.channels.items) (sym here) ∙ f) in
       let first : K ≡ x = same_Some K x (sym waits.there ∙ ap (slice_get old.channels.items) (sym here) ∙ e) in
-      ap (λ (z : Channel). is_plugged_in z.inbound.stage) (sym first) ∙ ap is_plugged_in (sym changes.stage) ∙ ap (λ (z : Channel). is_plugged_in z.inbound.stage) is ∙ open_now))
-      (λ o. (let is : x ≡ y = same_Some x y (sym e ∙ sym (is_beside at K L old new at_channel n o) ∙ f) in ap (λ (z : Channel). is_plugged_in z.inbound.stage) is ∙ open_now)) (cases_eq n at)
+      ap (λ (z : Channel). is_live z.inbound.stage) (sym first) ∙ ap is_live (sym changes.stage) ∙ ap (λ (z : Channel). is_live z.inbound.stage) is ∙ open_now))
+      (λ o. (let is : x ≡ y = same_Some x y (sym e ∙ sym (is_beside at K L old new at_channel n o) ∙ f) in ap (λ (z : Channel). is_live z.inbound.stage) is ∙ open_now)) (cases_eq n at)
 
   dealt_tires : Tires turned old new
   dealt_tires =

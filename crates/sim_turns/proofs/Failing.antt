@@ -17,7 +17,8 @@ use Rattle.sim_steps.specs.Benches.{Bench}
 use Rattle.sim_steps.specs.Deeds.{CallsAt, has_failed}
 use Rattle.sim_steps.specs.Parts.{has_dealt}
 use Rattle.sim_steps.proofs.Moments.{called, stretch_failed}
-use Rattle.sim_channels.specs.Channels.{EntersNext, Fits, IsKept, bench, is_plugged_in, slots_of}
+use Rattle.machine_desk.specs.Hearing.{is_live}
+use Rattle.sim_channels.specs.Channels.{EntersNext, Fits, IsKept, bench, slots_of}
 use Rattle.sim_channels.specs.Delivering.{Leaves}
 use Rattle.sim_channels.specs.Driving.{DrivingLaws}
 use Rattle.sim_channels.specs.Waiting.{IsAtRest, IsAtRestBut}
@@ -65,19 +66,19 @@ module _ (laws : DrivingLaws) (at : ℕ) (turned : Turned) (bytes : List ℕ) (o
       rests_but laws at mid new kept_told leaves.kept leaves.spares.same rest_told leaves.spares.others (λ done. leaves.spares.jobs done.jobs)
       (λ done. all_left (λ k. messages_for (at + 1) new.desk.now ≡ []) at new leaves.left) (all_left (λ k. k.to ≡ []) at new leaves.left)
 
-  left_shut : (y : Channel) → slice_get new.channels.items at ≡ Some y → is_plugged_in y.inbound.stage ≡ false
-  left_shut y there = ap is_plugged_in (leaves.left y there)
+  left_shut : (y : Channel) → slice_get new.channels.items at ≡ Some y → is_live y.inbound.stage ≡ false
+  left_shut y there = ap is_live (leaves.left y there)
 
   none_opens : NoneOpens mid.channels.items new.channels.items
   none_opens n x y e f open_now =
       ⊎_elim (λ here. (let g : true ≡ false = sym open_now ∙ left_shut y (ap (slice_get new.channels.items) (sym here) ∙ f) in absurd (cc)))
-      (λ o. (let is : x ≡ y = same_Some x y (sym e ∙ sym (leaves.spares.others.channels n o) ∙ f) in ap (λ (z : Channel). is_plugged_in z.inbound.stage) is ∙ open_now)) (cases_eq n at)
+      (λ o. (let is : x ≡ y = same_Some x y (sym e ∙ sym (leaves.spares.others.channels n o) ∙ f) in ap (λ (z : Channel). is_live z.inbound.stage) is ∙ open_now)) (cases_eq n at)
 
   failed_tires : Tires turned old new
   failed_tires =
       let within : at < length mid.channels.items = slice_get_within mid.channels.items at K there_told in
       let l = there_is new.channels.items at (omega (arith, leaves.places)) in
-      let fewer = count_lt mid.channels.items new.channels.items at K l.0 leaves.places none_opens there_told l.1 (ap is_plugged_in waits.plugged) (left_shut l.0 l.1) in
+      let fewer = count_lt mid.channels.items new.channels.items at K l.0 leaves.places none_opens there_told l.1 (ap is_live waits.plugged) (left_shut l.0 l.1) in
       let none : has_dealt turned ≡ 0 = ap has_dealt failed in
       subst (λ ks. plugged_count new.channels.items < plugged_count ks + has_dealt turned) channels_same (omega arith)
 

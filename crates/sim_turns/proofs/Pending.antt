@@ -6,7 +6,8 @@ use Rattle.of10_codec.specs.declared.message.Message.{Message}
 use Rattle.device_port.specs.Devices.{Meaning}
 use Rattle.sim_steps.specs.Benches.{Slot, is_plugged}
 use Rattle.sim_steps.specs.Parts.{HasPending, IsExhausted}
-use Rattle.sim_channels.specs.Channels.{Fits, bench, is_plugged_in, slot_by, slots_of}
+use Rattle.machine_desk.specs.Hearing.{is_live}
+use Rattle.sim_channels.specs.Channels.{Fits, bench, slot_by, slots_of}
 use Rattle.sim_channels.specs.declared.driver.Driver.{Driver}
 use Rattle.sim_channels.specs.Turns.{NoneBefore, Waits}
 use Rattle.sim_channels.proofs.Resting.{plugged_in}
@@ -40,7 +41,7 @@ module _ (driver : Driver) (devices : List Meaning) (fits : Fits driver devices)
       record {
         slot = slot_by h.channel d.0;
         is = record {
-          plugged = (fits.kept.stages at h.channel h.there).plugged ∙ ap is_plugged_in h.plugged;
+          plugged = (fits.kept.stages at h.channel h.there).live ∙ ap is_live h.plugged;
           there = slot_next at (slots_of driver.channels.items devices) ∙ slots_get driver.channels.items devices at h.channel d.0 h.there d.1;
         };
         some = some_there d.0.pending (subst (λ n. 0 < n) counted h.some);
@@ -49,7 +50,7 @@ module _ (driver : Driver) (devices : List Meaning) (fits : Fits driver devices)
   waits_by : (c : ℕ) → HasPending c (bench driver devices) → WaitsAt c driver
   waits_by c h =
       let f = slots_found driver.channels.items devices c h.slot h.is.there in
-      let staged : is_plugged (f.at + 1) driver.desk.now ≡ is_plugged_in f.channel.inbound.stage = (fits.kept.stages f.at f.channel f.there).plugged in
+      let staged : is_plugged (f.at + 1) driver.desk.now ≡ is_live f.channel.inbound.stage = (fits.kept.stages f.at f.channel f.there).plugged in
       let pending : f.device.pending ≡ [] → ⊥ = λ e. h.some (ap (λ (s : Slot). s.device.pending) f.is ∙ e) in
       let counted : f.channel.waiting ≡ length f.device.pending = fits.waiting f.at f.channel f.device f.there f.behind in
       record {

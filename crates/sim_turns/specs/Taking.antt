@@ -8,7 +8,8 @@ use Rattle.sim_steps.specs.Benches.{Bench}
 use Rattle.sim_steps.specs.Deeds.{Event}
 use Rattle.sim_steps.specs.Parts.{IsTurnAt, has_dealt, turns_taken}
 use Rattle.sim_steps.specs.Stretches.{Stretch}
-use Rattle.sim_channels.specs.Channels.{Fits, bench, is_plugged_in}
+use Rattle.machine_desk.specs.Hearing.{is_live}
+use Rattle.sim_channels.specs.Channels.{Fits, bench}
 use Rattle.sim_channels.specs.declared.channel.Channel.{Channel}
 use Rattle.sim_channels.specs.declared.driver.Driver.{Driver}
 use Rattle.sim_turns.specs.Turning.{TakesOne}
@@ -18,7 +19,7 @@ use Rattle.sim_turns.specs.Turning.{TakesOne}
 -- how many sessions are open
 abbrev pub plugged_count : List Channel → ℕ
 plugged_count [] = 0
-plugged_count (k ∷ ks) = (if is_plugged_in k.inbound.stage then 1 else 0) + plugged_count ks
+plugged_count (k ∷ ks) = (if is_live k.inbound.stage then 1 else 0) + plugged_count ks
 
 -- no session was opened, and one ended behind a turn in which no message was dealt with
 abbrev pub Tires : Turned → Driver → Driver → Type 0

@@ -79,10 +79,34 @@ impl News {
     }
 }
 
+// What stands under the lock.
+#[derive(Clone, Copy)]
+struct Room {
+    news: News,
+    /// How many sleep, modulo 2^32: where nobody does, nobody is woken.
+    sleepers: u32,
+}
+
+impl Room {
+    // One more sleeps.
+    fn begin_sleep(&mut self)
+        ensures { self.new ≡ record self.old { sleepers = self.new.sleepers } }
+    {
+        self.sleepers = self.sleepers.wrapping_add(1);
+    }
+
+    // One of them woke up.
+    fn end_sleep(&mut self)
+        ensures { self.new ≡ record self.old { sleepers = self.new.sleepers } }
+    {
+        self.sleepers = self.sleepers.wrapping_sub(1);
+    }
+}
+
 /// The news under a lock, with a condition variable.
 #[derive(Drop)]
 pub struct Lobby {
-    news: Mutex<News>,
+    room: Mutex<Room>,
     moved: Condvar,
 }
 
@@ -90,11 +114,14 @@ impl Lobby {
     /// No move yet, no worker, open.
     pub fn new() -> Lobby {
         Lobby {
-            news: Mutex::new(News {
-                moves: 0,
-                workers: 0,
-                closed: false,
-                broken: None,
+            room: Mutex::new(Room {
+                news: News {
+                    moves: 0,
+                    workers: 0,
+                    closed: false,
+                    broken: None,
+                },
+                sleepers: 0,
             }),
             moved: Condvar::new(),
         }
@@ -102,48 +129,67 @@ impl Lobby {
 
     /// Meant to give the news as they are, for who is to wait for a move past these.
     pub fn news<R: Wait>(&self, rt: &R) -> News {
-        *self.news.lock(rt)
+        self.room.lock(rt).news
     }
 
     /// Meant to tell of a move, and to wake all.
     pub fn tell<R: Wait>(&self, rt: &R) {
-        self.news.lock(rt).tell();
-        self.moved.notify_all();
+        let mut room = self.room.lock(rt);
+        room.news.tell();
+        self.wake_all(room.sleepers);
     }
 
     /// Meant to count a worker more, which is a move.
     pub fn announce<R: Wait>(&self, rt: &R) {
-        self.news.lock(rt).announce();
-        self.moved.notify_all();
+        let mut room = self.room.lock(rt);
+        room.news.announce();
+        self.wake_all(room.sleepers);
     }
 
     /// Meant to tell that nothing more is offered, which is a move.
     pub fn close<R: Wait>(&self, rt: &R) {
-        self.news.lock(rt).close();
-        self.moved.notify_all();
+        let mut room = self.room.lock(rt);
+        room.news.close();
+        self.wake_all(room.sleepers);
     }
 
     /// Meant to tell why a worker gave up, which is a move.
     pub fn give_up<R: Wait>(&self, rt: &R, cause: GaveUp) {
-        self.news.lock(rt).give_up(cause);
-        self.moved.notify_all();
+        let mut room = self.room.lock(rt);
+        room.news.give_up(cause);
+        self.wake_all(room.sleepers);
+    }
+
+    // Wakes all that sleep, if anybody does.
+    fn wake_all(&self, sleepers: u32) {
+        if sleepers > 0 {
+            self.moved.notify_all();
+        }
     }
 
     /// Waits. It returns only news by which the count of moves isn't `seen`, or the lobby is closed or broken.
     pub fn wait_past<R: Wait>(&self, rt: &R, seen: u64) -> News
         ensures { CallsAll seen result }
     {
-        *self
+        let mut room = self.room.lock(rt);
+        room.begin_sleep();
+        let mut room = self
             .moved
-            .wait_while(rt, self.news.lock(rt), |news| news.leaves_all(seen))
+            .wait_while(rt, room, |room| room.news.leaves_all(seen));
+        room.end_sleep();
+        room.news
     }
 
     /// Waits, as a worker does. It returns only news by which the count of moves isn't `seen`, or the lobby is closed.
     pub fn wait_for_work<R: Wait>(&self, rt: &R, seen: u64) -> News
         ensures { CallsWorkers seen result }
     {
-        *self
+        let mut room = self.room.lock(rt);
+        room.begin_sleep();
+        let mut room = self
             .moved
-            .wait_while(rt, self.news.lock(rt), |news| news.leaves_workers(seen))
+            .wait_while(rt, room, |room| room.news.leaves_workers(seen));
+        room.end_sleep();
+        room.news
     }
 }

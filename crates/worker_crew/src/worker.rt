@@ -37,7 +37,8 @@ fn work_one<R: Wait, M: Machine, T, W: Works<M, T>>(
 /// Works items by its passes. An `Err` is why it gave up at the last item that it took. `Ok`: no item that it took failed.
 ///
 /// It is meant to sleep where there is no item, to end with `Ok` once the lobby is closed and the queue is empty, and to
-/// tell the lobby of an `Err`.
+/// tell the lobby of an `Err`. Of items that it worked it tells once it finds no further one: so the last one is told of, and
+/// who waits for all isn't woken at each.
 #[tactic(auto, using(crate::proofs::Toiling::toiled_none, crate::proofs::Toiling::toiled_then, crate::proofs::Toiling::toiled_still, crate::proofs::Crewing::suits_same))]
 pub fn serve<R: Wait, M: Machine, T, W: Works<M, T>>(
     rt: &R,
@@ -58,13 +59,18 @@ pub fn serve<R: Wait, M: Machine, T, W: Works<M, T>>(
 {
     lobby.announce(rt);
     let mut closed = false;
+    let mut untold = false;
     for _ in rt.forever() {
         let seen = lobby.news(rt).moves;
         match work_one(rt, hall, pass, jobs, taker, works) {
-            Some(Ok(())) => lobby.tell(rt),
+            Some(Ok(())) => untold = true,
             Some(Err(cause)) => {
                 lobby.give_up(rt, cause);
                 return Err(cause);
+            }
+            None if untold => {
+                untold = false;
+                lobby.tell(rt);
             }
             None => {
                 if closed {

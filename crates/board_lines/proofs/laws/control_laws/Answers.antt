@@ -1,4 +1,4 @@
-use Rattle.board_lines.proofs.Bytewise.{any_pieces, begins_at, ends_at, goes_on_at}
+use Rattle.board_lines.proofs.Bytewise.{any_first_line, any_pieces, begins_at, ends_at, goes_on_at}
 use Rattle.board_lines.proofs.Orders.{begins_as_ordered}
 use Rattle.board_lines.proofs.laws.control_laws.Goals as goal
 
@@ -13,6 +13,9 @@ returns-clause-ends c = ends_at
 
 pub returns-clause-pieces : goal.returns-clause-pieces
 returns-clause-pieces c = any_pieces
+
+pub returns-clause-numbered : goal.returns-clause-numbered
+returns-clause-numbered c = any_first_line
 
 pub returns-clause-ordered : goal.returns-clause-ordered
 returns-clause-ordered c = begins_as_ordered

@@ -1,5 +1,5 @@
 use Rattle.std.proofs.Common.{length}
-use Rattle.board_lines.specs.Deliveries.{StepsOn}
+use Rattle.board_lines.specs.Deliveries.{GoodSends, StepsOn}
 use Rattle.maple_io.specs.Boards.{NoBoardFailed, NoLinkBroke}
 use Rattle.board_lines.proofs.sending.send_rest.Given as goal
 
@@ -7,6 +7,7 @@ use Rattle.board_lines.proofs.sending.send_rest.Given as goal
 abbrev pub invariant-loop-queue : goal.invariant-loop-queue
 invariant-loop-queue g l = record {
   steps : StepsOn l.fn.queue l.queue (g.B.Board.tells l.fn.board).log (g.B.Board.tells l.board).log;
+  answers : GoodSends l.fn.queue.number (g.B.Board.tells l.fn.board).log (g.B.Board.tells l.board).log;
   whole : NoLinkBroke (g.B.Board.tells l.fn.board) (g.B.Board.tells l.board);
   faults : NoBoardFailed (g.B.Board.tells l.fn.board) (g.B.Board.tells l.board);
 }

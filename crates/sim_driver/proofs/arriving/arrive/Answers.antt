@@ -2,7 +2,7 @@ use Rattle.std.proofs.Common.{ap, ◌∙◌}
 use Rattle.machine_steps.specs.declared.note.Note.TheVariants as notes
 use Rattle.script_text.specs.Orders.Order.{Arrival}
 use Rattle.sim_steps.specs.Parts.{JustLooks}
-use Rattle.sim_channels.specs.Channels.{is_plugged_in}
+use Rattle.machine_desk.specs.Hearing.{is_live}
 use Rattle.sim_driver.proofs.Calling.{obeyed_looked}
 use Rattle.sim_driver.proofs.Doing.{if_absent, obeyed_noted, of_ok, on_ok, others_closed, staged_there}
 use Rattle.sim_driver.proofs.arriving.arrive.Goals as goal
@@ -17,7 +17,7 @@ returns-in_ok-look-in-Live-clause-obeyed g c =
     let at = c.index_of-at.result in
     let staged = staged_there d place at c.stage.result h.fits.kept c.index_of-at.ensures c.stage.ensures in
     on_ok r (λ u e.
-    obeyed_looked d _ c.look.new.driver _ c.attend.new.driver _ place at c.args.port c.args.frame c.index_of-at.ensures (staged.plugged ∙ ap is_plugged_in c.in-Live.is)
+    obeyed_looked d _ c.look.new.driver _ c.attend.new.driver _ place at c.args.port c.args.frame c.index_of-at.ensures (staged.plugged ∙ ap is_live c.in-Live.is)
     c.in_ok-look-in-Live.ensures.looked (of_ok _ r u e done.carried) (of_ok _ r u e done.fits).kept (of_ok _ r u e done.rest))
 
 pub returns-in_default-clause-obeyed : goal.returns-in_default-clause-obeyed

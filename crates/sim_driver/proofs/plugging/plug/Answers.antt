@@ -2,7 +2,7 @@ use Rattle.std.proofs.Common.{sym, ap, ◌∙◌, subst, inl}
 use Rattle.script_text.specs.Orders.Order.{Plug}
 use Rattle.machine_steps.specs.declared.entry.Entry.TheVariants as entries
 use Rattle.machine_steps.specs.declared.note.Note.TheVariants as notes
-use Rattle.sim_channels.specs.Channels.{is_plugged_in, was_plugged_in}
+use Rattle.machine_desk.specs.Hearing.{is_live, was_begun}
 use Rattle.sim_channels.proofs.Others.{alone_back, same_then}
 use Rattle.sim_channels.proofs.Places.{fits_but, rest_but}
 use Rattle.sim_driver.specs.Commands.{AsksFor}
@@ -21,7 +21,7 @@ returns-in-Live-clause-obeyed g c =
     let place = c.args.place in
     let staged = staged_there d place c.index_of-at.result c.stage.result h.fits.kept c.index_of-at.ensures c.stage.ensures in
     on_ok c.note.result (λ u e.
-    obeyed_noted (Plug place) (notes.Present place) d c.note.new.driver _ (plugs_present place d.desk.now (staged.plugged ∙ ap is_plugged_in c.in-Live.is)) h.fits
+    obeyed_noted (Plug place) (notes.Present place) d c.note.new.driver _ (plugs_present place d.desk.now (staged.plugged ∙ ap is_live c.in-Live.is)) h.fits
     (of_ok _ c.note.result u e c.note.ensures.told) (of_ok _ c.note.result u e c.note.ensures.kept) (of_ok _ c.note.result u e c.note.ensures.rest))
 
 pub returns-in-Over-clause-obeyed : goal.returns-in-Over-clause-obeyed
@@ -33,7 +33,7 @@ returns-in-Over-clause-obeyed g c =
     let r = c.note-in-Over.result in
     on_ok r (λ u e.
     obeyed_noted (Plug place) (notes.GoneAlready place) d c.note-in-Over.new.driver _
-    (plugs_gone place d.desk.now (staged.plugged ∙ ap is_plugged_in c.in-Over.is) (staged.opened ∙ ap was_plugged_in c.in-Over.is)) h.fits
+    (plugs_gone place d.desk.now (staged.plugged ∙ ap is_live c.in-Over.is) (staged.opened ∙ ap was_begun c.in-Over.is)) h.fits
     (of_ok _ r u e c.note-in-Over.ensures.told) (of_ok _ r u e c.note-in-Over.ensures.kept) (of_ok _ r u e c.note-in-Over.ensures.rest))
 
 pub returns-in_ok-open-in-Unopened-clause-rest : goal.returns-in_ok-open-in-Unopened-clause-rest
@@ -62,5 +62,5 @@ returns-in_ok-open-in-Unopened-clause-obeyed g c =
     let staged = staged_there d place c.index_of-at.result c.stage.result h.fits.kept c.index_of-at.ensures c.stage.ensures in
     on_ok r (λ u e.
     obeyed_done (Plug place) (entries.Open place) d c.open.new.driver _ c.deliver.new.self _
-    (plugs_now place d.desk.now (staged.plugged ∙ ap is_plugged_in c.in-Unopened.is) (staged.opened ∙ ap was_plugged_in c.in-Unopened.is)) h.fits
+    (plugs_now place d.desk.now (staged.plugged ∙ ap is_live c.in-Unopened.is) (staged.opened ∙ ap was_begun c.in-Unopened.is)) h.fits
     (subst (λ n. AsksFor (entries.Open n) d c.open.new.driver) (sym c.index_of-at.ensures) c.in_ok-open-in-Unopened.ensures.asked) (of_ok _ r u e done.carried) (of_ok _ r u e done.fits).kept (of_ok _ r u e (returns-in_ok-open-in-Unopened-clause-rest g c)))

@@ -3,7 +3,7 @@ use Rattle.script_text.specs.Orders.Order.{Unplug}
 use Rattle.machine_steps.specs.declared.entry.Entry.TheVariants as entries
 use Rattle.machine_steps.specs.declared.note.Note.TheVariants as notes
 use Rattle.sim_steps.specs.Parts.{JustEnters}
-use Rattle.sim_channels.specs.Channels.{is_plugged_in}
+use Rattle.machine_desk.specs.Hearing.{is_live}
 use Rattle.sim_channels.proofs.Places.{fits_but}
 use Rattle.sim_driver.specs.Commands.{AsksFor}
 use Rattle.sim_driver.proofs.Doing.{if_absent, if_plugged, obeyed_asked, obeyed_noted, of_ok, on_ok, others_closed, staged_there}
@@ -24,7 +24,7 @@ returns-in-Live-clause-obeyed g c =
     let staged = staged_there d place c.index_of-at.result c.stage.result h.kept c.index_of-at.ensures c.stage.ensures in
     on_ok r (λ u e devices fits.
     obeyed_asked (Unplug place) (entries.Gone place false) d c.close.new.driver devices
-    (λ es just. if_plugged place d.desk.now es (JustEnters (entries.Gone place false) es) (staged.plugged ∙ ap is_plugged_in c.in-Live.is) just) fits
+    (λ es just. if_plugged place d.desk.now es (JustEnters (entries.Gone place false) es) (staged.plugged ∙ ap is_live c.in-Live.is) just) fits
     (subst (λ n. AsksFor (entries.Gone n false) d c.close.new.driver) (sym c.index_of-at.ensures) (of_ok _ r u e c.close.ensures.asked)) (of_ok _ r u e c.close.ensures.changes).kept (of_ok _ r u e c.close.ensures.rest))
 
 pub returns-in_default-clause-obeyed : goal.returns-in_default-clause-obeyed

@@ -1,6 +1,6 @@
 use Rattle.std.proofs.Common.{Ok, Err, ap}
 use Rattle.std.specs.Prelude.{OnOk, Result, is_some}
-use Rattle.sim_channels.specs.declared.stopped.Stopped.{Stopped}
+use Rattle.desk_jobs.specs.declared.stopped.Stopped.{Stopped}
 use Rattle.sim_channels.specs.Answering.{IsWhole}
 use Rattle.sim_channels.specs.Passes.{Attends}
 use Rattle.sim_channels.specs.declared.driver.Driver.{Driver}

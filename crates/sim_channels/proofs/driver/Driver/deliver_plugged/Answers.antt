@@ -18,4 +18,4 @@ loop-self-preserved g c =
     }
 
 pub returns-clause-offered : goal.returns-clause-offered
-returns-clause-offered g c = offered_all c.args.at c.loop-self.self c.index.result.now c.loop-self.invariant.plugged c.index.ensures (sym c.is_empty.ensures ∙ c.loop-self-test.false)
+returns-clause-offered g c = offered_all c.args.at c.loop-self.self c.index.result.now c.index.ensures (sym c.is_empty.ensures ∙ c.loop-self-test.false)

@@ -1,17 +1,24 @@
-use Rattle.std.proofs.Common.{length, refl, subst}
+use Rattle.std.proofs.Common.{length, refl}
+use Rattle.std.specs.Vec.{with_item}
 use Rattle.std.proofs.lemmas.Option.{slice_get_read}
-use Rattle.machine_desk.specs.Hearing.{Hears}
+use Rattle.sim_channels.specs.declared.driver.Driver.{Driver}
+use Rattle.sim_channels.proofs.Kept.{with_inbound}
+use Rattle.sim_channels.proofs.Others.{same_but}
+use Rattle.sim_channels.proofs.Staged.{kept_heard, waits_heard}
 use Rattle.sim_channels.proofs.driver.Driver.hear.Goals as goal
 
-pub returns-clause-hears : goal.returns-clause-hears
-returns-clause-hears g c =
+pub returns : goal.returns
+returns g c =
     let old = c.args.self.now in
     let k = c.index_mut.result.now in
+    let j = c.hear.new.inbound in
+    let there = slice_get_read old.channels.items (length old.channels.items) c.args.at k refl c.requires.within c.index_mut.ensures.value in
+    let new : Driver = record old { desk = c.hear.new.self; channels = with_item old.channels c.args.at (with_inbound j k) } in
+    let h = c.in_ok-hear.ensures in
+    let same = same_but old new refl h.footing in
     record {
-      channel = k;
-      there = slice_get_read old.channels.items (length old.channels.items) c.args.at k refl c.requires.within c.index_mut.ensures.value;
-      behind = c.hear.new.inbound;
-      hears = subst (λ n. Hears n c.args.input c.in_ok-hear.field-0 old.desk k.inbound c.hear.new.self c.hear.new.inbound) c.connection_of-connection.ensures c.in_ok-hear.ensures.ok;
-      rest = refl;
-      channels = refl;
+      hears = record { channel = k; there = there; behind = j; hears = h.ok; rest = refl; channels = refl };
+      kept = kept_heard c.driving_laws.ensures old new c.args.at k j c.requires.kept there refl refl same c.args.input c.in_ok-hear.field-0 h.ok h.staged;
+      waits = waits_heard c.driving_laws.ensures old new c.args.at k j c.requires.kept there refl refl same c.args.input c.in_ok-hear.field-0 h.ok;
+      same = same;
     }

@@ -15,5 +15,6 @@ returns-in-Ok g c =
       unused = c.in-Ok.ensures.unused;
       count = c.in-Ok.ensures.count ∙ sym long;
       few = subst (λ n. n < 2 ^ 32) (sym long) c.in-Ok.ensures.few;
+      names = c.in-Ok.ensures.names;
     } in
     record { desk = refl; crew = refl; opening = new_bench driver devices h; fits = new_fits driver devices h c.requires.idle; rest = new_rest driver devices h; back = tt }

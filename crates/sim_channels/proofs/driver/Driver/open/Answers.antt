@@ -1,29 +1,30 @@
-use Rattle.std.proofs.Common.{length, refl, subst}
+use Rattle.std.proofs.Common.{refl}
 use Rattle.std.specs.Vec.{with_item}
-use Rattle.std.proofs.lemmas.Option.{slice_get_read, slice_get_within}
-use Rattle.std.proofs.lemmas.Result.{on_err_weaker, on_ok_weaker}
-use Rattle.machine_desk.specs.Hearing.{Opens}
+use Rattle.machine_desk.specs.declared.inbound.Stage.TheVariants.{Unopened}
 use Rattle.sim_channels.specs.declared.driver.Driver.{Driver}
-use Rattle.sim_channels.proofs.Staged.{opens_at, stays_as_it_was}
+use Rattle.sim_channels.proofs.Kept.{with_inbound}
+use Rattle.sim_channels.proofs.Others.{same_but}
+use Rattle.sim_channels.proofs.Staged.{kept_opened, opens_at, on_err, stands, stays_as_it_was}
 use Rattle.sim_channels.proofs.driver.Driver.open.Goals as goal
 
-pub returns-clause-opens : goal.returns-clause-opens
-returns-clause-opens g c =
+pub returns-in_err-open-clause-rest : goal.returns-in_err-open-clause-rest
+returns-in_err-open-clause-rest g c =
+    let s = stands c.args.at Unopened c.args.self.now c.index_mut.result.now c.requires.unopened c.index_mut.ensures.value in
+    on_err c.from_residual.result (stays_as_it_was c.args.self.now c.args.at c.index_mut.result.now c.open.new.inbound c.open.new.self s.there c.in_err-open.ensures.same)
+
+pub returns : goal.returns
+returns g c =
     let old = c.args.self.now in
-    let p = c.requires.unopened in
     let k = c.index_mut.result.now in
     let j = c.open.new.inbound in
-    let within = slice_get_within old.channels.items c.args.at p.channel p.there in
-    let there = slice_get_read old.channels.items (length old.channels.items) c.args.at k refl within c.index_mut.ensures.value in
-    let new : Driver = record old { desk = c.open.new.self; channels = with_item old.channels c.args.at (record k { inbound = j }) } in
-    on_ok_weaker c.open.result
-    (λ opens. opens_at old new c.args.at k j there refl refl (subst (λ n. Opens n old.desk k.inbound new.desk j) c.connection_of.ensures opens)) c.open.ensures.ok
-
-pub returns-clause-rest : goal.returns-clause-rest
-returns-clause-rest g c =
-    let old = c.args.self.now in
-    let p = c.requires.unopened in
-    let k = c.index_mut.result.now in
-    let within = slice_get_within old.channels.items c.args.at p.channel p.there in
-    let there = slice_get_read old.channels.items (length old.channels.items) c.args.at k refl within c.index_mut.ensures.value in
-    on_err_weaker c.open.result (stays_as_it_was old c.args.at k c.open.new.inbound c.open.new.self there) c.open.ensures.same
+    let s = stands c.args.at Unopened old k c.requires.unopened c.index_mut.ensures.value in
+    let new : Driver = record old { desk = c.open.new.self; channels = with_item old.channels c.args.at (with_inbound j k) } in
+    let h = c.in_ok-open.ensures in
+    let same = same_but old new refl h.footing in
+    record {
+      opens = opens_at c.driving_laws.ensures old new c.args.at k j c.requires.kept s.there refl refl same h.ok;
+      kept = kept_opened c.driving_laws.ensures old new c.args.at k j c.requires.kept s.there refl refl same h.ok s.is h.staged;
+      stops = tt;
+      rest = tt;
+      same = same;
+    }

@@ -1,11 +1,12 @@
-use Rattle.std.proofs.Common.{◌<◌, refl, sym, ap, ◌∙◌, subst}
+use Rattle.std.proofs.Common.{◌+◌, ◌<◌, refl, sym, subst}
 use Rattle.std.specs.Vec.{with_item}
-use Rattle.std.proofs.lemmas.Option.{get_or_from_slice_get, slice_get_within}
-use Rattle.sim_channels.specs.declared.channel.Channel.{Channel}
+use Rattle.std.proofs.lemmas.Option.{slice_get_within}
+use Rattle.machine_desk.specs.declared.inbound.Stage.TheVariants.{Live}
 use Rattle.sim_channels.specs.declared.driver.Driver.{Driver}
 use Rattle.sim_channels.specs.Delivering.{TakesMessages}
 use Rattle.sim_channels.proofs.Emptied.{taken_out, taken_spelled}
 use Rattle.sim_channels.proofs.Others.{same_but}
+use Rattle.sim_channels.proofs.Staged.{stands}
 use Rattle.sim_channels.proofs.driver.Driver.take_out.Goals as goal
 
 pub new-requires-clause-spelled : goal.new-requires-clause-spelled
@@ -21,14 +22,11 @@ index_mut-requires g c =
 pub returns-clause-takes : goal.returns-clause-takes
 returns-clause-takes g c =
     let old = c.args.self.now in
-    let k = c.requires.plugged.channel in
-    let there = c.requires.plugged.there in
-    let r = c.index_mut.result.now in
-    let l : Channel = record r { to = c.new.result } in
-    let new : Driver = record old { desk = c.take_messages.new.desk; channels = with_item old.channels c.args.at l } in
-    let same = c.index_mut.ensures.value ∙ get_or_from_slice_get old.channels.items c.args.at k r there in
-    taken_out c.driving_laws.ensures c.args.at old new c.in_ok-bytes.bytes c.in_ok-bytes.messages.value k l c.requires.kept
-    (record { there = there; channels = refl; same = same_but old new refl c.take_messages.ensures.footing }) c.requires.plugged.plugged
-    (c.requires.offered k there c.requires.plugged.plugged)
-    (ap (λ (x : Channel). record x { to = c.new.result }) same ∙ ap (λ ms. record k { to = ms }) c.new.ensures) refl
-    (subst (λ n. TakesMessages n c.in_ok-bytes.bytes c.in_ok-bytes.messages.value old.desk new.desk) c.connection_of.ensures c.in_ok-bytes.ensures.takes)
+    let k = c.index_mut.result.now in
+    let ms = c.new.result in
+    let s = stands c.args.at Live old k c.requires.plugged c.index_mut.ensures.value in
+    let new : Driver = record old { desk = c.take_messages.new.desk; channels = with_item old.channels c.args.at (record k { to = ms }) } in
+    taken_out c.driving_laws.ensures c.args.at old new c.in_ok-bytes.bytes ms k c.requires.kept s.is (c.requires.offered k s.there s.is)
+    (record { there = s.there; channels = refl; same = same_but old new refl c.take_messages.ensures.footing })
+    (subst (λ xs. TakesMessages (c.args.at + 1) c.in_ok-bytes.bytes xs old.desk new.desk) (sym c.new.ensures)
+    (subst (λ n. TakesMessages n c.in_ok-bytes.bytes c.in_ok-bytes.messages.value old.desk new.desk) c.connection_of.ensures c.in_ok-bytes.ensures.takes))

@@ -1,5 +1,5 @@
-// Why the driver stops.
-use desk_jobs::Broken;
+// Why a driver stops.
+use crate::tending::Broken;
 use machine_desk::{DeskStop, Worn};
 use maple_base::NoMemory;
 

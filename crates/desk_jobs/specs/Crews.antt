@@ -1,0 +1,35 @@
+-- Who works beside a driver.
+use Rattle.std.specs.Prelude.{◌≡◌, ℕ, ⊥, false, Option, Some, None, IfSome, is_some}
+use Rattle.machine_steps.specs.Machine.{State}
+use Rattle.worker_crew.specs.Takers.{IsTakerOf, shares}
+use Rattle.machine_desk.specs.Desks.{DeskView}
+use Rattle.desk_jobs.specs.declared.crew.Crew.{Crew}
+use Rattle.desk_jobs.specs.Tending.{Sight, at}
+
+-- the pass for the queue is one of this queue
+abbrev pub IsCrew : Crew → Type 0
+IsCrew crew = IsTakerOf crew.jobs.now crew.taker.now
+
+-- a driver may have this crew, where its pass has so many parts and the machine is so: without a crew it has all parts, and it has none where the settings
+-- have no workers
+pub record MayHave (crew : Option Crew) (parts : ℕ) (m : State) : Type 0 where
+  pub alone : is_some crew ≡ false → parts ≡ 1024
+  pub none : m.settings.workers ≡ 0 → is_some crew ≡ false
+  pub is : IfSome crew IsCrew
+
+-- a crew's pass is the one that was lent, with as many parts of the same queue, and its lobby is the same
+pub record IsCrewStill (old new : Crew) : Type 0 where
+  pub jobs : new.jobs ≡ old.jobs
+  pub lobby : new.lobby ≡ old.lobby
+  pub name : new.taker.ghost_name ≡ old.taker.ghost_name
+  pub is : IsCrew old → IsCrew new
+  pub shares : IsCrew old → shares new.taker.now ≡ shares old.taker.now
+
+abbrev pub SameCrew : Option Crew → Option Crew → Type 0
+SameCrew None None = Unit {0}
+SameCrew (Some old) (Some new) = IsCrewStill old new
+SameCrew old new = ⊥
+
+-- what a driver beside a crew knows
+abbrev pub sight : DeskView → Crew → Sight
+sight desk crew = at desk crew.taker.now

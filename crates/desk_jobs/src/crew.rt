@@ -1,0 +1,122 @@
+// Who works beside a driver.
+ghost use Rattle.std.specs.Prelude.{◌≡◌, IfErr, OnOk};
+ghost use Rattle.worker_crew.specs.Takers.{places};
+ghost use Rattle.desk_jobs.specs.Crews.{IsCrew, IsCrewStill, sight};
+ghost use Rattle.desk_jobs.specs.Tending.{Done, HandsOver, Reaches, Room, Stops};
+
+use crate::tending::{Broken, Handed, Tender};
+use core_machine::JobItem;
+use machine_desk::Desk;
+use packet_workers::Gate;
+use std::alloc::Global;
+use std::sync::Wait;
+use worker_crew::{JobPass, Jobs, Lobby};
+
+/// Workers beside a driver: the queue from which they take packets that wait, the driver's pass for it, and the lobby in
+/// which all wait for each other.
+#[derive(Drop)]
+pub struct Crew<'h> {
+    pub(crate) jobs: &'h Jobs<JobItem>,
+    pub(crate) taker: &'h mut JobPass<JobItem>,
+    pub(crate) lobby: &'h Lobby,
+}
+
+impl<'h> Crew<'h> {
+    /// Of this queue, with this pass, which is lent.
+    pub fn new(
+        jobs: &'h Jobs<JobItem>,
+        taker: &'h mut JobPass<JobItem>,
+        lobby: &'h Lobby,
+    ) -> Crew<'h>
+        ensures jobs { result.jobs ≡ jobs.entry }
+        ensures taker { (result.taker.now ≡ taker.old) × (result.taker.ghost_name ≡ taker.entry.ghost_name) }
+        ensures lobby { result.lobby ≡ lobby.entry }
+    {
+        Crew { jobs, taker, lobby }
+    }
+
+    /// Hands a packet over, as `Tender::hand_over` does.
+    pub fn hand_over<R: Wait, G: Gate>(
+        &mut self,
+        rt: &R,
+        gate: &G,
+        alloc: Global,
+        desk: &mut Desk<'_>,
+        item: JobItem,
+    ) -> Handed
+        requires crew { IsCrew self.old }
+        ensures handed { HandsOver result item (places self.old.jobs.now) (sight desk.old self.old) (sight desk.new self.new) }
+        ensures still { IsCrewStill self.old self.new }
+        ensures footing { desk.new.footing ≡ desk.old.footing }
+    {
+        let tender = self.tender(gate, alloc);
+        tender.hand_over(rt, desk, self.taker, item)
+    }
+
+    /// Waits until the machine takes a further packet in, as `Tender::make_room` does.
+    ///
+    /// # Errors
+    ///
+    /// `Broken`.
+    pub fn make_room<R: Wait, G: Gate>(
+        &mut self,
+        rt: &R,
+        gate: &G,
+        alloc: Global,
+        desk: &mut Desk<'_>,
+    ) -> Result<(), Broken>
+        requires crew { IsCrew self.old }
+        ensures room { OnOk result (Reaches Room (sight desk.old self.old) (sight desk.new self.new)) }
+        ensures broken { IfErr result (λ why. Stops Room why (sight desk.old self.old) (sight desk.new self.new)) }
+        ensures still { IsCrewStill self.old self.new }
+        ensures footing { desk.new.footing ≡ desk.old.footing }
+    {
+        let tender = self.tender(gate, alloc);
+        tender.make_room(rt, desk, self.taker)
+    }
+
+    /// Waits until no packet waits, as `Tender::await_all` does.
+    ///
+    /// # Errors
+    ///
+    /// `Broken`.
+    pub fn await_all<R: Wait, G: Gate>(
+        &mut self,
+        rt: &R,
+        gate: &G,
+        alloc: Global,
+        desk: &mut Desk<'_>,
+    ) -> Result<(), Broken>
+        requires crew { IsCrew self.old }
+        ensures done { OnOk result (Reaches Done (sight desk.old self.old) (sight desk.new self.new)) }
+        ensures broken { IfErr result (λ why. Stops Done why (sight desk.old self.old) (sight desk.new self.new)) }
+        ensures still { IsCrewStill self.old self.new }
+        ensures footing { desk.new.footing ≡ desk.old.footing }
+    {
+        let tender = self.tender(gate, alloc);
+        tender.await_all(rt, desk, self.taker)
+    }
+
+    // With what it tends to packets.
+    fn tender<'a, G: Gate>(&self, gate: &'a G, alloc: Global) -> Tender<'a, G>
+    where
+        'h: 'a,
+        ensures jobs { result.jobs ≡ self.now.jobs }
+    {
+        Tender {
+            jobs: self.jobs,
+            lobby: self.lobby,
+            gate,
+            alloc,
+        }
+    }
+
+    /// The pass again, which is lent no longer.
+    pub fn end(self) -> &'h mut JobPass<JobItem>
+        ensures reference { result.ghost_name ≡ self.entry.taker.ghost_name }
+        ensures taker { result.now ≡ self.entry.taker.now }
+    {
+        let Crew { taker, .. } = self;
+        taker
+    }
+}

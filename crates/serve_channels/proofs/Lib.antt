@@ -1,0 +1,11 @@
+pub mod Acts
+pub mod Alike
+pub mod Closing
+pub mod Entering
+pub mod Kept
+pub mod Leaving
+pub mod Opening
+pub mod Others
+pub mod Replies
+pub mod Sending
+pub mod Stretching

@@ -1,0 +1,34 @@
+// Connections whose sessions are over are closed.
+ghost use Rattle.std.specs.Prelude.{◌≡◌};
+ghost use Rattle.maple_io.specs.Boards.{NoBoardFailed};
+ghost use Rattle.serve_channels.specs.Delivering.{Closes};
+ghost use Rattle.serve_channels.specs.Keeping.{Goes, IsServing};
+ghost use Rattle.serve_channels.specs.Servers.{IsSame};
+ghost use Rattle.serve_channels.specs.Stretches.{IsQuietly};
+
+use crate::Server;
+use machine_desk::Stage;
+use maple_io::Board;
+
+impl<'h> Server<'h> {
+    /// Each connection whose session is over is closed and forgotten.
+    pub fn close_over<B: Board>(&mut self, board: &mut B)
+        requires serving { IsServing (B.tells board.old).log self.old }
+        ensures goes { Goes (Closes self.new) self.old (B.tells board.old).log self.new (B.tells board.new).log }
+        ensures desk { self.new.desk ≡ self.old.desk }
+        ensures quietly { IsQuietly (B.tells board.old).log (B.tells board.new).log }
+        ensures faults { NoBoardFailed (B.tells board.old) (B.tells board.new) }
+        ensures same { IsSame self.old self.new }
+    {
+        let mut at = 0;
+        while at < self.connections.len() {
+            let inbound = &self.connections[at].inbound;
+            if inbound.stage() == Stage::Over {
+                board.close(inbound.connection());
+                self.connections.swap_remove(at);
+            } else {
+                at += 1;
+            }
+        }
+    }
+}
