@@ -60,7 +60,7 @@ impl<'a, G: Gate> Tender<'a, G> {
     {
         match self.jobs.offer(rt, taker, item) {
             Ok(()) => {
-                self.lobby.tell(rt);
+                self.lobby.offer(rt);
                 Handed::Queued
             }
             Err(item) => Handed::Worked(desk.work(rt, self.alloc, item, self.gate)),

@@ -61,7 +61,7 @@ impl Drives<Sum, u32> for Feeder {
     ) {
         for item in 0..self.items {
             feed(rt, hall, pass, jobs, taker, item + 1);
-            lobby.tell(rt);
+            lobby.offer(rt);
         }
         for _ in 0..self.items {
             if self.drains {

@@ -76,12 +76,16 @@ fn two_threads_take(rt: HostRuntime) -> Result<(), Fail> {
 fn the_lobby_wakes(rt: HostRuntime) -> Result<(), Fail> {
     let lobby = Lobby::new();
     let first = lobby.news(&rt);
+    lobby.offer(&rt);
+    let offered = lobby.wait_for_work(&rt, first.offers);
+    assert!(&rt; offered.offers == 1 && offered.moves == 0);
     lobby.announce(&rt);
     lobby.tell(&rt);
     let moved = lobby.wait_past(&rt, first.moves);
     assert!(&rt;
         moved
             == News {
+                offers: 1,
                 moves: 2,
                 workers: 1,
                 closed: false,
@@ -96,7 +100,7 @@ fn the_lobby_wakes(rt: HostRuntime) -> Result<(), Fail> {
     lobby.close(&rt);
     let closed = lobby.news(&rt);
     assert!(&rt; closed.closed);
-    assert!(&rt; lobby.wait_for_work(&rt, closed.moves) == closed);
+    assert!(&rt; lobby.wait_for_work(&rt, closed.offers) == closed);
     Ok(())
 }
 

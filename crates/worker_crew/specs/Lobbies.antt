@@ -8,9 +8,9 @@ abbrev pub first_cause : Option GaveUp → GaveUp → Option GaveUp
 first_cause None cause = Some cause
 first_cause (Some first) cause = Some first
 
--- there was a move since so many, or nothing more is offered
+-- there was an offer since so many, or nothing more is offered
 abbrev pub CallsWorkers : ℕ → News → Type 0
-CallsWorkers seen news = (news.moves ≢ seen) ⊎ IsTrue news.closed
+CallsWorkers seen news = (news.offers ≢ seen) ⊎ IsTrue news.closed
 
 -- there was a move since so many, or nothing more is offered, or a worker gave up
 abbrev pub CallsAll : ℕ → News → Type 0

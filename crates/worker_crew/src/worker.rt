@@ -6,7 +6,7 @@ ghost use Rattle.worker_crew.specs.Takers.{IsTakerOf, account, shares};
 ghost use Rattle.worker_crew.specs.Tasks.{Toiled};
 
 use crate::gave_up::GaveUp;
-use crate::lobby::Lobby;
+use crate::lobby::{Lobby, News};
 use crate::queue::{JobPass, Jobs};
 use crate::works::Works;
 use history_lock::{Hall, Machine, Pass};
@@ -38,7 +38,8 @@ fn work_one<R: Wait, M: Machine, T, W: Works<M, T>>(
 ///
 /// It is meant to sleep where there is no item, to end with `Ok` once the lobby is closed and the queue is empty, and to
 /// tell the lobby of an `Err`. Of items that it worked it tells once it finds no further one: so the last one is told of, and
-/// who waits for all isn't woken at each.
+/// who waits for all isn't woken at each. The lobby's news are read where the queue was found empty, and then it looks again,
+/// so that no offer is missed.
 #[tactic(auto, using(crate::proofs::Toiling::toiled_none, crate::proofs::Toiling::toiled_then, crate::proofs::Toiling::toiled_still, crate::proofs::Crewing::suits_same))]
 pub fn serve<R: Wait, M: Machine, T, W: Works<M, T>>(
     rt: &R,
@@ -58,25 +59,28 @@ pub fn serve<R: Wait, M: Machine, T, W: Works<M, T>>(
     ensures toiled { Toiled (W.makes works.now) (known pass.old) (account taker.old) result (known pass.new) (account taker.new) }
 {
     lobby.announce(rt);
-    let mut closed = false;
     let mut untold = false;
+    let mut news = None;
     for _ in rt.forever() {
-        let seen = lobby.news(rt).moves;
         match work_one(rt, hall, pass, jobs, taker, works) {
-            Some(Ok(())) => untold = true,
+            Some(Ok(())) => {
+                untold = true;
+                news = None;
+            }
             Some(Err(cause)) => {
                 lobby.give_up(rt, cause);
                 return Err(cause);
             }
-            None if untold => {
-                untold = false;
-                lobby.tell(rt);
-            }
             None => {
-                if closed {
-                    return Ok(());
+                if untold {
+                    untold = false;
+                    lobby.tell(rt);
                 }
-                closed = lobby.wait_for_work(rt, seen).closed;
+                news = match news {
+                    None => Some(lobby.news(rt)),
+                    Some(News { closed: true, .. }) => return Ok(()),
+                    Some(seen) => Some(lobby.wait_for_work(rt, seen.offers)),
+                };
             }
         }
     }
