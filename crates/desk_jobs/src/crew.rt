@@ -1,13 +1,13 @@
 // Who works beside a driver.
-ghost use Rattle.std.specs.Prelude.{◌≡◌, IfErr, OnOk};
+ghost use Rattle.std.specs.Prelude.{◌≡◌, IfErr, IfNone, IfSome, OnOk};
 ghost use Rattle.worker_crew.specs.Takers.{places};
 ghost use Rattle.desk_jobs.specs.Crews.{IsCrew, IsCrewStill, sight};
-ghost use Rattle.desk_jobs.specs.Tending.{Done, HandsOver, Reaches, Room, Stops};
+ghost use Rattle.desk_jobs.specs.Tending.{Done, HandsOver, Reaches, Room, Stops, TakesAndWorks};
 
 use crate::tending::{Broken, Handed, Tender};
 use core_machine::JobItem;
 use machine_desk::Desk;
-use packet_workers::Gate;
+use packet_workers::{Gate, Worked};
 use std::alloc::Global;
 use std::sync::Wait;
 use worker_crew::{JobPass, Jobs, Lobby};
@@ -97,6 +97,28 @@ impl<'h> Crew<'h> {
     {
         let tender = self.tender(gate, alloc);
         tender.await_all(rt, desk, self.taker)
+    }
+
+    /// Takes a packet from the queue, if there is one, and works it, unless a worker has announced itself: meant for a
+    /// machine on which no thread could be made.
+    pub fn work_alone<R: Wait, G: Gate>(
+        &mut self,
+        rt: &R,
+        gate: &G,
+        alloc: Global,
+        desk: &mut Desk<'_>,
+    ) -> Option<Worked>
+        requires crew { IsCrew self.old }
+        ensures some { IfSome result (λ worked. TakesAndWorks worked (sight desk.old self.old) (sight desk.new self.new)) }
+        ensures none { IfNone result (sight desk.new self.new ≡ sight desk.old self.old) }
+        ensures still { IsCrewStill self.old self.new }
+        ensures footing { desk.new.footing ≡ desk.old.footing }
+    {
+        if self.lobby.news(rt).workers > 0 {
+            return None;
+        }
+        let tender = self.tender(gate, alloc);
+        tender.work_one(rt, desk, self.taker)
     }
 
     // With what it tends to packets.

@@ -18,7 +18,7 @@ use Rattle.serve_steps.specs.Laws.{AreFronts, SentIsFront, NoneHeardBehindEnd, F
 -- ---- fronts
 
 -- a front stays one where more comes behind the whole
-longer : (front whole more : List ℕ) → IsFront front whole → IsFront front (whole ++ more)
+pub longer : (front whole more : List ℕ) → IsFront front whole → IsFront front (whole ++ more)
 longer front whole more is = (is.0 ++ more, sym (append_assoc front is.0 more) ∙ ap (λ (xs : List ℕ). xs ++ more) is.1)
 
 same_front : (front other whole : List ℕ) → other ≡ front → IsFront front whole → IsFront other whole

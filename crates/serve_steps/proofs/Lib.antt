@@ -1,4 +1,5 @@
 mod Control
+mod Entered
 mod Fronts
 mod Heard
 mod Others

@@ -26,8 +26,8 @@ use Rattle.machine_sharing.specs.Legal.{call_of}
 use Rattle.machine_sharing.specs.Sharing.{Allows, Call, stale_by, stale_count}
 use Rattle.serve_steps.specs.Deeds.{Past, calls_of, turns_of}
 use Rattle.serve_steps.specs.Deeds.Deed.{Enters, Does}
-use Rattle.serve_steps.specs.Parts.{AreFree, Given, fails_to_commit, is_free, is_overload, may_stand, opens_job_by, was_job}
-use Rattle.serve_steps.specs.Laws.{OthersAreFree, entered}
+use Rattle.serve_steps.specs.Parts.{Given, fails_to_commit, is_free, is_overload, may_stand, opens_job_by, was_job}
+use Rattle.serve_steps.specs.Laws.{OthersAreFree}
 use Rattle.serve_steps.proofs.States.{front_leads, goes_on_from, last_is, turn_is}
 
 -- ---- tests

@@ -1,12 +1,11 @@
 -- What holds of all runs.
-use Rattle.std.specs.Prelude.{◌≡◌, ◌↔◌, ℕ, if◌then◌else◌, true, false, map, List, [], ◌∷◌, ◌++◌, None}
+use Rattle.std.specs.Prelude.{◌≡◌, ◌↔◌, ℕ, Bool, if◌then◌else◌, true, false, map, List, [], ◌∷◌, ◌++◌, None}
 use Rattle.std.specs.List.{flat_map}
 use Rattle.std.specs.Option.{option_to_list}
 use Rattle.maple_io.specs.Fronts.{IsFront}
 use Rattle.maple_io.specs.declared.act.Act.{Act}
 use Rattle.maple_io.specs.declared.board.Turn.TheVariants as turn
 use Rattle.maple_io.specs.Boards.{sent}
-use Rattle.maple_io.specs.Turns.{OpensAnew}
 use Rattle.report_text.specs.Report.{spelled}
 use Rattle.board_lines.specs.declared.control_item.ControlItem.{ControlItem}
 use Rattle.board_lines.specs.ControlItems.{items_of}
@@ -18,6 +17,7 @@ use Rattle.sim_steps.specs.Agreeing.{AreCut}
 use Rattle.machine_steps.specs.declared.entry.Entry.{Entry}
 use Rattle.machine_steps.specs.Histories.{Turn, IsTurn, Leads}
 use Rattle.machine_steps.specs.Machine.{State, opening}
+use Rattle.machine_steps.specs.Sound.{IsSound}
 use Rattle.history_lock.specs.Histories.{AreAllowed}
 use Rattle.machine_sharing.specs.Legal.{call_of}
 use Rattle.machine_sharing.specs.Sharing.{Allows, Call}
@@ -25,8 +25,8 @@ use Rattle.serve_steps.specs.Deeds.Deed.{Enters, Does}
 use Rattle.serve_steps.specs.Deeds.{Past, acts_of, calls_of, is_others, is_over, state_behind, taken_of, turns_of, last_answer, was_cut, bytes_of, inputs_of, is_open}
 use Rattle.serve_steps.specs.Texts.{Ask, IsEntryOf, asks_last, asks_more, asks_of, control_asks, ended_items, quits}
 use Rattle.serve_steps.specs.Texts.Ask.{Renews}
-use Rattle.serve_steps.specs.Parts.{AreFree, Given, Part, SendsNext, EachBehind, IsAsked, deeds_of, own_of, IsDelivered, AreCutAtTurns}
-use Rattle.serve_steps.specs.Runs.{AreParts, IsRightInWorlds, report, taken_report}
+use Rattle.serve_steps.specs.Parts.{AreFree, Given, Part, SendsNext, EachBehind, IsAsked, deeds_of, own_of, IsDelivered, AreCutAtTurns, AreOpenedOnce, has_ended}
+use Rattle.serve_steps.specs.Runs.{AreParts, ArePartsButLast, IsAtRest, IsBrokenOff, IsLastAsked, IsRightInWorlds, IsScripted, report, taken_report}
 
 -- what was sent to a connection is a front of what the machine gave for it
 abbrev pub SentIsFront : ℕ → Past → Type 0
@@ -89,6 +89,86 @@ OthersAreFree =
     (g : Given) (done ahead : Past) (now last : State) (others : List Turn) → Leads (opening g.policy g.settings) (turns_of (done ++ ahead)) now
     → Leads now others last → AreAllowed Allows (calls_of (done ++ ahead)) (map call_of others) → AreFree done ahead → AreFree (entered others done) ahead
 
+-- ---- turns of other threads behind all that was done
+
+-- these turns were made behind all that was done in a run: they stand in its newest part, or in the first where that is the only one
+abbrev pub first_entered : List Turn → Past → List Part → Past
+first_entered ts first [] = entered ts first
+first_entered ts first (p ∷ ahead) = first
+
+abbrev pub parts_entered : List Turn → List Part → List Part
+parts_entered ts [] = []
+parts_entered ts (p ∷ ahead) = record p { done = entered ts p.done } ∷ ahead
+
+abbrev pub deeds_entered : List Turn → Past → List Part → Past
+deeds_entered ts first parts = deeds_of (first_entered ts first parts) (parts_entered ts parts)
+
+-- the history goes on by them, and the board's log stays
+pub record StandLast (ts : List Turn) (first : Past) (parts : List Part) : Type 0 where
+  pub turns : turns_of (deeds_entered ts first parts) ≡ turns_of (deeds_of first parts) ++ ts
+  pub acts : acts_of (deeds_entered ts first parts) ≡ acts_of (deeds_of first parts)
+
+abbrev pub OthersStandLast : Type 0
+OthersStandLast = (ts : List Turn) (first : Past) (parts : List Part) → StandLast ts first parts
+
+-- they are others': from the state in which the machine was behind these deeds they go on, and each entry is one that these may make
+pub record OthersGoOn (g : Given) (past : Past) (others : List Turn) : Type 0 where
+  pub now : State
+  pub sound : IsSound now
+  pub legal : Leads (opening g.policy g.settings) (turns_of past) now
+  pub last : State
+  pub goes_on : Leads now others last
+  pub allowed : AreAllowed Allows (calls_of past) (map call_of others)
+
+-- what is so of a run, by its first part and its others, stays so with them
+abbrev pub OthersStayIn : (Given → Past → List Part → Type 0) → Type 0
+OthersStayIn P =
+    (g : Given) (first : Past) (parts : List Part) (others : List Turn) → OthersGoOn g (deeds_of first parts) others → P g first parts
+    → P g (first_entered others first parts) (parts_entered others parts)
+
+-- the first part and the others are parts of a run, the one too in which they stand
+abbrev pub OthersStayInParts : Type 0
+OthersStayInParts = OthersStayIn AreParts
+
+-- the parts are cut at the board's turns, and it opens each number once
+abbrev pub OthersStayInCut : Type 0
+OthersStayInCut = OthersStayIn (λ (g : Given) (first : Past) (parts : List Part). AreCutAtTurns first parts × AreOpenedOnce first parts)
+
+-- the run has ended, or it hasn't
+abbrev pub OthersStayInEnd : Type 0
+OthersStayInEnd = (ended : Bool) → OthersStayIn (λ (g : Given) (first : Past) (parts : List Part). has_ended g first parts ≡ ended)
+
+-- the parts but the last are parts of a run, and in the last one all was done that was asked for
+abbrev pub OthersStayInLastAsked : Type 0
+OthersStayInLastAsked = OthersStayIn (λ (g : Given) (first : Past) (parts : List Part). ArePartsButLast g first parts × IsLastAsked g first parts)
+
+-- only the start script was carried out, up to a refused line
+abbrev pub IsScriptOnly : Given → Past → List Part → Type 0
+IsScriptOnly g first parts = IsScripted g first × AreFree first [] × (acts_of first ≡ []) × (parts ≡ [])
+
+abbrev pub OthersStayInScript : Type 0
+OthersStayInScript = OthersStayIn IsScriptOnly
+
+-- the run broke off, and a front of the report was written
+abbrev pub OthersStayInBrokenOff : Type 0
+OthersStayInBrokenOff = (text : List ℕ) → OthersStayIn (λ (g : Given) (first : Past) (parts : List Part). IsBrokenOff g first parts text)
+
+-- nothing is left to do
+abbrev pub OthersStayAtRest : Type 0
+OthersStayAtRest = OthersStayIn (λ (g : Given) (first : Past) (parts : List Part). IsAtRest g (deeds_of first parts))
+
+-- they take nothing of the report
+abbrev pub OthersTakeNothing : Type 0
+OthersTakeNothing =
+    (g : Given) (first : Past) (parts : List Part) (others : List Turn) → OthersGoOn g (deeds_of first parts) others
+    → taken_report (deeds_entered others first parts) ≡ taken_report (deeds_of first parts)
+
+-- and where no packet waited they add nothing to it
+abbrev pub OthersTellNothing : Type 0
+OthersTellNothing =
+    (g : Given) (first : Past) (parts : List Part) (others : List Turn) (go : OthersGoOn g (deeds_of first parts) others) → go.now.jobs ≡ []
+    → report (deeds_entered others first parts) ≡ report (deeds_of first parts)
+
 -- ---- the report
 
 -- it is what was taken of it, and the lines that weren't taken yet
@@ -128,11 +208,6 @@ abbrev pub RenewsAlike : Type 0
 RenewsAlike = (text : List ℕ) (entry : Entry) → IsEntryOf (Renews (kept_text text)) entry ↔ IsEntryOf (Renews text) entry
 
 -- ---- what is heard, over a whole run
-
--- the board opens each number once, as it promises
-abbrev pub AreOpenedOnce : Past → List Part → Type 0
-AreOpenedOnce first [] = Unit {0}
-AreOpenedOnce first (p ∷ ahead) = OpensAnew p.given (acts_of (deeds_of first ahead)) × AreOpenedOnce first ahead
 
 -- all that was heard of a connection is what all the bytes that came on it are cut into; what is left is no whole message, and shows no fault
 pub record IsHeardOut (c : ℕ) (past : Past) : Type 0 where

@@ -10,6 +10,7 @@ use Rattle.maple_io.specs.declared.board.Turn.TheVariants as turn
 use Rattle.maple_io.specs.declared.board.Sent.{Sent}
 use Rattle.maple_io.specs.declared.board.Sent.TheVariants as sends
 use Rattle.maple_io.specs.Boards.{sent, control_text, was_closed}
+use Rattle.maple_io.specs.Turns.{OpensAnew}
 use Rattle.of10_stream.specs.Cut.{IsOpen}
 use Rattle.machine_steps.specs.declared.entry.Entry.{Entry}
 use Rattle.machine_steps.specs.declared.entry.Entry.TheVariants as entries
@@ -65,6 +66,11 @@ is_quiet d = not (is_turn d || is_start d)
 abbrev pub AreCutAtTurns : Past → List Part → Type 0
 AreCutAtTurns first [] = list_any is_turn first ≡ false
 AreCutAtTurns first (p ∷ ahead) = (list_all is_quiet p.done ≡ true) × AreCutAtTurns first ahead
+
+-- the board opens each number once, as it promises
+abbrev pub AreOpenedOnce : Past → List Part → Type 0
+AreOpenedOnce first [] = Unit {0}
+AreOpenedOnce first (p ∷ ahead) = OpensAnew p.given (acts_of (deeds_of first ahead)) × AreOpenedOnce first ahead
 
 -- of each deed of a part, with what was done before it, this holds
 abbrev pub EachBehind : (Deed → Past → Type 0) → Past → Past → Type 0

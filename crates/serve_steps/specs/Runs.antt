@@ -1,6 +1,6 @@
 -- A run of `serve`, and what it is at each of its ends.
 use Rattle.std.specs.Prelude.{◌≡◌, ◌≢◌, ◌⊎◌, ℕ, ◌^◌, ◌≤◌, Bool, true, false, List, [], ◌∷◌, ◌++◌, length, Some, None}
-use Rattle.std.specs.List.{flat_map, list_all}
+use Rattle.std.specs.List.{AllByRecursion, flat_map, list_all}
 use Rattle.maple_io.specs.Fronts.{IsFront}
 use Rattle.maple_io.specs.Views.{SinkView, Wrote, WriteFailed, NoWriteFailed}
 use Rattle.maple_io.specs.declared.act.Act.{Act}
@@ -10,6 +10,7 @@ use Rattle.report_text.specs.declared.line.ScriptRefusal.{ScriptRefusal}
 use Rattle.report_text.specs.Report.{spelled}
 use Rattle.machine_steps.specs.Histories.{Leads, Turn, report_of}
 use Rattle.machine_steps.specs.Machine.{State, opening}
+use Rattle.machine_steps.specs.declared.reply.Reply.TheVariants as replies
 use Rattle.world_steps.specs.Worlds.{World, messages_for}
 use Rattle.world_steps.specs.Runs.{Event as WorldEvent, IsWorldRun}
 use Rattle.world_steps.specs.Runs.{turns_of as world_turns}
@@ -21,7 +22,7 @@ use Rattle.sim_steps.specs.Deeds.Deed.{Enters as EntersAtBench}
 use Rattle.serve_steps.specs.Deeds.Deed.{Enters, Does}
 use Rattle.serve_steps.specs.Deeds.{Deed, Past, gathered, turns_of, acts_of, is_open}
 use Rattle.serve_steps.specs.Texts.{script_asks, script_quits, ahead_of_refused, first_refused, AreEntriesOf}
-use Rattle.serve_steps.specs.Parts.{Given, Part, deeds_of, own_of, had_memory, ahead_of, AreCutAtTurns, has_ended, IsAsked, AreFree, IsPart, IsWorked, state_of}
+use Rattle.serve_steps.specs.Parts.{Given, Part, deeds_of, own_of, had_memory, ahead_of, AreCutAtTurns, AreOpenedOnce, has_ended, IsAsked, AreFree, IsPart, IsWorked, state_of}
 
 -- ---- the first part
 
@@ -72,11 +73,16 @@ pub record IsAtRest (g : Given) (past : Past) : Type 0 where
 
 -- ---- the ends
 
+-- memory sufficed for each turn of a history
+abbrev pub AllHadMemory : List Turn → Type 0
+AllHadMemory history = AllByRecursion (λ (t : Turn). t.reply ≢ replies.NoMemory) history
+
 -- the run came to its end: at the board's end, or at a line `quit` of the control text, or of the start script
 pub record IsDone (g : Given) (first : Past) (parts : List Part) (text : List ℕ) : Type 0 where
   pub all : AreParts g first parts
   pub ended : has_ended g first parts ≡ true
   pub rest : IsAtRest g (deeds_of first parts)
+  pub memory : AllHadMemory (turns_of (deeds_of first parts))
   pub text_is : text ≡ report (deeds_of first parts)
 
 -- a line of the start script was refused, ahead of any `quit`: the board wasn't started, and that is all
@@ -86,6 +92,7 @@ pub record IsRefused (g : Given) (line : ℕ) (kind : ScriptRefusal) (first : Pa
   pub free : AreFree first []
   pub not_started : acts_of first ≡ []
   pub no_turn : parts ≡ []
+  pub memory : AllHadMemory (turns_of (deeds_of first parts))
   pub text_is : text ≡ report first
 
 -- the part in which a run broke off: of what was done in it nothing is said
@@ -136,6 +143,7 @@ pub record IsRun (end : ServeEnd) (g : Given) (history : List Turn) (board_old b
   pub last : State
   pub legal : Leads (opening g.policy g.settings) history last
   pub cut : AreCutAtTurns first parts
+  pub opened : AreOpenedOnce first parts
   pub log : board_new.log ≡ board_old.log ++ acts_of (deeds_of first parts)
   pub text : List ℕ
   pub ends : EndsWith end g first parts text

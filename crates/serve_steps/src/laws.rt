@@ -1,7 +1,9 @@
 // What holds of all runs.
 ghost use Rattle.serve_steps.specs.Laws.{AllowedAreOthers, AreFronts, EachAsksOnce, EndedIsGiven, EndedStays, FrontStays, GoesOnFrom, HeardIsCut, LastAsks, LinesGoOn, LogGoesOn, NeverSends, NoneHeardBehindEnd, OthersAreFree, RenewsAlike, ReportIsTold, StatesAreTold, TurnsGoOn, WorldsAreRight};
+ghost use Rattle.serve_steps.specs.Laws.{OthersStandLast, OthersStayAtRest, OthersStayInBrokenOff, OthersStayInCut, OthersStayInEnd, OthersStayInLastAsked, OthersStayInParts, OthersStayInScript, OthersTakeNothing, OthersTellNothing};
 
 use board_lines::{control_laws, kept_laws};
+use machine_sharing::{between_laws, legal_laws};
 use world_right::run_laws as world_run_laws;
 
 /// What was sent to a connection is at every moment a front of what the machine gave for it. Nothing is
@@ -20,6 +22,24 @@ pub fn run_laws()
     ensures report { ReportIsTold }
     ensures log { LogGoesOn }
 {}
+
+/// What other threads enter behind all that was done in a run changes nothing of what is said of it: it stands
+/// in the newest part, or in the first where that is the only one. Only a packet that waits may then be answered.
+pub fn others_laws()
+    ensures stand { OthersStandLast }
+    ensures parts { OthersStayInParts }
+    ensures cut { OthersStayInCut }
+    ensures ended { OthersStayInEnd }
+    ensures asked { OthersStayInLastAsked }
+    ensures script { OthersStayInScript }
+    ensures front { OthersStayInBrokenOff }
+    ensures rest { OthersStayAtRest }
+    ensures take { OthersTakeNothing }
+    ensures tell { OthersTellNothing }
+{
+    between_laws();
+    legal_laws();
+}
 
 /// What has ended in a control text stays, whatever comes behind it, and is what its reader gives byte by
 /// byte; so each line asks once, and the last one as the text comes to its end. What is kept of a

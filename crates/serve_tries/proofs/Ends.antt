@@ -1,13 +1,16 @@
 -- Runs at other ends, and ends that are none.
-use Rattle.std.proofs.Common.{◌≡◌, ℕ, true, false, List, [], ◌∷◌, Some, None, refl, inl, inr}
+use Rattle.std.proofs.Common.{◌≡◌, ℕ, ◌==◌, true, false, List, [], ◌∷◌, Some, None, refl, inl, inr, ⊎_elim}
+use Rattle.std.proofs.lemmas.Bool.{cases_Bool}
+use Rattle.maple_base.specs.declared.decision.Settings.{Settings}
+use Rattle.policy_lang.specs.declared.Policy.{Policy}
 use Rattle.std.specs.Fmt.{digits}
 use Rattle.report_text.specs.declared.line.ScriptRefusal.{ScriptRefusal}
 use Rattle.report_text.specs.declared.line.ScriptRefusal.TheVariants.{Grammar}
 use Rattle.maple_io.specs.declared.act.Act.{Act}
-use Rattle.serve_steps.specs.Parts.{deeds_of}
+use Rattle.serve_steps.specs.Parts.{IsDelivered, deeds_of}
 use Rattle.serve_steps.specs.Runs.{report}
 use Rattle.serve_tries.specs.Row.{first_row, part1, part2}
-use Rattle.serve_tries.specs.Ends.{DoneTooSoon, FirstFails, GoesOn, PassesOver, RefusesNone, StartFails, StartsBehindQuit, ThirdFails, Unwritten, WriteFails}
+use Rattle.serve_tries.specs.Ends.{DoneTooSoon, FirstFails, GoesOn, LacksMemory, PassesOver, RefusesNone, RefusesWithout, StartFails, StartsBehindQuit, ThirdFails, Unwritten, WriteFails, lacking}
 use Rattle.serve_tries.proofs.Row.{first_is, part1_is, part2_is}
 
 pub start_fails : StartFails
@@ -42,6 +45,28 @@ done_too_soon p s text is = never is.ended
 
 pub goes_on : GoesOn
 goes_on p s text is = ever is.all.0.asked.goes_on
+
+lacking_delivers : (p : Policy) (s : Settings) → IsDelivered first_row (part2 p s ∷ part1 p s ∷ []) (lacking p s)
+lacking_delivers p s = record {
+  taken = λ c. ⊎_elim (λ e. rw e (λ served. refl)) (λ e. rw e (λ served. absurd (cc))) (cases_Bool (1 == c));
+  in_order = (tt, (tt, tt));
+  all_sent = λ c. inl (⊎_elim (λ e. rw e refl) (λ e. rw e refl) (cases_Bool (1 == c)));
+  closed = λ c. ⊎_elim (λ e. rw e refl) (λ e. rw e refl) (cases_Bool (1 == c));
+}
+
+pub lacks_memory : LacksMemory
+lacks_memory p s = (
+  record {
+    asked = record { goes_on = refl; asked = tt; memory = refl; while_open = (refl, (refl, tt)); told = refl; none_due = refl };
+    free = (refl, (refl, tt));
+    delivered = lacking_delivers p s;
+    worked = λ none. refl;
+  },
+  λ text is. is.memory.1.1.1.1.1.0 refl,
+)
+
+pub refuses_without : RefusesWithout
+refuses_without p s text is = is.memory.1.0 refl
 
 begins : (x : ℕ) (xs : List ℕ) → [] ≡ x ∷ xs → ⊥
 begins x xs e = absurd (cc)

@@ -1,5 +1,6 @@
 mod Ends
 mod Lines
+mod Memory
 mod More
 mod Row
 mod Whole

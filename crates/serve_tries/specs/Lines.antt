@@ -1,5 +1,5 @@
 -- What lines ask for, and what may stand freely.
-use Rattle.std.specs.Prelude.{◌≡◌, ℕ, true, false, List, [], ◌∷◌, ◌++◌, codes}
+use Rattle.std.specs.Prelude.{◌≡◌, ℕ, List, [], ◌∷◌, ◌++◌, codes}
 use Rattle.maple_base.specs.declared.decision.Settings.{Settings}
 use Rattle.maple_base.specs.declared.key.Key.{Key}
 use Rattle.policy_lang.specs.declared.Policy.{Policy}
@@ -9,7 +9,7 @@ use Rattle.machine_steps.specs.declared.entry.Entry.TheVariants as entries
 use Rattle.machine_steps.specs.declared.entry.Input.TheVariants.{Message as Whole}
 use Rattle.machine_steps.specs.declared.reply.Differs.{Differs}
 use Rattle.machine_steps.specs.declared.reply.Reply.TheVariants as replies
-use Rattle.serve_steps.specs.Deeds.{Deed, Past}
+use Rattle.serve_steps.specs.Deeds.{Deed}
 use Rattle.serve_steps.specs.Texts.{asks_last, asks_more, script_asks}
 use Rattle.serve_steps.specs.Texts.Ask.{ReadsRules, Refuses, Renews}
 use Rattle.serve_steps.specs.Parts.{AreFree}

@@ -20,7 +20,7 @@ use Rattle.machine_steps.specs.Histories.{Turn, Leads}
 use Rattle.machine_steps.specs.Machine.{Session, State, opening, tells, with_session}
 use Rattle.serve_steps.specs.Deeds.{Past, turns_of}
 use Rattle.serve_steps.specs.Deeds.Deed.{Enters, Does}
-use Rattle.serve_steps.specs.Parts.{Given, Part, deeds_of, AreCutAtTurns}
+use Rattle.serve_steps.specs.Parts.{Given, Part, deeds_of, AreCutAtTurns, AreOpenedOnce}
 use Rattle.serve_steps.specs.Runs.{IsDone}
 
 -- ---- bytes
@@ -125,6 +125,10 @@ parts_row p s = part3 p s ∷ part2 p s ∷ part1 p s ∷ []
 -- each turn of the board begins a part
 abbrev pub RowIsCut : Type 0
 RowIsCut = (p : Policy) (s : Settings) → AreCutAtTurns first_row (parts_row p s)
+
+-- and the board opens its number once
+abbrev pub RowIsOpenedOnce : Type 0
+RowIsOpenedOnce = (p : Policy) (s : Settings) → AreOpenedOnce first_row (parts_row p s)
 
 -- the machine's turns are a legal history
 abbrev pub RowLeads : Type 0

@@ -1,6 +1,6 @@
 -- The worked row whole, part by part: what came, what the machine replied, and what was sent. Of the machine's states behind the HELLO nothing is said here, so
 -- they are stand-ins, in which no packet waits and no message does.
-use Rattle.std.specs.Prelude.{◌≡◌, ℕ, false, List, [], ◌∷◌, ◌++◌, length}
+use Rattle.std.specs.Prelude.{◌≡◌, ◌≢◌, ℕ, false, List, [], ◌∷◌, ◌++◌, length}
 use Rattle.maple_base.specs.declared.decision.Decision.{Decision}
 use Rattle.maple_base.specs.declared.decision.Settings.{Settings}
 use Rattle.maple_base.specs.declared.key.Key.{Key}
@@ -108,6 +108,7 @@ whole_parts p s key lent run decision what =
 abbrev pub WholeIsDone : Type 0
 WholeIsDone =
     (p : Policy) (s : Settings) (key : Key) (lent : Reply) (run : Recorded) (decision : Decision) (what : Learnt) → is_overload lent ≡ false
+    → lent ≢ replies.NoMemory
     → IsDone (given_row p s) first_row (whole_parts p s key lent run decision what) (report (deeds_of first_row (whole_parts p s key lent run decision what)))
 
 -- 274 bytes were sent

@@ -12,7 +12,7 @@ use Rattle.machine_steps.specs.declared.reply.Reply.TheVariants as replies
 use Rattle.machine_steps.specs.Histories.{Turn}
 use Rattle.serve_steps.specs.Deeds.{is_over}
 use Rattle.serve_steps.specs.Deeds.Deed.{Enters, Does}
-use Rattle.serve_steps.specs.Parts.{Part, deeds_of, AreCutAtTurns, IsPart}
+use Rattle.serve_steps.specs.Parts.{Part, deeds_of, AreCutAtTurns, AreOpenedOnce, IsPart}
 use Rattle.serve_tries.specs.Row.{first_row, given_row, part1, part2, state2, state4, turn1, turn2, turn3, turn4, turn5, was_heard, hello_bytes, request_bytes}
 
 -- ---- what was taken out is never sent
@@ -131,3 +131,7 @@ two_turns p s = record {
 
 abbrev pub TwoTurnsInOne : Type 0
 TwoTurnsInOne = (p : Policy) (s : Settings) → ¬ (AreCutAtTurns first_row (two_turns p s ∷ []))
+
+-- a number is given to a second connection
+abbrev pub OpenedTwice : Type 0
+OpenedTwice = (p : Policy) (s : Settings) → ¬ (AreOpenedOnce first_row (part1 p s ∷ part1 p s ∷ []))

@@ -1,14 +1,15 @@
 // Runs that are right, and some that are wrong.
-ghost use Rattle.serve_tries.specs.Ends.{DoneTooSoon, FirstFails, GoesOn, PassesOver, RefusesNone, StartFails, StartsBehindQuit, ThirdFails, Unwritten, WriteFails};
+ghost use Rattle.serve_tries.specs.Ends.{DoneTooSoon, FirstFails, GoesOn, LacksMemory, PassesOver, RefusesNone, RefusesWithout, StartFails, StartsBehindQuit, ThirdFails, Unwritten, WriteFails};
 ghost use Rattle.serve_tries.specs.Lines.{CommittedUntold, CutLineAsks, DecidedBehindThree, DecidedBehindTwo, EndAsks, NoneBehindQuit, NothingAsks, PlacesAreRefused, PolicyAsks};
 ghost use Rattle.serve_tries.specs.More.{LineIsRefused, OpensInVain, Passes, ScriptIsRefused, ScriptQuits, SendFails, StreamBreaks, Waits};
-ghost use Rattle.serve_tries.specs.Row.{RowIsCut, RowIsDone, RowLeads};
+ghost use Rattle.serve_tries.specs.Row.{RowIsCut, RowIsDone, RowIsOpenedOnce, RowLeads};
 ghost use Rattle.serve_tries.specs.Whole.{LaterIsDone, LeftOpen, WholeIsDone, WholeIsSent};
-ghost use Rattle.serve_tries.specs.Wrong.{ClosedEarly, DecidedAtOnce, EndIsSeen, HeardBehindEnd, NeverSent, NotClosed, NotTold, SentTwice, Skipped, TakenTooSoon, TwoTurnsInOne};
+ghost use Rattle.serve_tries.specs.Wrong.{ClosedEarly, DecidedAtOnce, EndIsSeen, HeardBehindEnd, NeverSent, NotClosed, NotTold, OpenedTwice, SentTwice, Skipped, TakenTooSoon, TwoTurnsInOne};
 
 /// A connection is opened, a HELLO comes, and the control text says `quit`: this run is done.
 pub fn row_law()
     ensures cut { RowIsCut }
+    ensures opened { RowIsOpenedOnce }
     ensures leads { RowLeads }
     ensures done { RowIsDone }
 {}
@@ -27,6 +28,7 @@ pub fn wrong_laws()
     ensures early { ClosedEarly }
     ensures decided { DecidedAtOnce }
     ensures turns { TwoTurnsInOne }
+    ensures opened { OpenedTwice }
 {}
 
 /// A send fails; one finds no room; a session ends, and bytes behind that are passed over; a connection
@@ -52,8 +54,8 @@ pub fn whole_law()
 {}
 
 /// The board fails at its start, or as it is asked for a turn, or a write fails: these runs are so. Runs
-/// that end too soon, or not at all, whose report isn't written, or that pass over a refused line of the
-/// start script are none.
+/// that end too soon, or not at all, that lacked memory, whose report isn't written, or that pass over a
+/// refused line of the start script are none.
 pub fn end_laws()
     ensures start { StartFails }
     ensures first { FirstFails }
@@ -61,6 +63,8 @@ pub fn end_laws()
     ensures write { WriteFails }
     ensures done { DoneTooSoon }
     ensures on { GoesOn }
+    ensures lacks { LacksMemory }
+    ensures without { RefusesWithout }
     ensures unwritten { Unwritten }
     ensures over { PassesOver }
     ensures none { RefusesNone }

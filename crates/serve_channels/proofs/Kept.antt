@@ -1,0 +1,389 @@
+-- What a server keeps, from before to behind: where nothing is done with any connection, with all but one, or with all but a new one.
+use Rattle.std.proofs.Common.{◌≡◌, ◌⊎◌, ℕ, zero, suc, true, false, List, [], ◌∷◌, ◌++◌, length, set, refl, sym, ap, ◌∙◌, subst, inl, inr, ⊎_elim}
+use Rattle.std.specs.Prelude.{IfSome, Option, Some, None, is_some}
+use Rattle.std.specs.List.{slice_get}
+use Rattle.std.proofs.lemmas.Bool.{cases_Bool, cases_eq}
+use Rattle.std.proofs.lemmas.Option.{none-some, same_Some}
+use Rattle.maple_base.specs.declared.decision.Settings.{Settings}
+use Rattle.maple_io.specs.declared.act.Act.{Act}
+use Rattle.maple_io.specs.Boards.{was_opened}
+use Rattle.machine_steps.specs.Machine.{State, opening, session_at}
+use Rattle.machine_steps.specs.Machine.{was_opened as was_session}
+use Rattle.machine_desk.specs.Desks.{Footing}
+use Rattle.machine_desk.specs.Hearing.{IsStaged}
+use Rattle.machine_desk.specs.declared.inbound.Inbound.{Inbound}
+use Rattle.desk_jobs.specs.declared.crew.Crew.{Crew}
+use Rattle.desk_jobs.specs.Crews.{IsCrew, MayHave, SameCrew}
+use Rattle.serve_steps.specs.Deeds.{Past, acts_of, bytes_of, turns_of}
+use Rattle.serve_steps.specs.Parts.{Given}
+use Rattle.serve_channels.specs.declared.connection.Connection.{Connection}
+use Rattle.serve_channels.specs.declared.server.Server.{Server}
+use Rattle.serve_channels.specs.Keeping.{Agrees, IsForgotten, IsKept, IsUnused}
+use Rattle.serve_channels.specs.Servers.{AreDistinct, AreSessions, IsAt, IsKnown, IsSame, IsUnknown, WorksAlone, number_of}
+use Rattle.serve_channels.proofs.Alike.{IsAlike, agrees_alike, forgotten_alike, unused_alike}
+
+-- ---- all but that no packet waits
+
+pub record IsKeptBut (g : Given) (before : List Act) (past : Past) (log : List Act) (s : Server) : Type 0 where
+  pub start : s.desk.footing.start ≡ opening g.policy g.settings
+  pub turns : s.desk.past ≡ turns_of past
+  pub acts : log ≡ before ++ acts_of past
+  pub distinct : AreDistinct s.connections.items
+  pub agree : (at : ℕ) (k : Connection) → slice_get s.connections.items at ≡ Some k → Agrees past k
+  pub forgotten : (c : ℕ) → IsUnknown c s.connections.items → IsForgotten c past
+  pub unused : (c : ℕ) → was_opened c (acts_of past) ≡ false → IsUnused c past × (was_session c s.desk.now ≡ false)
+  pub sessions : AreSessions s.connections.items s.desk.now
+  pub crew : MayHave s.crew s.desk.footing.parts s.desk.now
+
+pub kept_but : {g : Given} {before : List Act} {past : Past} {log : List Act} {s : Server} → IsKept g before past log s → IsKeptBut g before past log s
+kept_but h = record {
+  start = h.start;
+  turns = h.turns;
+  acts = h.acts;
+  distinct = h.distinct;
+  agree = h.agree;
+  forgotten = h.forgotten;
+  unused = h.unused;
+  sessions = h.sessions;
+  crew = h.crew;
+}
+
+pub kept_whole : {g : Given} {before : List Act} {past : Past} {log : List Act} {s : Server} → IsKeptBut g before past log s → (WorksAlone s → s.desk.now.jobs ≡ [])
+    → IsKept g before past log s
+kept_whole h jobs = record {
+  start = h.start;
+  turns = h.turns;
+  acts = h.acts;
+  distinct = h.distinct;
+  agree = h.agree;
+  forgotten = h.forgotten;
+  unused = h.unused;
+  sessions = h.sessions;
+  crew = h.crew;
+  jobs = jobs;
+}
+
+-- ---- the same server
+
+pub same_crew : (c : Option Crew) → SameCrew c c
+same_crew None = tt
+same_crew (Some c) = record { jobs = refl; lobby = refl; name = refl; is = λ h. h; shares = λ h. refl }
+
+pub crew_then : (a b c : Option Crew) → SameCrew a b → SameCrew b c → SameCrew a c
+crew_then None None None h k = tt
+crew_then (Some a) (Some b) (Some c) h k =
+    record { jobs = k.jobs ∙ h.jobs; lobby = k.lobby ∙ h.lobby; name = k.name ∙ h.name; is = λ x. k.is (h.is x); shares = λ x. k.shares (h.is x) ∙ h.shares x }
+crew_then None None (Some c) h k = absurd k
+crew_then None (Some b) c h k = absurd h
+crew_then (Some a) None c h k = absurd h
+crew_then (Some a) (Some b) None h k = absurd k
+
+pub some_crew : (a b : Option Crew) → SameCrew a b → is_some b ≡ is_some a
+some_crew None None h = refl
+some_crew (Some a) (Some b) h = refl
+some_crew None (Some b) h = absurd h
+some_crew (Some a) None h = absurd h
+
+pub still_crew : (c d : Option Crew) → SameCrew c d → IfSome c IsCrew → IfSome d IsCrew
+still_crew None None s is = tt
+still_crew (Some c) (Some d) s is = s.is is
+still_crew None (Some d) s is = absurd s
+still_crew (Some c) None s is = absurd s
+
+pub same_self : (a : Server) → IsSame a a
+same_self a = record { footing = refl; crew = same_crew a.crew }
+
+pub same_then : {a b c : Server} → IsSame a b → IsSame b c → IsSame a c
+same_then {a} {b} {c} h k = record { footing = k.footing ∙ h.footing; crew = crew_then a.crew b.crew c.crew h.crew k.crew }
+
+-- where the desk knows more, and connections may change
+pub same_but : (a b : Server) → b ≡ record a { desk = b.desk; connections = b.connections } → b.desk.footing ≡ a.desk.footing → IsSame a b
+same_but a b rest footing = record { footing = footing; crew = subst (SameCrew a.crew) (sym (ap (λ (x : Server). x.crew) rest)) (same_crew a.crew) }
+
+pub same_desk : (a b : Server) → b ≡ record a { desk = b.desk } → b.desk.footing ≡ a.desk.footing → IsSame a b
+same_desk a b rest footing = record { footing = footing; crew = subst (SameCrew a.crew) (sym (ap (λ (x : Server). x.crew) rest)) (same_crew a.crew) }
+
+pub same_connections : (a b : Server) → b ≡ record a { connections = b.connections } → IsSame a b
+same_connections a b rest =
+    record { footing = ap (λ (x : Server). x.desk.footing) rest; crew = subst (SameCrew a.crew) (sym (ap (λ (x : Server). x.crew) rest)) (same_crew a.crew) }
+
+pub same_server : (a b : Server) → b ≡ a → IsSame a b
+same_server a b e = record { footing = ap (λ (x : Server). x.desk.footing) e; crew = subst (SameCrew a.crew) (sym (ap (λ (x : Server). x.crew) e)) (same_crew a.crew) }
+
+pub alone_back : {a b : Server} → IsSame a b → WorksAlone b → WorksAlone a
+alone_back {a} {b} h alone = sym (some_crew a.crew b.crew h.crew) ∙ alone
+
+crew_on : (a b : Server) → IsSame a b → b.desk.now.settings ≡ a.desk.now.settings → MayHave a.crew a.desk.footing.parts a.desk.now
+    → MayHave b.crew b.desk.footing.parts b.desk.now
+crew_on a b h settings may = record {
+  alone = λ none. ap (λ (f : Footing). f.parts) h.footing ∙ may.alone (sym (some_crew a.crew b.crew h.crew) ∙ none);
+  none = λ solo. some_crew a.crew b.crew h.crew ∙ may.none (sym (ap (λ (s : Settings). s.workers) settings) ∙ solo);
+  is = still_crew a.crew b.crew h.crew may.is;
+}
+
+-- ---- connections
+
+pub at_there : (at : ℕ) (k : Connection) (ks : List Connection) → slice_get ks at ≡ Some k → IsAt at (number_of k) ks
+at_there at k ks there = record { connection = k; there = there; number = refl }
+
+pub number_there : (at c : ℕ) (k : Connection) (ks : List Connection) → slice_get ks at ≡ Some k → IsAt at c ks → number_of k ≡ c
+number_there at c k ks there is = ap number_of (same_Some k is.connection (sym there ∙ is.there)) ∙ is.number
+
+-- an unknown number isn't that of one that is there
+pub not_there : (at c : ℕ) (k : Connection) (ks : List Connection) → slice_get ks at ≡ Some k → IsUnknown c ks → number_of k ≡ c → ⊥
+not_there at c k ks there unknown e = unknown (at, record { connection = k; there = there; number = e })
+
+-- any other has another number
+pub apart : (ks : List Connection) → AreDistinct ks → (at n : ℕ) (k x : Connection) → slice_get ks at ≡ Some k → slice_get ks n ≡ Some x → (n ≡ at → ⊥)
+    → number_of x ≡ number_of k → ⊥
+apart ks distinct at n k x there is other same = other (distinct n at (number_of k) (record { connection = x; there = is; number = same }) (at_there at k ks there))
+
+-- ---- lists
+
+pub set_there : {X : Type 0} (xs : List X) (at : ℕ) (x y : X) → slice_get xs at ≡ Some x → slice_get (set xs at y) at ≡ Some y
+set_there [] at x y e = absurd (none-some x e)
+set_there (z ∷ zs) zero x y e = refl
+set_there (z ∷ zs) (suc n) x y e = set_there zs n x y e
+
+pub set_beside : {X : Type 0} (xs : List X) (at n : ℕ) (y : X) → (n ≡ at → ⊥) → slice_get (set xs at y) n ≡ slice_get xs n
+set_beside [] at n y other = refl
+set_beside (z ∷ zs) zero zero y other = absurd (other refl)
+set_beside (z ∷ zs) zero (suc n) y other = refl
+set_beside (z ∷ zs) (suc at) zero y other = refl
+set_beside (z ∷ zs) (suc at) (suc n) y other = set_beside zs at n y (λ e. other (ap suc e))
+
+pushed_still : {X : Type 0} (xs : List X) (y : X) (n : ℕ) (x : X) → slice_get xs n ≡ Some x → slice_get (xs ++ y ∷ []) n ≡ Some x
+pushed_still [] y n x e = absurd (none-some x e)
+pushed_still (z ∷ zs) y zero x e = e
+pushed_still (z ∷ zs) y (suc n) x e = pushed_still zs y n x e
+
+pushed_end : {X : Type 0} (xs : List X) (y : X) → slice_get (xs ++ y ∷ []) (length xs) ≡ Some y
+pushed_end [] y = refl
+pushed_end (z ∷ zs) y = pushed_end zs y
+
+pushed_at : {X : Type 0} (xs : List X) (y : X) (n : ℕ) (x : X) → slice_get (xs ++ y ∷ []) n ≡ Some x
+    → (slice_get xs n ≡ Some x) ⊎ ((n ≡ length xs) × (y ≡ x))
+pushed_at [] y zero x e = inr (refl, same_Some y x e)
+pushed_at [] y (suc n) x e = absurd (none-some x e)
+pushed_at (z ∷ zs) y zero x e = inl e
+pushed_at (z ∷ zs) y (suc n) x e = ⊎_elim (λ was. inl was) (λ new. inr (ap suc new.0, new.1)) (pushed_at zs y n x e)
+
+swapped : {A B : Type 0} → A ⊎ B → B ⊎ A
+swapped (inl a) = inr a
+swapped (inr b) = inl b
+
+-- one became another with the same number: the same numbers are there
+pub set_numbers : (ks ls : List Connection) (at : ℕ) (k l : Connection) → slice_get ks at ≡ Some k → ls ≡ set ks at l → number_of l ≡ number_of k
+    → (n c : ℕ) → (IsAt n c ks → IsAt n c ls) × (IsAt n c ls → IsAt n c ks)
+set_numbers ks ls at k l there set_is number n c = by (cases_eq n at)
+  where
+    is_there : slice_get ls at ≡ Some l
+    is_there = ap (λ xs. slice_get xs at) set_is ∙ set_there ks at k l there
+
+    beside : (n ≡ at → ⊥) → slice_get ls n ≡ slice_get ks n
+    beside other = ap (λ xs. slice_get xs n) set_is ∙ set_beside ks at n l other
+
+    by : (n ≡ at) ⊎ (n ≡ at → ⊥) → (IsAt n c ks → IsAt n c ls) × (IsAt n c ls → IsAt n c ks)
+    by (inl same) = (
+      λ is. record {
+        connection = l;
+        there = ap (slice_get ls) same ∙ is_there;
+        number = number ∙ number_there at c k ks there (subst (λ m. IsAt m c ks) same is);
+      },
+      λ is. record {
+        connection = k;
+        there = ap (slice_get ks) same ∙ there;
+        number = sym number ∙ number_there at c l ls is_there (subst (λ m. IsAt m c ls) same is);
+      },
+    )
+    by (inr other) = (
+      λ is. record { connection = is.connection; there = beside other ∙ is.there; number = is.number },
+      λ is. record { connection = is.connection; there = sym (beside other) ∙ is.there; number = is.number },
+    )
+
+-- a number that isn't there behind it wasn't there, and isn't that one's
+pub set_unknown : (ks ls : List Connection) (at : ℕ) (k l : Connection) → slice_get ks at ≡ Some k → ls ≡ set ks at l → number_of l ≡ number_of k → (c : ℕ) → IsUnknown c ls
+    → IsUnknown c ks × (c ≡ number_of k → ⊥)
+set_unknown ks ls at k l there set_is number c unknown =
+    let was : IsUnknown c ks = λ known. unknown (known.0, (set_numbers ks ls at k l there set_is number known.0 c).0 known.1) in
+    (was, λ e. not_there at c k ks there was (sym e))
+
+-- a number that isn't there behind a new connection wasn't there, and isn't that one's
+pub pushed_unknown : (ks ls : List Connection) (l : Connection) → ls ≡ ks ++ l ∷ [] → (c : ℕ) → IsUnknown c ls → IsUnknown c ks
+pushed_unknown ks ls l e c none known =
+    none (
+      known.0,
+      record {
+        connection = known.1.connection;
+        there = ap (λ xs. slice_get xs known.0) e ∙ pushed_still ks l known.0 known.1.connection known.1.there;
+        number = known.1.number;
+      },
+    )
+
+pub pushed_number : (ks ls : List Connection) (l : Connection) → ls ≡ ks ++ l ∷ [] → (c : ℕ) → IsUnknown c ls → c ≡ number_of l → ⊥
+pushed_number ks ls l e c none same = none (length ks, record { connection = l; there = ap (λ xs. slice_get xs (length ks)) e ∙ pushed_end ks l; number = sym same })
+
+-- ---- a session stays
+
+pub record IsSessionStill (c : ℕ) (m n : State) : Type 0 where
+  pub live : is_some (session_at c n) ≡ is_some (session_at c m)
+  pub opened : was_session c n ≡ was_session c m
+
+pub staged_still : (i : Inbound) (m n : State) → IsSessionStill i.connection m n → IsStaged i m → IsStaged i n
+staged_still i m n h k = record { live = h.live ∙ k.live; opened = h.opened ∙ k.opened }
+
+-- nothing was done with a connection; on one that isn't there bytes may have come, and it may have been opened
+pub record IsLeft (past after : Past) (a b : Server) (c : ℕ) : Type 0 where
+  pub alike : IsAlike c past after
+  pub bytes : IsKnown c a.connections.items → bytes_of c after ≡ bytes_of c past
+  pub session : IsSessionStill c a.desk.now b.desk.now
+
+-- the desk and the log are as the deeds tell
+pub record IsTold (before : List Act) (after : Past) (log : List Act) (a b : Server) : Type 0 where
+  pub same : IsSame a b
+  pub turns : b.desk.past ≡ turns_of after
+  pub acts : log ≡ before ++ acts_of after
+  pub settings : b.desk.now.settings ≡ a.desk.now.settings
+
+-- ---- nothing was done with any
+
+module _ {g : Given} {before : List Act} {past after : Past} {old_log log : List Act} {a b : Server} (kept : IsKeptBut g before past old_log a) (told : IsTold before after log a b) where
+  start_is : b.desk.footing.start ≡ opening g.policy g.settings
+  start_is = ap (λ (f : Footing). f.start) told.same.footing ∙ kept.start
+
+  never_opened : (c : ℕ) → IsLeft past after a b c → was_opened c (acts_of after) ≡ false → was_opened c (acts_of past) ≡ false
+  never_opened c left none =
+      ⊎_elim (λ was. (let f : true ≡ false = sym (left.alike.opened was) ∙ none in absurd (cc))) (λ was. was) (cases_Bool (was_opened c (acts_of past)))
+
+  unused_left : (c : ℕ) → IsLeft past after a b c → was_opened c (acts_of after) ≡ false → IsUnused c after × (was_session c b.desk.now ≡ false)
+  unused_left c left none = (let was = kept.unused c (never_opened c left none) in (unused_alike c past after left.alike was.0, left.session.opened ∙ was.1))
+
+  forgotten_left : (c : ℕ) → IsLeft past after a b c → IsUnknown c a.connections.items → IsForgotten c after
+  forgotten_left c left unknown = forgotten_alike c past after left.alike (kept.forgotten c unknown)
+
+  alone_left : (c : ℕ) → IsLeft past after a b c → IsUnknown c a.connections.items → is_some (session_at c b.desk.now) ≡ false
+  alone_left c left unknown = left.session.live ∙ kept.sessions.alone c unknown
+
+  agrees_left : (at : ℕ) (k : Connection) → IsLeft past after a b (number_of k) → slice_get a.connections.items at ≡ Some k → Agrees after k
+  agrees_left at k left there = agrees_alike k past after left.alike (left.bytes (at, at_there at k a.connections.items there)) (kept.agree at k there)
+
+  staged_left : (at : ℕ) (k : Connection) → IsLeft past after a b (number_of k) → slice_get a.connections.items at ≡ Some k → IsStaged k.inbound b.desk.now
+  staged_left at k left there = staged_still k.inbound a.desk.now b.desk.now left.session (kept.sessions.staged at k there)
+
+  pub kept_same : b.connections.items ≡ a.connections.items → ((c : ℕ) → IsLeft past after a b c) → IsKeptBut g before after log b
+  kept_same e left = record {
+    start = start_is;
+    turns = told.turns;
+    acts = told.acts;
+    distinct = subst AreDistinct (sym e) kept.distinct;
+    agree = λ at k there. agrees_left at k (left (number_of k)) (sym (ap (λ ks. slice_get ks at) e) ∙ there);
+    forgotten = λ c unknown. forgotten_left c (left c) (subst (IsUnknown c) e unknown);
+    unused = λ c none. unused_left c (left c) none;
+    sessions = record {
+      staged = λ at k there. staged_left at k (left (number_of k)) (sym (ap (λ ks. slice_get ks at) e) ∙ there);
+      alone = λ c unknown. alone_left c (left c) (subst (IsUnknown c) e unknown);
+    };
+    crew = crew_on a b told.same told.settings kept.crew;
+  }
+
+  -- ---- nothing was done with any but one, which became another
+
+  module _ (at : ℕ) (k l : Connection) (there : slice_get a.connections.items at ≡ Some k) (set_is : b.connections.items ≡ set a.connections.items at l)
+      (number : number_of l ≡ number_of k) (here : Agrees after l) (staged : IsStaged l.inbound b.desk.now)
+      (others : (c : ℕ) → (c ≡ number_of k → ⊥) → IsLeft past after a b c) where
+    is_there : slice_get b.connections.items at ≡ Some l
+    is_there = ap (λ ks. slice_get ks at) set_is ∙ set_there a.connections.items at k l there
+
+    beside : (n : ℕ) → (n ≡ at → ⊥) → slice_get b.connections.items n ≡ slice_get a.connections.items n
+    beside n other = ap (λ ks. slice_get ks n) set_is ∙ set_beside a.connections.items at n l other
+
+    by_place : (P : Connection → Type 0) → P l → ((n : ℕ) (x : Connection) → (n ≡ at → ⊥) → slice_get a.connections.items n ≡ Some x → P x)
+        → (n : ℕ) (x : Connection) → slice_get b.connections.items n ≡ Some x → P x
+    by_place P this that n x e =
+        ⊎_elim
+        (λ same. subst P (same_Some l x (sym is_there ∙ ap (slice_get b.connections.items) (sym same) ∙ e)) this)
+        (λ other. that n x other (sym (beside n other) ∙ e)) (cases_eq n at)
+
+    numbers : (n c : ℕ) → (IsAt n c a.connections.items → IsAt n c b.connections.items) × (IsAt n c b.connections.items → IsAt n c a.connections.items)
+    numbers = set_numbers a.connections.items b.connections.items at k l there set_is number
+
+    gone : (c : ℕ) → IsUnknown c b.connections.items → IsUnknown c a.connections.items × (c ≡ number_of k → ⊥)
+    gone = set_unknown a.connections.items b.connections.items at k l there set_is number
+
+    other_number : (n : ℕ) (x : Connection) → (n ≡ at → ⊥) → slice_get a.connections.items n ≡ Some x → number_of x ≡ number_of k → ⊥
+    other_number n x other is = apart a.connections.items kept.distinct at n k x there is other
+
+    never_this : (c : ℕ) → (c ≡ number_of k → ⊥) ⊎ (c ≡ number_of k) → was_opened c (acts_of after) ≡ false → IsLeft past after a b c
+    never_this c (inl other) none = others c other
+    never_this c (inr same) none = (let f : true ≡ false = sym here.opened ∙ ap (λ n. was_opened n (acts_of after)) (number ∙ sym same) ∙ none in absurd (cc))
+
+    pub kept_at : IsKeptBut g before after log b
+    kept_at = record {
+      start = start_is;
+      turns = told.turns;
+      acts = told.acts;
+      distinct = λ i j c first second. kept.distinct i j c ((numbers i c).1 first) ((numbers j c).1 second);
+      agree = by_place (Agrees after) here (λ n x other is. agrees_left n x (others (number_of x) (other_number n x other is)) is);
+      forgotten = λ c unknown. forgotten_left c (others c (gone c unknown).1) (gone c unknown).0;
+      unused = λ c none. unused_left c (never_this c (swapped (cases_eq c (number_of k))) none) none;
+      sessions = record {
+        staged = by_place (λ x. IsStaged x.inbound b.desk.now) staged (λ n x other is. staged_left n x (others (number_of x) (other_number n x other is)) is);
+        alone = λ c unknown. alone_left c (others c (gone c unknown).1) (gone c unknown).0;
+      };
+      crew = crew_on a b told.same told.settings kept.crew;
+    }
+
+  -- ---- a new one is there, with which nothing was done before
+
+  module _ (l : Connection) (push_is : b.connections.items ≡ a.connections.items ++ l ∷ []) (unknown : IsUnknown (number_of l) a.connections.items)
+      (here : Agrees after l) (staged : IsStaged l.inbound b.desk.now) (others : (c : ℕ) → (c ≡ number_of l → ⊥) → IsLeft past after a b c) where
+    by_end : (P : Connection → Type 0) → P l → ((n : ℕ) (x : Connection) → slice_get a.connections.items n ≡ Some x → P x)
+        → (n : ℕ) (x : Connection) → slice_get b.connections.items n ≡ Some x → P x
+    by_end P this that n x e =
+        ⊎_elim (λ is. that n x is) (λ is. subst P is.1 this) (pushed_at a.connections.items l n x (sym (ap (λ ks. slice_get ks n) push_is) ∙ e))
+
+    -- one that is there was there, or is the new one
+    at_either : (n c : ℕ) → IsAt n c b.connections.items → IsAt n c a.connections.items ⊎ ((n ≡ length a.connections.items) × (c ≡ number_of l))
+    at_either n c is =
+        ⊎_elim
+        (λ was. inl (record { connection = is.connection; there = was; number = is.number })) (λ new. inr (new.0, sym is.number ∙ ap number_of (sym new.1)))
+        (pushed_at a.connections.items l n is.connection (sym (ap (λ ks. slice_get ks n) push_is) ∙ is.there))
+
+    are_distinct : AreDistinct b.connections.items
+    are_distinct i j c first second = by (at_either i c first) (at_either j c second)
+      where
+        by : IsAt i c a.connections.items ⊎ ((i ≡ length a.connections.items) × (c ≡ number_of l))
+            → IsAt j c a.connections.items ⊎ ((j ≡ length a.connections.items) × (c ≡ number_of l)) → i ≡ j
+        by (inl x) (inl y) = kept.distinct i j c x y
+        by (inr x) (inr y) = x.0 ∙ sym y.0
+        by (inl x) (inr y) = absurd (unknown (i, subst (λ n. IsAt i n a.connections.items) y.1 x))
+        by (inr x) (inl y) = absurd (unknown (j, subst (λ n. IsAt j n a.connections.items) x.1 y))
+
+    was_unknown : (c : ℕ) → IsUnknown c b.connections.items → IsUnknown c a.connections.items
+    was_unknown c none = pushed_unknown a.connections.items b.connections.items l push_is c none
+
+    not_new : (c : ℕ) → IsUnknown c b.connections.items → c ≡ number_of l → ⊥
+    not_new c none e = pushed_number a.connections.items b.connections.items l push_is c none e
+
+    old_number : (n : ℕ) (x : Connection) → slice_get a.connections.items n ≡ Some x → number_of x ≡ number_of l → ⊥
+    old_number n x is e = unknown (n, record { connection = x; there = is; number = e })
+
+    never_new : (c : ℕ) → (c ≡ number_of l → ⊥) ⊎ (c ≡ number_of l) → was_opened c (acts_of after) ≡ false → IsLeft past after a b c
+    never_new c (inl other) none = others c other
+    never_new c (inr same) none = (let f : true ≡ false = sym here.opened ∙ ap (λ n. was_opened n (acts_of after)) (sym same) ∙ none in absurd (cc))
+
+    pub kept_new : IsKeptBut g before after log b
+    kept_new = record {
+      start = start_is;
+      turns = told.turns;
+      acts = told.acts;
+      distinct = are_distinct;
+      agree = by_end (Agrees after) here (λ n x is. agrees_left n x (others (number_of x) (old_number n x is)) is);
+      forgotten = λ c none. forgotten_left c (others c (not_new c none)) (was_unknown c none);
+      unused = λ c none. unused_left c (never_new c (swapped (cases_eq c (number_of l))) none) none;
+      sessions = record {
+        staged = by_end (λ x. IsStaged x.inbound b.desk.now) staged (λ n x is. staged_left n x (others (number_of x) (old_number n x is)) is);
+        alone = λ c none. alone_left c (others c (not_new c none)) (was_unknown c none);
+      };
+      crew = crew_on a b told.same told.settings kept.crew;
+    }

@@ -1,0 +1,125 @@
+-- One message that is heard: room for the packet in it, the entry, and what is done about its reply.
+use Rattle.std.specs.Prelude.{◌≡◌, ◌⊎◌, ℕ, ◌<◌, Bool, true, false, List, [], ◌++◌, length, map, set, Option, Some, None, IfSome}
+use Rattle.std.specs.List.{slice_get}
+use Rattle.maple_io.specs.declared.act.Act.{Act}
+use Rattle.of10_codec.specs.declared.message.Body.{Body}
+use Rattle.of10_codec.specs.declared.message.Body.TheVariants as body
+use Rattle.machine_steps.specs.declared.entry.Entry.{Entry}
+use Rattle.machine_steps.specs.declared.entry.Entry.TheVariants as entries
+use Rattle.machine_steps.specs.declared.entry.Input.{Input}
+use Rattle.machine_steps.specs.declared.entry.Input.TheVariants.{Message as Whole, Bad}
+use Rattle.machine_steps.specs.Machine.{most_jobs}
+use Rattle.machine_steps.specs.Waiting.{Waiting}
+use Rattle.machine_desk.specs.Desks.{DeskView}
+use Rattle.machine_desk.specs.Hearing.{Hears as HearsAtDesk, IsStaged}
+use Rattle.machine_desk.specs.Working.{Works}
+use Rattle.machine_desk.specs.declared.hearing.Heard.{Heard}
+use Rattle.machine_desk.specs.declared.hearing.Heard.TheVariants as heard
+use Rattle.machine_desk.specs.declared.inbound.Inbound.{Inbound}
+use Rattle.packet_workers.specs.declared.worked.Worked.{Worked}
+use Rattle.packet_workers.specs.declared.worked.Worked.TheVariants.{NoMemory, Worn}
+use Rattle.desk_jobs.specs.Crews.{IsCrew}
+use Rattle.desk_jobs.specs.Laws.{Meanwhile}
+use Rattle.sim_steps.specs.Agreeing.{AreCut}
+use Rattle.serve_steps.specs.Deeds.{Past, bytes_of, inputs_of, is_open, was_accepted}
+use Rattle.serve_channels.specs.declared.connection.Connection.{Connection}
+use Rattle.serve_channels.specs.declared.hearing.Came.{Came}
+use Rattle.serve_channels.specs.declared.hearing.Came.TheVariants as came
+use Rattle.serve_channels.specs.declared.server.Server.{Server}
+use Rattle.serve_channels.specs.Hearing.{UpTo}
+use Rattle.serve_channels.specs.Keeping.{Goes}
+use Rattle.serve_channels.specs.Servers.{IsAt, IsSame, WorksAlone}
+
+-- ---- who works beside
+
+-- the crew's pass, if there is one, is of its queue
+abbrev pub HasCrew : Server → Type 0
+HasCrew s = IfSome s.crew IsCrew
+
+-- the server and others did what anybody may, of packets that wait, and nothing else changed but the crew's pass
+pub record Tends (old new : Server) : Type 0 where
+  pub meanwhile : Meanwhile old.desk new.desk
+  pub rest : new ≡ record old { desk = new.desk; crew = new.crew }
+  pub same : IsSame old new
+
+abbrev pub brings_packet : Body → Bool
+brings_packet (body.PacketIn buffer total in_port reason bytes) = true
+brings_packet other = false
+
+-- a packet comes with it
+abbrev pub is_packet : Input → Bool
+is_packet (Whole m) = brings_packet m.body
+is_packet (Bad place bad) = false
+
+-- there is room for a packet, whatever others do until it is heard
+pub record MakesRoom (old new : Server) : Type 0 where
+  pub tends : Tends old new
+  pub room : (d : DeskView) → Meanwhile new.desk d → WorksAlone old ⊎ (length d.now.jobs < most_jobs)
+
+-- the same where a packet came
+pub record MakesRoomFor (input : Input) (old new : Server) : Type 0 where
+  pub tends : Tends old new
+  pub room : is_packet input ≡ true → (d : DeskView) → Meanwhile new.desk d → WorksAlone old ⊎ (length d.now.jobs < most_jobs)
+
+-- the work on a packet came to its end
+abbrev pub IsWhole : Worked → Type 0
+IsWhole NoMemory = ⊥
+IsWhole Worn = ⊥
+IsWhole worked = Unit {0}
+
+pub record IsWorked (item : Waiting) (a b : DeskView) : Type 0 where
+  pub worked : Worked
+  pub works : Works item worked a b
+  pub whole : IsWhole worked
+
+-- a packet that waits was answered, or handed over to who works beside
+pub record Attends (item : Waiting) (old new : Server) : Type 0 where
+  pub tends : Tends old new
+  pub alone : WorksAlone old → IsWorked item old.desk new.desk
+
+-- what is done about an input
+abbrev pub Follows : Heard → Server → Server → Type 0
+Follows (heard.Packet item) old new = Attends item old new
+Follows rest old new = new ≡ old
+
+-- ---- a message
+
+-- an input of the connection with this index was heard; it alone changes, and its session may end
+pub record HearsInput (at : ℕ) (input : Input) (heard : Heard) (old new : Server) : Type 0 where
+  pub connection : Connection
+  pub there : slice_get old.connections.items at ≡ Some connection
+  pub behind : Inbound
+  pub hears : HearsAtDesk input heard old.desk connection.inbound new.desk behind
+  pub staged : IsStaged connection.inbound old.desk.now → IsStaged behind new.desk.now
+  pub rest : new ≡ record old { desk = new.desk; connections = new.connections }
+  pub connections : new.connections.items ≡ set old.connections.items at (record connection { inbound = behind })
+
+-- what is told of an input
+abbrev pub came_of : Heard → Came
+came_of heard.Ended = came.Ended
+came_of rest = came.Message
+
+-- how many bytes of a connection are to be heard yet
+abbrev pub rest_in : Option Connection → ℕ
+rest_in None = 0
+rest_in (Some k) = length k.inbound.from.stream.rest
+
+abbrev pub rest_at : ℕ → Server → ℕ
+rest_at at s = rest_in (slice_get s.connections.items at)
+
+-- some inputs were heard of a connection, none where its session wasn't open, and by what came no more is to be heard
+pub record HearsSome (c : ℕ) (k : Came) (past : Past) (own : List Entry) (done : Past) : Type 0 where
+  pub inputs : List Input
+  pub rest : List ℕ
+  pub entries_are : own ≡ map (entries.Heard c) inputs
+  pub heard : inputs_of c (done ++ past) ≡ inputs_of c past ++ inputs
+  pub bytes : bytes_of c (done ++ past) ≡ bytes_of c past
+  pub accepted : was_accepted c (done ++ past) ≡ was_accepted c past
+  pub silent : is_open c past ≡ false → inputs ≡ []
+  pub cut : is_open c past ≡ true → AreCut 0 (inputs_of c past ++ inputs) (bytes_of c past) rest
+  pub up_to : is_open c past ≡ true → UpTo k c (done ++ past) rest
+
+-- what came next of the connection with this index was heard; behind a message fewer bytes are left
+pub record HearsAt (at : ℕ) (k : Came) (old new : Server) : Type 0 where
+  pub goes : (c : ℕ) → IsAt at c old.connections.items → (log : List Act) → Goes (HearsSome c k) old log new log
+  pub fewer : k ≡ came.Message → rest_at at new < rest_at at old

@@ -1,0 +1,70 @@
+-- A server: the machine at its desk, who works beside it, and the connections of switches.
+use Rattle.std.specs.Prelude.{◌≡◌, ℕ, ◌<◌, ◌==◌, true, false, List, length, All, slice_index_or, Some, is_some}
+use Rattle.std.specs.List.{slice_get}
+use Rattle.machine_steps.specs.Machine.{State, session_at}
+use Rattle.machine_desk.specs.Hearing.{IsStaged}
+use Rattle.desk_jobs.specs.Crews.{SameCrew}
+use Rattle.serve_channels.specs.declared.connection.Connection.{Connection}
+use Rattle.serve_channels.specs.declared.server.Server.{Server}
+
+-- ---- connections
+
+abbrev pub number_of : Connection → ℕ
+number_of k = k.inbound.connection
+
+-- the connection with this index is that of this number
+pub record IsAt (at c : ℕ) (ks : List Connection) : Type 0 where
+  pub connection : Connection
+  pub there : slice_get ks at ≡ Some connection
+  pub number : number_of connection ≡ c
+
+-- there is one of this number
+abbrev pub IsKnown : ℕ → List Connection → Type 0
+IsKnown c ks = (at : ℕ) × IsAt at c ks
+
+abbrev pub IsUnknown : ℕ → List Connection → Type 0
+IsUnknown c ks = IsKnown c ks → ⊥
+
+-- the same of a number, and of a place, by tests
+abbrev pub NoneHas : ℕ → List Connection → Type 0
+NoneHas c ks = All (λ (k : Connection). (number_of k == c) ≡ false) ks
+
+pub record HasPlace (at c : ℕ) (ks : List Connection) : Type 0 where
+  pub within : at < length ks
+  pub has : (d : Connection) → (number_of (slice_index_or ks at d) == c) ≡ true
+
+-- no number stands twice
+abbrev pub AreDistinct : List Connection → Type 0
+AreDistinct ks = (i j c : ℕ) → IsAt i c ks → IsAt j c ks → i ≡ j
+
+-- ---- the machine
+
+-- the sessions of the machine are those of these connections
+pub record AreSessions (ks : List Connection) (m : State) : Type 0 where
+  pub staged : (at : ℕ) (k : Connection) → slice_get ks at ≡ Some k → IsStaged k.inbound m
+  pub alone : (c : ℕ) → IsUnknown c ks → is_some (session_at c m) ≡ false
+
+-- ---- what no call changes
+
+-- whose hall it is, and who works beside
+pub record IsSame (old new : Server) : Type 0 where
+  pub footing : new.desk.footing ≡ old.desk.footing
+  pub crew : SameCrew old.crew new.crew
+
+-- the same, but for what is marked of the turns
+pub record IsSameHall (old new : Server) : Type 0 where
+  pub place : new.desk.footing.place ≡ old.desk.footing.place
+  pub name : new.desk.footing.name ≡ old.desk.footing.name
+  pub start : new.desk.footing.start ≡ old.desk.footing.start
+  pub parts : new.desk.footing.parts ≡ old.desk.footing.parts
+  pub crew : SameCrew old.crew new.crew
+
+-- the same connections are there
+abbrev pub SameNumbers : Server → Server → Type 0
+SameNumbers old new =
+    (at c : ℕ)
+    → (IsAt at c old.connections.items → IsAt at c new.connections.items) × (IsAt at c new.connections.items → IsAt at c old.connections.items)
+
+-- nobody works beside the server
+abbrev pub WorksAlone : Server → Type 0
+WorksAlone server = is_some server.crew ≡ false

@@ -1,0 +1,61 @@
+// Packets that wait, beside who works on them.
+ghost use Rattle.std.specs.Prelude.{◌≡◌, OnOk};
+ghost use Rattle.serve_channels.specs.Passing.{Attends, HasCrew, IsWhole, MakesRoom};
+ghost use Rattle.serve_channels.specs.Servers.{IsSame};
+
+use crate::Server;
+use crate::laws::serving_laws;
+use core_machine::JobItem;
+use desk_jobs::{Handed, Stopped, tending_laws};
+use packet_workers::{Gate, Worked};
+use std::sync::Wait;
+
+impl<'h> Server<'h> {
+    // Beside workers: waits until the machine takes a further packet in, whatever they do then.
+    pub(crate) fn make_room<R: Wait, G: Gate>(&mut self, rt: &R, gate: &G) -> Result<(), Stopped>
+        requires crew { HasCrew self.old }
+        ensures room { OnOk result (MakesRoom self.old self.new) }
+        ensures connections { self.new.connections.items ≡ self.old.connections.items }
+        ensures same { IsSame self.old self.new }
+    {
+        serving_laws();
+        tending_laws();
+        self.desk.law();
+        match &mut self.crew {
+            None => Ok(()),
+            Some(crew) => Ok(crew.make_room(rt, gate, self.alloc, &mut self.desk)?),
+        }
+    }
+
+    // A packet that waits is answered, or handed over to the workers; where their queue is full the server answers it.
+    pub(crate) fn attend<R: Wait, G: Gate>(
+        &mut self,
+        rt: &R,
+        gate: &G,
+        item: JobItem,
+    ) -> Result<(), Stopped>
+        requires crew { HasCrew self.old }
+        ensures attends { OnOk result (Attends item self.old self.new) }
+        ensures connections { self.new.connections.items ≡ self.old.connections.items }
+        ensures same { IsSame self.old self.new }
+    {
+        tending_laws();
+        match &mut self.crew {
+            None => answered(self.desk.work(rt, self.alloc, item, gate)),
+            Some(crew) => match crew.hand_over(rt, gate, self.alloc, &mut self.desk, item) {
+                Handed::Queued => Ok(()),
+                Handed::Worked(worked) => answered(worked),
+            },
+        }
+    }
+}
+
+// Whether the work on a packet came to its end.
+pub(crate) fn answered(worked: Worked) -> Result<(), Stopped>
+    ensures { OnOk result (IsWhole worked) }
+{
+    match worked {
+        Worked::NoMemory | Worked::Worn => Err(Stopped),
+        Worked::Answered | Worked::Spent | Worked::NotOpen => Ok(()),
+    }
+}

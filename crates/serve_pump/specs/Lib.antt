@@ -1,0 +1,4 @@
+-- A reader must believe none of these: what a run of `serve` is stands in `serve_steps`, and the contract of `run_serve` in its words. These are the words of
+-- the contracts below it.
+pub mod Running
+pub mod Turning
