@@ -12,6 +12,7 @@ use machine_steps::{Entry, Reply, machine_laws};
 use maple_base::{NoMemory, Settings};
 use policy_lang::Policy;
 use std::alloc::Global;
+use std::collections::VecDeque;
 use std::marker::Model;
 use std::sync::Arc;
 use topo_paths::Scene;
@@ -60,7 +61,7 @@ impl Core {
             learned: Vec::new(alloc),
             sessions: Vec::new(alloc),
             opened: Opened::none(alloc),
-            jobs: Vec::new(alloc),
+            jobs: VecDeque::new(alloc),
             job_count: 0,
             trace_count: 0,
             lines: Vec::new(alloc),

@@ -1,11 +1,13 @@
 // What the machine does behind the line of a state, in room that was made ahead of the state.
 ghost use Rattle.std.specs.Prelude.{◌≡◌, ◌+◌, ◌≤◌, OnOk, OnErr, vec_len, vec_capacity};
+ghost use Rattle.std.specs.VecDeque.{deque_len, deque_capacity};
 ghost use Rattle.core_machine.specs.Following.{IsNext, IsOfCount, count_behind, follows, jobs_behind, jobs_needed, lines_behind, lines_needed};
 
 use machine_parts::{Parts, make_room};
 use machine_steps::Job;
 use maple_base::NoMemory;
 use report_text::Line;
+use std::collections::VecDeque;
 
 /// What follows.
 #[derive(Drop)]
@@ -54,9 +56,9 @@ pub fn lines_needed(next: &Next) -> usize
 /// # Errors
 ///
 /// `NoMemory`. No job has changed then.
-pub fn make_room_for_job(jobs: &mut Vec<Job>, next: &Next) -> Result<(), NoMemory>
+pub fn make_room_for_job(jobs: &mut VecDeque<Job>, next: &Next) -> Result<(), NoMemory>
     ensures jobs { jobs.new.items ≡ jobs.old.items }
-    ensures job { OnOk result (vec_len jobs.new + jobs_needed next.now ≤ vec_capacity jobs.new) }
+    ensures job { OnOk result (deque_len jobs.new + jobs_needed next.now ≤ deque_capacity jobs.new) }
 {
     jobs.reserve(jobs_needed(next))?;
     Ok(())
@@ -73,9 +75,9 @@ fn jobs_needed(next: &Next) -> usize
 }
 
 /// Does what follows, in the room that was made.
-pub fn follow(lines: &mut Vec<Line>, jobs: &mut Vec<Job>, job_count: &mut u64, next: Next)
+pub fn follow(lines: &mut Vec<Line>, jobs: &mut VecDeque<Job>, job_count: &mut u64, next: Next)
     requires line { vec_len lines.old + lines_needed next ≤ vec_capacity lines.old }
-    requires job { vec_len jobs.old + jobs_needed next ≤ vec_capacity jobs.old }
+    requires job { deque_len jobs.old + jobs_needed next ≤ deque_capacity jobs.old }
     requires next { IsOfCount next job_count.old }
     ensures lines { lines.new.items ≡ lines_behind next lines.old.items }
     ensures len { vec_len lines.new ≡ vec_len lines.old + lines_needed next }
@@ -88,7 +90,7 @@ pub fn follow(lines: &mut Vec<Line>, jobs: &mut Vec<Job>, job_count: &mut u64, n
         Next::Overload(device) => lines.push_reserved(Line::Overload { device }),
         Next::Job(job) => {
             *job_count = job.number;
-            jobs.push_reserved(job);
+            jobs.push_back_reserved(job);
         }
     }
 }

@@ -1,6 +1,7 @@
 // A run ends the open job at a place: its packet is answered, and its trace is learned.
-ghost use Rattle.std.specs.Prelude.{◌≡◌, ◌<◌, Some, IfOk, OnErr, length, remove, vec_len};
+ghost use Rattle.std.specs.Prelude.{◌≡◌, ◌<◌, Some, IfOk, OnErr, length, remove};
 ghost use Rattle.std.specs.List.{slice_get};
+ghost use Rattle.std.specs.VecDeque.{deque_len};
 ghost use Rattle.machine_answers.specs.Concluding.{AnswersAt, AnswersIn, CanAnswerIn, ConcludesAt, HasRun, HasTrace, SpendsAt, count_behind};
 ghost use Rattle.machine_steps.specs.Sound.{IsSound};
 
@@ -10,6 +11,7 @@ use machine_parts::{Connection, Parts, finding, lists, make_room};
 use machine_steps::{Job, Reply, running_laws};
 use maple_base::{NoMemory, Outcome, Settings};
 use report_text::{Learnt, Line};
+use std::collections::VecDeque;
 use switch_traces::SwitchTraces;
 use trace_record::Run;
 use trace_tree::Trace;
@@ -119,13 +121,16 @@ fn answer_in(
     Ok(learnt)
 }
 
-// Closes the job at a place, and hands it out.
-fn close_at(jobs: &mut Vec<Job>, at: usize) -> Job
-    requires within { at < vec_len jobs.old }
+// Closes the job at a place, and hands it out. Few jobs move where it is among the oldest.
+fn close_at(jobs: &mut VecDeque<Job>, at: usize) -> Job
+    requires within { at < deque_len jobs.old }
     ensures job { slice_get jobs.old.items at ≡ Some result }
     ensures left { jobs.new.items ≡ remove jobs.old.items at }
 {
-    jobs.remove(at)
+    let Some(job) = jobs.remove(at) else {
+        unreachable!()
+    };
+    job
 }
 
 // How many traces were learned, where the next one would have this number.

@@ -23,6 +23,7 @@ use maple_base::{Cell, EnvNow, Key, NoMemory, Value};
 use policy_lang::Policy;
 use report_text::Line;
 use std::alloc::Global;
+use std::collections::VecDeque;
 use topo_paths::Scene;
 use trace_record::{NowView, Run, record};
 
@@ -144,8 +145,8 @@ fn run_for(parts: &Parts, at: usize) -> Result<Run, NoMemory>
 }
 
 // The place of the job of a number.
-fn place_of(jobs: &[Job], number: u64) -> Option<usize>
-    ensures { result ≡ position (λ (j : JobData). j.number == number) jobs.now }
+fn place_of(jobs: &VecDeque<Job>, number: u64) -> Option<usize>
+    ensures { result ≡ position (λ (j : JobData). j.number == number) jobs.now.items }
 {
     jobs.iter().position(|job| job.number == number)
 }

@@ -5,6 +5,7 @@ use denote.Struct.Declared
 use Rattle.std.below.std_heap.proofs.GlobalAllocator.TheSendSync as frees
 use Rattle.std.proofs.Crossing
 use Rattle.std.proofs.alloc.Global.TheSendSync as global
+use Rattle.std.proofs.collections.VecDeque.TheSendSync as deque
 use Rattle.std.proofs.vec.Vec.TheSendSync as vec
 use Rattle.maple_base.proofs.decision.Settings.TheSendSync as settings
 use Rattle.maple_base.proofs.witness.Witness.TheSendSync as witness
@@ -46,7 +47,7 @@ parts_send = Send.view_send parts.the_row _ _ _ _ (Send.recorded_send (parts.the
                 (
                   opened.the_send,
                   (
-                    vec.the_send _ _ _ job.the_send global.the_send frees.the_frees,
+                    deque.the_send _ _ _ job.the_send global.the_send frees.the_frees,
                     (Send.plain_send _ _ _ _ _, (Send.plain_send _ _ _ _ _, (vec.the_send _ _ _ line.the_send global.the_send frees.the_frees, tt))),
                   ),
                 ),

@@ -6,10 +6,11 @@ ghost use Rattle.machine_steps.specs.Steps.{why_of};
 
 use machine_steps::Job;
 use report_text::{Line, Why};
+use std::collections::VecDeque;
 use switch_session::End;
 
 /// Closes the jobs of a connection whose session ended, and tells its line, for which there is room.
-pub fn close(jobs: &mut Vec<Job>, lines: &mut Vec<Line>, connection: u32, end: End)
+pub fn close(jobs: &mut VecDeque<Job>, lines: &mut Vec<Line>, connection: u32, end: End)
     requires room { vec_len lines.old < vec_capacity lines.old }
     ensures jobs { jobs.new.items ≡ filter (λ (j : JobData). not (j.connection == connection)) jobs.old.items }
     ensures lines { lines.new.items ≡ lines.old.items ++ Closed connection (why_of end) ∷ [] }

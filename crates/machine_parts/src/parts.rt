@@ -7,6 +7,7 @@ use maple_base::{Settings, Witness};
 use policy_lang::Policy;
 use report_text::Line;
 use std::alloc::Global;
+use std::collections::VecDeque;
 use std::marker::Model;
 use std::sync::Arc;
 use switch_traces::SwitchTraces;
@@ -31,7 +32,7 @@ pub struct Parts {
     pub learned: Vec<SwitchTraces>,
     pub sessions: Vec<Connection>,
     pub opened: Opened,
-    pub jobs: Vec<Job>,
+    pub jobs: VecDeque<Job>,
     pub job_count: u64,
     pub trace_count: u64,
     pub lines: Vec<Line>,

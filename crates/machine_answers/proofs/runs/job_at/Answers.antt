@@ -10,5 +10,5 @@ pub returns : goal.returns
 returns c =
     let m = c.args.parts.now in
     let n = c.args.number in
-    let place = c.place_of.ensures ∙ ap (position (λ (j : Job). j.number == n)) (c.deref.ensures.value ∙ ap (λ (x : State). x.jobs) c.parts.view_is) in
+    let place = c.place_of.ensures ∙ ap (λ (x : State). position (λ (j : Job). j.number == n) x.jobs) c.parts.view_is in
     subst (λ o. MatchOption o ((j : Job) → Contains m.jobs j → j.number ≢ n) (λ at. HasJob n at m)) (sym place) (job_is n m)
