@@ -170,3 +170,11 @@ pub record HasCause (end : ServeEnd) (board_old board_new : BoardView) (to_old t
 -- each run of the world with this history is right: over a switch that keeps the specification each hit and each answer is as it says
 abbrev pub IsRightInWorlds : Given → Past → Type 0
 IsRightInWorlds g past = (es : List WorldEvent) (w : World) → IsWorldRun g.policy g.settings es w → world_turns es ≡ turns_of past → IsRight es
+
+-- ---- a call
+
+-- a run of the one history that the hall had at its close; each run of the world with it is right
+pub record HasRun (end : ServeEnd) (g : Given) (board_old board_new : BoardView) (to_old to_new : SinkView) : Type 0 where
+  pub history : List Turn
+  pub run : IsRun end g history board_old board_new to_old to_new
+  pub right : IsRightInWorlds g (deeds_of run.first run.parts)

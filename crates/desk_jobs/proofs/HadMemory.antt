@@ -2,13 +2,14 @@
 use Rattle.std.proofs.Common.{◌≡◌, ◌⊎◌, ℕ, zero, suc, ◌<◌, ◌≤◌, ◌==◌, Bool, true, false, List, [], ◌∷◌, ◌++◌, length, refl, sym, ap, ◌∙◌, subst, inl, inr}
 use Rattle.std.proofs.Common.{⊎_elim, arith}
 use Rattle.std.specs.Prelude.{◌≢◌, Some, Ok, Err}
-use Rattle.std.specs.List.{slice_get}
+use Rattle.std.specs.List.{AllByRecursion, slice_get}
 use Rattle.std.specs.Result.{result_and}
 use Rattle.std.proofs.lemmas.Bool.Decides.{nat_tests}
 use Rattle.history_lock.specs.Histories.{AllAt, AreAllPositions, times}
 use Rattle.machine_steps.specs.declared.entry.Entry.{Entry}
 use Rattle.machine_steps.specs.declared.reply.Reply.{Reply}
 use Rattle.machine_steps.specs.declared.reply.Reply.TheVariants as replies
+use Rattle.machine_steps.specs.Histories.{Turn}
 use Rattle.machine_steps.specs.Machine.{State}
 use Rattle.machine_steps.specs.Waiting.{Waiting}
 use Rattle.machine_sharing.specs.Legal.{turns_of}
@@ -22,8 +23,14 @@ use Rattle.packet_workers.specs.declared.worked.Worked.{Worked as Ended}
 use Rattle.packet_workers.specs.declared.worked.Worked.TheVariants as how
 use Rattle.worker_crew.specs.declared.rule.Account.{Account}
 use Rattle.worker_crew.specs.Tasks.{AllMade, Task, Toiled, Worked, calls_in, told_by}
-use Rattle.sim_steps.proofs.Joining.{all_append}
-use Rattle.sim_driver.specs.Runs.{AllHadMemory}
+
+-- memory sufficed for each turn
+abbrev AllHadMemory : List Turn → Type 0
+AllHadMemory history = AllByRecursion (λ (t : Turn). t.reply ≢ replies.NoMemory) history
+
+all_append : {X : Type 0} (P : X → Type 0) (xs ys : List X) → AllByRecursion P xs → AllByRecursion P ys → AllByRecursion P (xs ++ ys)
+all_append P [] ys h k = k
+all_append P (x ∷ xs) ys h k = (h.0, all_append P xs ys h.1 k)
 
 abbrev Had : Call → Type 0
 Had e = e.reply ≢ replies.NoMemory
