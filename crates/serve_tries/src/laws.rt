@@ -1,10 +1,13 @@
 // Runs that are right, and some that are wrong.
-ghost use Rattle.serve_tries.specs.Ends.{DoneTooSoon, FirstFails, GoesOn, LacksMemory, PassesOver, RefusesNone, RefusesWithout, StartFails, StartsBehindQuit, ThirdFails, Unwritten, WriteFails};
-ghost use Rattle.serve_tries.specs.Lines.{CommittedUntold, CutLineAsks, DecidedBehindThree, DecidedBehindTwo, EndAsks, NoneBehindQuit, NothingAsks, PlacesAreRefused, PolicyAsks};
+ghost use Rattle.serve_tries.specs.Ends.{DoneTooSoon, FirstFails, GoesOn, LacksMemory, PassesOver, RefusesNone};
+ghost use Rattle.serve_tries.specs.Ends.{RefusesWithout, StartFails, StartsBehindQuit, ThirdFails, Unwritten, WriteFails};
+ghost use Rattle.serve_tries.specs.Lines.{CommittedUntold, CutLineAsks, DecidedBehindThree, DecidedBehindTwo, EndAsks};
+ghost use Rattle.serve_tries.specs.Lines.{NoneBehindQuit, NothingAsks, PlacesAreRefused, PolicyAsks};
 ghost use Rattle.serve_tries.specs.More.{LineIsRefused, OpensInVain, Passes, ScriptIsRefused, ScriptQuits, SendFails, StreamBreaks, Waits};
 ghost use Rattle.serve_tries.specs.Row.{RowIsCut, RowIsDone, RowIsOpenedOnce, RowLeads};
 ghost use Rattle.serve_tries.specs.Whole.{LaterIsDone, LeftOpen, WholeIsDone, WholeIsSent};
-ghost use Rattle.serve_tries.specs.Wrong.{ClosedEarly, DecidedAtOnce, EndIsSeen, HeardBehindEnd, NeverSent, NotClosed, NotTold, OpenedTwice, SentTwice, Skipped, TakenTooSoon, TwoTurnsInOne};
+ghost use Rattle.serve_tries.specs.Wrong.{ClosedEarly, DecidedAtOnce, EndIsSeen, HeardBehindEnd, NeverSent, NotClosed};
+ghost use Rattle.serve_tries.specs.Wrong.{NotTold, OpenedTwice, SentTwice, Skipped, TakenTooSoon, TwoTurnsInOne};
 
 /// A connection is opened, a HELLO comes, and the control text says `quit`: this run is done.
 pub fn row_law()
