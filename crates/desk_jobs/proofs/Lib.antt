@@ -1,3 +1,4 @@
+pub mod HadMemory
 pub mod Meanwhile
 pub mod Parting
 pub mod Rounding

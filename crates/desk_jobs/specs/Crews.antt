@@ -1,10 +1,14 @@
 -- Who works beside a driver.
 use Rattle.std.specs.Prelude.{◌≡◌, ℕ, false, Option, Some, None, IfSome, is_some}
 use Rattle.machine_steps.specs.Machine.{State}
-use Rattle.worker_crew.specs.Takers.{IsTakerOf, shares}
+use Rattle.worker_crew.specs.Takers.{IsTakerOf, places, shares}
 use Rattle.machine_desk.specs.Desks.{DeskView}
 use Rattle.desk_jobs.specs.declared.crew.Crew.{Crew}
 use Rattle.desk_jobs.specs.Tending.{Sight, at}
+
+-- the most workers beside a driver
+abbrev pub most_workers : ℕ
+most_workers = 16
 
 -- the pass for the queue is one of this queue
 abbrev pub IsCrew : Crew → Type 0
@@ -29,6 +33,11 @@ abbrev pub SameCrew : Option Crew → Option Crew → Type 0
 SameCrew None None = Unit {0}
 SameCrew (Some old) (Some new) = IsCrewStill old new
 SameCrew old new = ⊥
+
+-- with a crew ahead and behind, this holds of its queue's places and of what the driver knows ahead and behind
+abbrev pub BySights : (ℕ → Sight → Sight → Type 0) → DeskView → DeskView → Option Crew → Option Crew → Type 0
+BySights R a b (Some c) (Some d) = R (places c.jobs.now) (at a c.taker.now) (at b d.taker.now)
+BySights R a b c d = Unit {0}
 
 -- what a driver beside a crew knows
 abbrev pub sight : DeskView → Crew → Sight

@@ -12,6 +12,7 @@ use Rattle.worker_crew.specs.Accounts.{HasLeft, OffersOne, Stood, TakesOne}
 use Rattle.worker_crew.specs.Takers.{Taker, account}
 use Rattle.worker_crew.specs.Tasks.{Worked as Told}
 use Rattle.packet_workers.specs.declared.worked.Worked.{Worked}
+use Rattle.packet_workers.specs.declared.worked.Worked.TheVariants as how
 use Rattle.packet_workers.specs.Crewing.{told_as}
 use Rattle.machine_desk.specs.Desks.{DeskView, Enters, WearsOut}
 use Rattle.machine_desk.specs.Working.{Works}
@@ -42,6 +43,17 @@ IsEmptyFor queue = Holds 0 queue
 abbrev pub HandsOver : Handed → Waiting → ℕ → Sight → Sight → Type 0
 HandsOver Queued item places s t = OffersOne s.queue item t.queue × (t.desk ≡ s.desk)
 HandsOver (WorkedAtOnce worked) item places s t = Holds places s.queue × (t.queue ≡ s.queue) × Works item worked s.desk t.desk
+
+-- the work on a packet came to its end
+abbrev pub IsWhole : Worked → Type 0
+IsWhole how.NoMemory = ⊥
+IsWhole how.Worn = ⊥
+IsWhole worked = Unit {0}
+
+-- it is in the queue, or was worked to the end
+abbrev pub IsInHand : Handed → Type 0
+IsInHand Queued = Unit {0}
+IsInHand (WorkedAtOnce worked) = IsWhole worked
 
 -- one was taken from the queue, and this came of the work on it
 pub record TakesAndWorks (worked : Worked) (s t : Sight) : Type 0 where

@@ -1,8 +1,9 @@
 // Who works beside a driver.
-ghost use Rattle.std.specs.Prelude.{◌≡◌, IfErr, IfNone, IfSome, OnOk};
+ghost use Rattle.std.specs.Prelude.{◌≡◌, IfErr, IfNone, IfOk, IfSome, OnErr, OnOk};
+ghost use Rattle.worker_crew.specs.declared.gave_up.GaveUp.{GaveUp};
 ghost use Rattle.worker_crew.specs.Takers.{places};
 ghost use Rattle.desk_jobs.specs.Crews.{IsCrew, IsCrewStill, sight};
-ghost use Rattle.desk_jobs.specs.Tending.{Done, HandsOver, Reaches, Room, Stops, TakesAndWorks};
+ghost use Rattle.desk_jobs.specs.Tending.{BreaksBy, Done, HandsOver, Reaches, Room, Stops, TakesAndWorks};
 
 use crate::tending::{Broken, Handed, Tender};
 use core_machine::JobItem;
@@ -11,6 +12,12 @@ use packet_workers::{Gate, Worked};
 use std::alloc::Global;
 use std::sync::Wait;
 use worker_crew::{JobPass, Jobs, Lobby};
+
+/// The most workers beside a driver.
+pub const MOST_WORKERS: u32 = 16;
+
+/// How many packets their queue has places for.
+pub const QUEUE_PLACES: u32 = 4_096;
 
 /// Workers beside a driver: the queue from which they take packets that wait, the driver's pass for it, and the lobby in
 /// which all wait for each other.
@@ -101,24 +108,34 @@ impl<'h> Crew<'h> {
 
     /// Takes a packet from the queue, if there is one, and works it, unless a worker has announced itself: meant for a
     /// machine on which no thread could be made.
+    ///
+    /// # Errors
+    ///
+    /// `Broken`, where a worker gave up: then no packet was taken.
     pub fn work_alone<R: Wait, G: Gate>(
         &mut self,
         rt: &R,
         gate: &G,
         alloc: Global,
         desk: &mut Desk<'_>,
-    ) -> Option<Worked>
+    ) -> Result<Option<Worked>, Broken>
         requires crew { IsCrew self.old }
-        ensures some { IfSome result (λ worked. TakesAndWorks worked (sight desk.old self.old) (sight desk.new self.new)) }
-        ensures none { IfNone result (sight desk.new self.new ≡ sight desk.old self.old) }
+        ensures some { IfOk result (λ found. IfSome found (λ worked. TakesAndWorks worked (sight desk.old self.old) (sight desk.new self.new))) }
+        ensures none { IfOk result (λ found. IfNone found (sight desk.new self.new ≡ sight desk.old self.old)) }
+        ensures broken { IfErr result (λ why. (cause : GaveUp) × BreaksBy cause why desk.old desk.new) }
+        ensures untaken { OnErr result (self.new.taker.now ≡ self.old.taker.now) }
         ensures still { IsCrewStill self.old self.new }
         ensures footing { desk.new.footing ≡ desk.old.footing }
     {
-        if self.lobby.news(rt).workers > 0 {
-            return None;
-        }
+        let news = self.lobby.news(rt);
         let tender = self.tender(gate, alloc);
-        tender.work_one(rt, desk, self.taker)
+        if let Some(cause) = news.broken {
+            return Err(tender.broken_by(rt, desk, cause));
+        }
+        if news.workers > 0 {
+            return Ok(None);
+        }
+        Ok(tender.work_one(rt, desk, self.taker))
     }
 
     // With what it tends to packets.

@@ -7,7 +7,7 @@ pub mod laws;
 pub mod stopped;
 pub mod tending;
 
-pub use crew::Crew;
+pub use crew::{Crew, MOST_WORKERS, QUEUE_PLACES};
 pub use laws::tending_laws;
 pub use stopped::Stopped;
 pub use tending::{Broken, Handed, Tender};

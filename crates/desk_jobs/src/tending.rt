@@ -168,7 +168,7 @@ impl<'a, G: Gate> Tender<'a, G> {
     }
 
     // Why it can't go on, where a worker gave up so: who is told of a worn hall asks once more, and finds it so itself.
-    fn broken_by<R: Wait>(&self, rt: &R, desk: &mut Desk<'_>, cause: GaveUp) -> Broken
+    pub(crate) fn broken_by<R: Wait>(&self, rt: &R, desk: &mut Desk<'_>, cause: GaveUp) -> Broken
         ensures breaks { BreaksBy cause result desk.old desk.new }
         ensures footing { desk.new.footing ≡ desk.old.footing }
     {

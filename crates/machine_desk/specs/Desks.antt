@@ -23,6 +23,13 @@ pub record Footing : Type 0 where
   pub parts : ℕ
   pub marked : List Turn
 
+-- what a desk keeps through a run: which hall it is, by which reference its pass was lent, the machine at first, and the parts
+pub record SameHall (a b : Footing) : Type 0 where
+  pub place : b.place ≡ a.place
+  pub name : b.name ≡ a.name
+  pub start : b.start ≡ a.start
+  pub parts : b.parts ≡ a.parts
+
 -- all turns of the machine so far as the desk knows them, and the machine behind them; the positions of its own among these turns, the number that its last
 -- call read, and whether it found the hall worn
 pub record DeskView : Type 0 where

@@ -8,6 +8,7 @@ pub mod inbound;
 pub mod laws;
 pub mod opening;
 pub mod report;
+pub mod resting;
 
 pub use asking::DeskStop;
 pub use desk::{Desk, Worn};
@@ -16,3 +17,4 @@ pub use inbound::{Inbound, Stage};
 pub use laws::{desk_laws, hearing_laws, working_laws};
 pub use opening::{Opening, close_hall, open_hall};
 pub use report::ReportStop;
+pub use resting::write_rest;

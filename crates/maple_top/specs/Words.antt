@@ -7,7 +7,7 @@ use Rattle.maple_base.specs.Limits.{most_budget}
 use Rattle.maple_text.specs.Numbers.{number_of}
 use Rattle.maple_base.specs.declared.decision.Settings.{Settings}
 use Rattle.machine_steps.specs.Sound.{AreInRange}
-use Rattle.sim_driver.specs.Runs.{most_workers}
+use Rattle.desk_jobs.specs.Crews.{most_workers}
 use Rattle.maple_top.specs.declared.words.Command.{Command}
 use Rattle.maple_top.specs.declared.words.Command.TheVariants.{Sim, Check}
 use Rattle.maple_top.specs.declared.words.Setting.{Setting}

@@ -2,9 +2,10 @@
 ghost use Rattle.std.specs.Prelude.{◌≢◌, ◌+◌, ◌<◌, ◌≤◌, ◌^◌, length, map};
 ghost use Rattle.machine_steps.specs.Sound.{AreInRange};
 ghost use Rattle.maple_io.specs.Views.{NoWriteFailed};
+ghost use Rattle.desk_jobs.specs.Crews.{most_workers};
 ghost use Rattle.report_text.specs.Report.{spelled};
 ghost use Rattle.report_text.specs.declared.line.Line.{Line as LineOf};
-ghost use Rattle.sim_driver.specs.Runs.{given, most_workers};
+ghost use Rattle.sim_driver.specs.Runs.{given};
 ghost use Rattle.sim_steps.specs.Showing.{AllIdle};
 ghost use Rattle.maple_top.specs.Ends.{Ends};
 ghost use Rattle.maple_top.specs.Running.{RunsScript};

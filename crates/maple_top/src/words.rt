@@ -4,9 +4,9 @@ ghost use Rattle.std.specs.Option.{option_copied, option_map};
 ghost use Rattle.maple_top.specs.Words.{behind_text, check_alone, command_of, once, options, setting_given, setting_named, settings_of, value_of, with_setting, within};
 ghost use Rattle.maple_top.specs.WordViews.{given_of};
 
+use desk_jobs::MOST_WORKERS;
 use maple_base::{Bytes, MOST_BUDGET, Settings, Words};
 use maple_text::number_of;
-use sim_driver::MOST_WORKERS;
 
 /// The most rules of a switch, and of its levels.
 const MOST_CAPACITY: u32 = 65_535;

@@ -12,7 +12,8 @@ use Rattle.packet_workers.specs.declared.worked.Worked.TheVariants.{NoMemory, Wo
 use Rattle.packet_workers.specs.Rounds.{HasNoJob, IsClosedBy}
 use Rattle.machine_desk.specs.Desks.{DeskView, calls_of}
 use Rattle.machine_desk.specs.Working.{RoundsClose}
-use Rattle.serve_channels.specs.Passing.{IsWhole, IsWorked}
+use Rattle.desk_jobs.specs.Tending.{IsWhole}
+use Rattle.serve_channels.specs.Passing.{IsWorked}
 use Rattle.serve_channels.specs.Serving.{ServingLaws}
 use Rattle.serve_channels.proofs.Others.{IsLawful, meanwhile_stays, worked_meanwhile}
 

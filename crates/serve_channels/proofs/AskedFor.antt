@@ -1,5 +1,5 @@
 -- What was asked for was entered, one call behind the other.
-use Rattle.std.proofs.Common.{◌≡◌, ℕ, Bool, true, false, ◌&&◌, List, [], ◌∷◌, ◌++◌, None, refl, sym, subst, inl, inr}
+use Rattle.std.proofs.Common.{◌≡◌, ℕ, Bool, true, false, List, [], ◌∷◌, ◌++◌, None, refl, subst, inl, inr}
 use Rattle.maple_io.specs.declared.act.Act.{Act}
 use Rattle.machine_desk.specs.Desks.{DeskLaw, DeskView}
 use Rattle.machine_desk.specs.Orders.{Asked, refusal}
@@ -11,10 +11,7 @@ use Rattle.machine_steps.specs.declared.reply.Reply.{Reply}
 use Rattle.sim_steps.specs.Agreeing.{taken_text}
 use Rattle.sim_steps.specs.Deeds.Deed.{Enters as EntersAtBench}
 use Rattle.serve_steps.specs.Deeds.{Past, is_asked, is_others}
-use Rattle.serve_steps.specs.Deeds.Deed.{Enters}
 use Rattle.serve_steps.specs.Laws.{entered}
-use Rattle.serve_steps.specs.Parts.{entry_if}
-use Rattle.serve_steps.specs.Runs.{taken_in}
 use Rattle.serve_steps.specs.Texts.{Ask, AreEntriesOf, IsEntryOf}
 use Rattle.serve_steps.specs.Texts.Ask.{Renews}
 use Rattle.serve_channels.specs.declared.connection.Connection.{Connection}
@@ -25,7 +22,7 @@ use Rattle.serve_channels.specs.Servers.{IsKnown, IsSame}
 use Rattle.serve_channels.specs.Serving.{ServingLaws}
 use Rattle.serve_channels.proofs.Alike.{is_about}
 use Rattle.serve_channels.proofs.Entering.{at_desk, begins, is_over_now}
-use Rattle.serve_channels.proofs.Entries.{entry_jobs, goes_about_none, own_turn, unheard}
+use Rattle.serve_channels.proofs.Entries.{entry_jobs, goes_about_none, unheard}
 use Rattle.serve_channels.proofs.Kept.{same_desk}
 use Rattle.serve_channels.proofs.Others.{lawful}
 use Rattle.serve_channels.proofs.Replies.{had_memory}

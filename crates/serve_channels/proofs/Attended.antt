@@ -1,6 +1,6 @@
 -- What is done with others about packets that wait.
 use Rattle.std.proofs.Common.{◌≡◌, ℕ, true, false, List, [], ◌++◌, append-nil, refl, sym, ap, ◌∙◌, subst, inl, inr}
-use Rattle.std.specs.Prelude.{Some, is_some}
+use Rattle.std.specs.Prelude.{Option, None, Some, is_some}
 use Rattle.maple_io.specs.declared.act.Act.{Act}
 use Rattle.machine_steps.specs.Waiting.{Waiting}
 use Rattle.machine_steps.specs.Histories.{Turn}
@@ -9,13 +9,14 @@ use Rattle.packet_workers.specs.declared.worked.Worked.{Worked}
 use Rattle.machine_desk.specs.Desks.{DeskLaw, DeskView}
 use Rattle.machine_desk.specs.Working.{Works}
 use Rattle.desk_jobs.specs.declared.crew.Crew.{Crew}
-use Rattle.desk_jobs.specs.Crews.{IsCrewStill, SameCrew, sight}
+use Rattle.desk_jobs.specs.Crews.{BySights, IsCrewStill, SameCrew, sight}
 use Rattle.desk_jobs.specs.Laws.{Meanwhile, NothingIsLeft, RoomStays, TendingIsAllowed}
-use Rattle.desk_jobs.specs.Tending.{Done, Reaches, Room, Sight, TakesAndWorks}
+use Rattle.desk_jobs.specs.Tending.{Done, HandsOver, IsInHand, IsWhole, Reaches, Room, Sight}
+use Rattle.desk_jobs.specs.declared.tending.Handed.{Handed}
 use Rattle.serve_steps.specs.Deeds.{Past, bytes_of}
 use Rattle.serve_steps.specs.Laws.{entered}
 use Rattle.serve_channels.specs.declared.server.Server.{Server}
-use Rattle.serve_channels.specs.Passing.{Attends, IsWhole, MakesRoom, Tends}
+use Rattle.serve_channels.specs.Passing.{Attends, MakesRoom, Tends}
 use Rattle.serve_channels.specs.Servers.{IsSame, WorksAlone, IsKnown}
 use Rattle.serve_channels.specs.Serving.{ServingLaws}
 use Rattle.serve_channels.specs.Keeping.{Are, Goes}
@@ -59,12 +60,6 @@ module _ (old : Server) (c d : Crew) (desk : DeskView) (is : old.crew ≡ Some c
       let meanwhile = allowed.reaches Done (sight old.desk c) (sight desk d) r in
       (left (sight old.desk c) (sight desk d) desk (meanwhile_lawful laws (lawful law) meanwhile footing).sound r (none_between desk)).1
 
-  pub worked_one : (worked : Worked) → TendingIsAllowed → TakesAndWorks worked (sight old.desk c) (sight desk d) → Tends old later
-  worked_one worked allowed r = tends (allowed.works worked (sight old.desk c) (sight desk d) r)
-
-  pub worked_none : sight desk d ≡ sight old.desk c → Tends old later
-  worked_none same = tends (subst (λ (s : Sight). Meanwhile old.desk s.desk) (sym same) (none_between old.desk))
-
 -- ---- alone
 
 pub tends_still : (s : Server) → Tends s s
@@ -73,11 +68,16 @@ tends_still s = record { meanwhile = none_between s.desk; rest = refl; same = re
 pub room_alone : (s : Server) → WorksAlone s → MakesRoom s s
 room_alone s none = record { tends = tends_still s; room = λ d m. inl none }
 
-pub worked_alone : (old : Server) (desk : DeskView) (item : Waiting) (worked : Worked) → desk.footing ≡ old.desk.footing → Works item worked old.desk desk → IsWhole worked
-    → Attends item old (record old { desk = desk })
-worked_alone old desk item worked footing works whole = record {
+no_sights : (R : ℕ → Sight → Sight → Type 0) (a b : DeskView) (c d : Option Crew) → is_some c ≡ false → BySights R a b c d
+no_sights R a b None d none = tt
+no_sights R a b (Some c) d none = absurd (cc)
+
+pub worked_alone : (old : Server) (desk : DeskView) (item : Waiting) (worked : Worked) → WorksAlone old → desk.footing ≡ old.desk.footing → Works item worked old.desk desk
+    → IsWhole worked → Attends item old (record old { desk = desk })
+worked_alone old desk item worked none footing works whole = record {
   tends = record { meanwhile = worked_meanwhile item worked old.desk desk works; rest = refl; same = same_desk old (record old { desk = desk }) refl footing };
   alone = λ none. record { worked = worked; works = works; whole = whole };
+  hands = no_sights (λ places s t. (handed : Handed) × HandsOver handed item places s t × IsInHand handed) old.desk desk old.crew old.crew none;
 }
 
 -- ---- in deeds

@@ -9,7 +9,7 @@ use Rattle.machine_steps.specs.declared.reply.Reply.{Reply}
 use Rattle.machine_steps.specs.Histories.{IsTurn, Leads, Turn}
 use Rattle.machine_steps.specs.Machine.{Session, session_at}
 use Rattle.machine_steps.specs.Machine.{was_opened as was_session}
-use Rattle.machine_moves.specs.Told.{is_end, is_heard, may_end}
+use Rattle.machine_moves.specs.Told.{is_end, may_end}
 use Rattle.machine_desk.specs.Desks.{DeskView, Enters as EntersDesk, Footing, calls_of, turn}
 use Rattle.desk_jobs.specs.Laws.{Meanwhile}
 use Rattle.serve_steps.specs.Runs.{taken_in, taken_report}
@@ -23,7 +23,7 @@ use Rattle.serve_channels.specs.Servers.{IsSame, IsUnknown, WorksAlone}
 use Rattle.serve_channels.specs.Serving.{ServingLaws}
 use Rattle.serve_channels.specs.Stretches.{IsAside}
 use Rattle.serve_channels.proofs.Alike.{Spares, alike_turn, aside_turn, is_about, spares_another}
-use Rattle.serve_channels.proofs.Kept.{IsKeptBut, IsLeft, IsSessionStill, IsTold, alone_back, kept_but, kept_same, kept_whole, same_crew}
+use Rattle.serve_channels.proofs.Kept.{IsKeptBut, IsLeft, IsSessionStill, IsTold, kept_but, kept_whole, same_crew}
 use Rattle.serve_channels.proofs.Others.{DidBeside, IsLawful, entered_ahead, leads_then, meanwhile_others, others_aside, others_kept, others_lawful, others_owe}
 use Rattle.serve_channels.proofs.Stretching.{Owes, all_is_told, aside_nothing, owes_nothing}
 use Rattle.serve_channels.proofs.Told.{taken_others}
@@ -115,13 +115,6 @@ module _ (laws : ServingLaws) {g : Given} {before : List Act} {past : Past} {log
   -- nor with one of which it does nothing
   pub next_spared : (c : ℕ) → Spares c this → (e ≡ entries.Open c → ⊥) → (may_end c e && is_end r) ≡ false → IsLeft past (Enters this ∷ past) a b c
   next_spared c spares opens ends = record { alike = alike_turn c this past spares; bytes = λ known. refl; session = next_session laws law h c opens ends }
-
-  -- an entry that is about no connection
-  pub next_kept : b.connections.items ≡ a.connections.items → ((c : ℕ) → is_about c e ≡ false) → IsKeptBut g before (Enters this ∷ past) log b
-  next_kept items none = kept_same kept next_told items (λ c. next_another c (none c))
-
-  pub next_jobs : is_heard e ≡ false → (WorksAlone a → a.desk.now.jobs ≡ []) → WorksAlone b → b.desk.now.jobs ≡ []
-  next_jobs other jobs alone = laws.none a.desk.now e r b.desk.now (jobs (alone_back same alone)) other h.made.steps
 
 -- ---- in a stretch
 

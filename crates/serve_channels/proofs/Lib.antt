@@ -7,6 +7,7 @@ pub mod Coming
 pub mod Emptied
 pub mod Entering
 pub mod Entries
+pub mod Fresh
 pub mod HeardReply
 pub mod InOrder
 pub mod Items

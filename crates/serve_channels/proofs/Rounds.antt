@@ -91,9 +91,6 @@ below_all count o s old new long h =
 abbrev pub OwnsNone : Past → List Entry → Past → Type 0
 OwnsNone past own done = own ≡ []
 
-pub rounds_none : (s : Server) (log : List Act) → Goes OwnsNone s log s log
-rounds_none s log g before past kept nothing = went_nowhere g before (OwnsNone past) past log s refl kept
-
 -- behind another round all were served in that
 pub round_then : (o a b : Server) (first_log old new : List Act) → Goes OwnsNone o first_log a old → Goes (ServesAll b) a old b new → SameNumbers a b
     → Goes (ServesAll b) o first_log b new

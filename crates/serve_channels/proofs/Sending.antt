@@ -57,7 +57,7 @@ stretch_act own done past act quiet none next h = all_is_told own (Does act ∷ 
 -- a send to this connection
 pub record IsSendTo (c : ℕ) (act : Act) : Type 0 where
   pub quiet : is_quiet_act act ≡ true
-  pub next : (past : Past) → IsFront (sent c (acts_of past) ++ sent_in c act) (taken_of c past) → SendsNext (Does act) past
+  pub next : (past : Past) → IsFront (sent c (acts_of past) ++ sent_in c act) (taken_of c past) → was_closed c (acts_of past) ≡ false → SendsNext (Does act) past
   pub others : (d : ℕ) → d ≢ c → sent_in d act ≡ []
   pub unanswered : (d : ℕ) → d ≢ c → answer_to d (Does act) ≡ None
   pub whole : (d : ℕ) → d ≢ c → fails d (Does act) ≡ false
@@ -81,8 +81,11 @@ send_to c d bytes answer own =
     let another : (e : ℕ) → e ≢ c → (d == e) ≡ false = λ e other. ne_eqb d e (λ same. other (sym same ∙ is)) in
     record {
       quiet = refl;
-      next = λ past front. subst (λ (e : ℕ). IsFront (sent e (acts_of past) ++ bytes) (taken_of e past)) (sym is)
-          (subst (λ (b : Bool). IsFront (sent c (acts_of past) ++ cond b bytes []) (taken_of c past)) own front);
+      next = λ past front unclosed. (
+        subst (λ (e : ℕ). IsFront (sent e (acts_of past) ++ bytes) (taken_of e past)) (sym is)
+            (subst (λ (b : Bool). IsFront (sent c (acts_of past) ++ cond b bytes []) (taken_of c past)) own front),
+        subst (λ (e : ℕ). was_closed e (acts_of past) ≡ false) (sym is) unclosed,
+      );
       others = λ e other. ap (λ (b : Bool). cond b bytes []) (another e other);
       unanswered = λ e other. ap (λ (b : Bool). cond b (Some answer) None) (another e other);
       whole = λ e other. fails_another d e bytes answer (another e other);
@@ -167,15 +170,17 @@ regroup : (ahead here more rest : List ℕ) → (ahead ++ here) ++ (more ++ rest
 regroup ahead here more rest = append_assoc ahead here (more ++ rest) ∙ ap (λ (bs : List ℕ). ahead ++ bs) (sym (append_assoc here more rest))
 
 pub good_stretch : (c : ℕ) (more : List Act) (own : List Entry) (done past : Past) (rest : List ℕ) → AreGood c more
-    → sent c (acts_of (done ++ past)) ++ (sent c more ++ rest) ≡ taken_of c (done ++ past) → Stretch own done past → Stretch own (did more done) past
-good_stretch c [] own done past rest h all stretch = stretch
-good_stretch c (a ∷ more) own done past rest h all stretch =
+    → sent c (acts_of (done ++ past)) ++ (sent c more ++ rest) ≡ taken_of c (done ++ past) → was_closed c (acts_of (done ++ past)) ≡ false → Stretch own done past
+    → Stretch own (did more done) past
+good_stretch c [] own done past rest h all unclosed stretch = stretch
+good_stretch c (a ∷ more) own done past rest h all unclosed stretch =
     let good = first_good c a more h in
     let on : (sent c (acts_of (done ++ past)) ++ sent_in c a) ++ (sent c more ++ rest) ≡ taken_of c (done ++ past) =
     regroup (sent c (acts_of (done ++ past))) (sent_in c a) (sent c more) rest ∙ all in
     good_stretch c more own (Does a ∷ done) past rest (rest_good c a more h)
     (ap (λ (bs : List ℕ). bs ++ (sent c more ++ rest)) (sent_one c a (done ++ past)) ∙ on ∙ sym (append-nil (taken_of c (done ++ past))))
-    (stretch_act own done past a good.is.quiet good.none (good.is.next (done ++ past) (sent c more ++ rest, on)) stretch)
+    (closed_one c c a (done ++ past) good.is ∙ unclosed)
+    (stretch_act own done past a good.is.quiet good.none (good.is.next (done ++ past) (sent c more ++ rest, on) unclosed) stretch)
 
 -- ---- all that is left is sent
 
@@ -245,7 +250,7 @@ module _ {g : Given} {before : List Act} {past : Past} {own : List Entry} {done 
     goes_good =
         let on = did_on more done past in
         goes_requeued None (did more done)
-        (owes_none own (did more done) past (good_stretch (number_of k) more own done past l.rest good (all_is more log own_is) (all_is_told own done past u.owes)))
+        (owes_none own (did more done) past (good_stretch (number_of k) more own done past l.rest good (all_is more log own_is) agreed.closed (all_is_told own done past u.owes)))
         (ap turns_of on ∙ turns_did more so_far) (log_is more log own_is ∙ ap (λ (p : Past). before ++ acts_of p) (sym on))
         (λ d. ap (bytes_of d) on ∙ (stays_did d more so_far (are_quiet (number_of k) more good)).bytes)
         (λ d other. subst (λ (p : Past). IsAlike d so_far p) (sym on) (alike_good (number_of k) d more so_far good other))
@@ -291,11 +296,12 @@ module _ {g : Given} {before : List Act} {past : Past} {own : List Entry} {done 
         let on : (Does failing ∷ did more done) ++ past ≡ Does failing ∷ did more so_far = ap (λ (p : Past). Does failing ∷ p) (did_on more done past) in
         let all = more ++ failing ∷ [] in
         let stretch = good_stretch (number_of k) more own done past l.rest good
-        (ap (λ (bs : List ℕ). sent (number_of k) (acts_of so_far) ++ (bs ++ l.rest)) (sym sends_none) ∙ all_is all log own_is) (all_is_told own done past u.owes) in
+        (ap (λ (bs : List ℕ). sent (number_of k) (acts_of so_far) ++ (bs ++ l.rest)) (sym sends_none) ∙ all_is all log own_is) agreed.closed (all_is_told own done past u.owes) in
         let same : has_failed (number_of k) (Does failing ∷ did more so_far) ≡ true =
         ap (λ (b : Bool). b || has_failed (number_of k) (did more so_far)) (eq-eqb (number_of k) (number_of k) refl) in
         goes_requeued (Some (number_of k)) (Does failing ∷ did more done) (owes_act (Some (number_of k)) own (did more done) past failing refl refl
-        (is_send.next (did more done ++ past) (subst (λ (p : Past). IsFront (sent (number_of k) (acts_of p) ++ sent_in (number_of k) failing) (taken_of (number_of k) p)) (sym (did_on more done past)) front))
+        (is_send.next (did more done ++ past) (subst (λ (p : Past). IsFront (sent (number_of k) (acts_of p) ++ sent_in (number_of k) failing) (taken_of (number_of k) p)) (sym (did_on more done past)) front)
+        (subst (λ (p : Past). was_closed (number_of k) (acts_of p) ≡ false) (sym (did_on more done past)) (none_closed (number_of k) more so_far good ∙ agreed.closed)))
         (owes_none own (did more done) past stretch)) (ap turns_of on ∙ append-nil (turns_of (did more so_far)) ∙ turns_did more so_far)
         (log_is all log own_is ∙ ap (λ (p : Past). before ++ acts_of p) (last_is so_far ∙ sym on))
         (λ d. ap (bytes_of d) on ∙ (stays_did d more so_far (are_quiet (number_of k) more good)).bytes) (λ d other. subst (λ (p : Past). IsAlike d so_far p) (sym on)

@@ -29,7 +29,7 @@ use Rattle.serve_channels.proofs.Alike.{agrees_alike, forgotten_alike, unused_al
 use Rattle.serve_channels.proofs.Kept.{apart}
 use Rattle.serve_channels.proofs.Numbered.{there_at}
 use Rattle.serve_channels.proofs.Sending.{stretch_act}
-use Rattle.serve_channels.proofs.Stretching.{aside_nothing, aside_then, went_nowhere}
+use Rattle.serve_channels.proofs.Stretching.{aside_then}
 
 -- ---- one connection goes, and the last takes its place
 
@@ -216,17 +216,14 @@ pub record Shuts (past : Past) (own : List Entry) (done : Past) : Type 0 where
   pub turns : turns_of done ≡ []
   pub aside : (c : ℕ) → IsAside c done
 
-pub shuts_nothing : (s : Server) (log : List Act) → Goes Shuts s log s log
-shuts_nothing s log g before past kept nothing = went_nowhere g before (Shuts past) past log s (record { none = refl; turns = refl; aside = aside_nothing }) kept
-
 pub shuts_on : (a : Server) (log : List Act) {s t : Server} {old new : List Act} {at : ℕ} → ClosesAt at s t old new → Goes Shuts a log s old → Goes Shuts a log t new
-shuts_on a log c h g before past kept nothing =
+shuts_on a log {at = at} c h g before past kept nothing =
     let w = h g before past kept tt in
     let aside : (d : ℕ) → IsAside d (deed c.connection w.done) = λ d. aside_then d w.done (deed c.connection []) (w.so.aside d) (aside_closed d c.connection) in
     record {
       done = deed c.connection w.done;
       own = w.own;
-      stretch = stretch_act w.own w.done past (acts.Closes (number_of c.connection)) refl refl tt w.stretch;
+      stretch = stretch_act w.own w.done past (acts.Closes (number_of c.connection)) refl refl (w.kept.agree at c.connection c.there).closed w.stretch;
       so = record { none = w.so.none; turns = append-nil (turns_of w.done) ∙ w.so.turns; aside = aside };
       kept = kept_closed w.kept c;
       aside = λ d unknown. aside d;

@@ -207,7 +207,7 @@ module _ {g : Given} {before : List Act} {past : Past} {log : List Act} {a : Ser
 
   -- ---- each turn
 
-  opens_once : (t : BoardTurn) → OpensAnew t log → OpensOnce t past
+  pub opens_once : (t : BoardTurn) → OpensAnew t log → OpensOnce t past
   opens_once (turn.Opened c) anew = never_opened c anew
   opens_once t anew = tt
 
@@ -267,4 +267,4 @@ fails_by t old new cause spared = spared (λ e. cc e)
 pub gives_bytes : (r : Result BoardTurn Stopped) (c n : ℕ) (bytes : List ℕ) (old new : BoardView) → new.log ≡ old.log ++ acts.Gives (turn.Bytes c n) bytes ∷ []
     → (turn.Bytes c n ≢ turn.Failed → NoBoardFailed old new) → OnErr r (GivesOne old.log new.log × NoBoardFailed old new)
 gives_bytes (Ok t) c n bytes old new log spared = tt
-gives_bytes (Err stopped) c n bytes old new log spared = (record { turn = turn.Bytes c n; bytes = bytes; log = log }, spared (λ e. cc e))
+gives_bytes (Err stopped) c n bytes old new log spared = (record { turn = turn.Bytes c n; bytes = bytes; anew = tt; log = log }, spared (λ e. cc e))

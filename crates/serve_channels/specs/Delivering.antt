@@ -75,6 +75,7 @@ FailsBy t old new = NoBoardFailed old new
 pub record GivesOne (old new : List Act) : Type 0 where
   pub turn : BoardTurn
   pub bytes : List ℕ
+  pub anew : OpensAnew turn old
   pub log : new ≡ old ++ acts.Gives turn bytes ∷ []
 
 -- ---- deliveries

@@ -8,3 +8,4 @@ pub mod Delivering
 pub mod Feeding
 pub mod Serving
 pub mod Controlling
+pub mod Starting

@@ -17,9 +17,10 @@ use Rattle.machine_desk.specs.declared.hearing.Heard.{Heard}
 use Rattle.machine_desk.specs.declared.hearing.Heard.TheVariants as heard
 use Rattle.machine_desk.specs.declared.inbound.Inbound.{Inbound}
 use Rattle.packet_workers.specs.declared.worked.Worked.{Worked}
-use Rattle.packet_workers.specs.declared.worked.Worked.TheVariants.{NoMemory, Worn}
-use Rattle.desk_jobs.specs.Crews.{IsCrew}
+use Rattle.desk_jobs.specs.Crews.{BySights, IsCrew}
 use Rattle.desk_jobs.specs.Laws.{Meanwhile}
+use Rattle.desk_jobs.specs.Tending.{HandsOver, IsInHand, IsWhole}
+use Rattle.desk_jobs.specs.declared.tending.Handed.{Handed}
 use Rattle.sim_steps.specs.Agreeing.{AreCut}
 use Rattle.serve_steps.specs.Deeds.{Past, bytes_of, inputs_of, is_open, was_accepted}
 use Rattle.serve_channels.specs.declared.connection.Connection.{Connection}
@@ -61,12 +62,6 @@ pub record MakesRoomFor (input : Input) (old new : Server) : Type 0 where
   pub tends : Tends old new
   pub room : is_packet input ≡ true → (d : DeskView) → Meanwhile new.desk d → WorksAlone old ⊎ (length d.now.jobs < most_jobs)
 
--- the work on a packet came to its end
-abbrev pub IsWhole : Worked → Type 0
-IsWhole NoMemory = ⊥
-IsWhole Worn = ⊥
-IsWhole worked = Unit {0}
-
 pub record IsWorked (item : Waiting) (a b : DeskView) : Type 0 where
   pub worked : Worked
   pub works : Works item worked a b
@@ -76,6 +71,7 @@ pub record IsWorked (item : Waiting) (a b : DeskView) : Type 0 where
 pub record Attends (item : Waiting) (old new : Server) : Type 0 where
   pub tends : Tends old new
   pub alone : WorksAlone old → IsWorked item old.desk new.desk
+  pub hands : BySights (λ places s t. (handed : Handed) × HandsOver handed item places s t × IsInHand handed) old.desk new.desk old.crew new.crew
 
 -- what is done about an input
 abbrev pub Follows : Heard → Server → Server → Type 0

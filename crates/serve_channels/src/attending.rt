@@ -1,6 +1,7 @@
 // Packets that wait, beside who works on them.
 ghost use Rattle.std.specs.Prelude.{◌≡◌, OnOk};
-ghost use Rattle.serve_channels.specs.Passing.{Attends, HasCrew, IsWhole, MakesRoom};
+ghost use Rattle.desk_jobs.specs.Tending.{IsWhole};
+ghost use Rattle.serve_channels.specs.Passing.{Attends, HasCrew, MakesRoom};
 ghost use Rattle.serve_channels.specs.Servers.{IsSame};
 
 use crate::Server;

@@ -1,5 +1,5 @@
 // What the machine has for connections is taken out and sent.
-ghost use Rattle.std.specs.Prelude.{◌≡◌, ◌<◌, [], IfOk, OnErr, OnOk, length};
+ghost use Rattle.std.specs.Prelude.{◌≡◌, ◌<◌, [], IfOk, OnOk, length};
 ghost use Rattle.maple_io.specs.Boards.{NoBoardFailed};
 ghost use Rattle.board_lines.specs.Deliveries.{is_failed_reach};
 ghost use Rattle.machine_desk.specs.Orders.{Asks};

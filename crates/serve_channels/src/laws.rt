@@ -1,5 +1,6 @@
 // What holds of the machine and of runs, for a server.
 ghost use Rattle.serve_channels.specs.Serving.{ServingLaws};
+ghost use Rattle.serve_channels.specs.Starting.{FreshIsKept};
 
 use machine_desk::hearing_laws;
 use machine_moves::{growth_laws, reply_laws, session_laws};
@@ -20,3 +21,8 @@ pub fn serving_laws()
     run_laws();
     session_laws();
 }
+
+/// A server that has done nothing yet keeps all.
+pub fn fresh_law()
+    ensures { FreshIsKept }
+{}

@@ -14,10 +14,11 @@ mod reporting;
 pub mod scripting;
 pub mod server;
 mod sessions;
+mod starting;
 mod waiting;
 
 pub use connection::Connection;
 pub use hearing::Came;
-pub use laws::serving_laws;
+pub use laws::{fresh_law, serving_laws};
 pub use scripting::ScriptEnd;
 pub use server::Server;

@@ -3,7 +3,7 @@ ghost use Rattle.std.specs.Prelude.{◌≡◌, ◌<◌, IfOk, OnErr, OnOk, lengt
 ghost use Rattle.maple_io.specs.Boards.{NoBoardFailed};
 ghost use Rattle.maple_io.specs.Turns.{TurnsWithin};
 ghost use Rattle.serve_channels.specs.Delivering.{FailsBy, GivesOne, Receives, bytes_in};
-ghost use Rattle.serve_channels.specs.Feeding.{Feeds, FeedsBy};
+ghost use Rattle.serve_channels.specs.Feeding.{Feeds};
 ghost use Rattle.serve_channels.specs.Keeping.{IsServing};
 ghost use Rattle.serve_channels.specs.Servers.{IsSame};
 

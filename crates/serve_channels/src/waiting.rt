@@ -8,12 +8,9 @@ ghost use Rattle.serve_channels.specs.Servers.{IsSame};
 use crate::Server;
 use crate::attending::answered;
 use crate::laws::serving_laws;
-use desk_jobs::{Stopped, tending_laws};
+use desk_jobs::{QUEUE_PLACES, Stopped, tending_laws};
 use packet_workers::Gate;
 use std::sync::Wait;
-
-/// The most packets that may wait in the crew's queue.
-const MOST_QUEUED: u32 = 4096;
 
 impl<'h> Server<'h> {
     /// Waits until no packet waits for an answer: with nobody beside the server none does.
@@ -42,7 +39,7 @@ impl<'h> Server<'h> {
     ///
     /// # Errors
     ///
-    /// `Stopped`.
+    /// `Stopped`; also where a worker gave up.
     pub fn work_waiting<R: Wait, G: Gate>(&mut self, rt: &R, gate: &G) -> Result<(), Stopped>
         requires serving { ServesSome self.old }
         ensures goes { OnOk result ((log : List Act) → Goes (Are []) self.old log self.new log) }
@@ -51,7 +48,7 @@ impl<'h> Server<'h> {
     {
         serving_laws();
         self.desk.law();
-        for _ in 0..MOST_QUEUED {
+        for _ in 0..QUEUE_PLACES {
             if !self.work_one(rt, gate)? {
                 return Ok(());
             }
@@ -70,7 +67,7 @@ impl<'h> Server<'h> {
         let Some(crew) = &mut self.crew else {
             return Ok(false);
         };
-        match crew.work_alone(rt, gate, self.alloc, &mut self.desk) {
+        match crew.work_alone(rt, gate, self.alloc, &mut self.desk)? {
             None => Ok(false),
             Some(worked) => {
                 answered(worked)?;

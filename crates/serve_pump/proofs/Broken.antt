@@ -21,6 +21,7 @@ use Rattle.serve_steps.specs.Laws.{ReportIsTold, entered}
 use Rattle.serve_steps.specs.Parts.{Given, Part, deeds_of, is_quiet}
 use Rattle.serve_steps.specs.Runs.{report, taken_in, taken_report}
 use Rattle.serve_channels.specs.declared.server.Server.{Server}
+use Rattle.serve_channels.specs.Delivering.{OpensOnce}
 use Rattle.serve_channels.specs.Keeping.{IsKept}
 use Rattle.serve_channels.specs.Stretches.{IsQuietly}
 use Rattle.serve_channels.proofs.Acts.{acts_did, did, turns_did}
@@ -31,11 +32,11 @@ use Rattle.serve_pump.specs.Running.{BreaksOff, GoesOn}
 
 -- ---- turns and acts, one behind the other
 
-turns_entered : (ts : List Turn) (past : Past) → turns_of (entered ts past) ≡ turns_of past ++ ts
+pub turns_entered : (ts : List Turn) (past : Past) → turns_of (entered ts past) ≡ turns_of past ++ ts
 turns_entered [] past = sym (append-nil (turns_of past))
 turns_entered (t ∷ ts) past = turns_entered ts (Enters t ∷ past) ∙ append_assoc (turns_of past) (t ∷ []) ts
 
-acts_entered : (ts : List Turn) (past : Past) → acts_of (entered ts past) ≡ acts_of past
+pub acts_entered : (ts : List Turn) (past : Past) → acts_of (entered ts past) ≡ acts_of past
 acts_entered [] past = refl
 acts_entered (t ∷ ts) past = acts_entered ts (Enters t ∷ past) ∙ append-nil (acts_of past)
 
@@ -43,7 +44,7 @@ entered_ahead : (ts : List Turn) (done past : Past) → entered ts done ++ past 
 entered_ahead [] done past = refl
 entered_ahead (t ∷ ts) done past = entered_ahead ts (Enters t ∷ done) past
 
-quiet_entered : (ts : List Turn) (past : Past) → list_all is_quiet past ≡ true → list_all is_quiet (entered ts past) ≡ true
+pub quiet_entered : (ts : List Turn) (past : Past) → list_all is_quiet past ≡ true → list_all is_quiet (entered ts past) ≡ true
 quiet_entered [] past quiet = quiet
 quiet_entered (t ∷ ts) past quiet = quiet_entered ts (Enters t ∷ past) quiet
 
@@ -58,7 +59,7 @@ quiet_did (a ∷ more) past all quiet =
 
 module _ (told : ReportIsTold) (g : Given) (past : Past) (last : State) (legal : Leads (opening g.policy g.settings) (turns_of past) last) where
   -- a front of what was taken is one of the report
-  taken_front : (text : List ℕ) → IsFront text (taken_report past) → IsFront text (report past)
+  pub taken_front : (text : List ℕ) → IsFront text (taken_report past) → IsFront text (report past)
   taken_front text front = (
     front.0 ++ flat_map spelled last.lines,
     sym (append_assoc text front.0 (flat_map spelled last.lines)) ∙ ap (λ (xs : List ℕ). xs ++ flat_map spelled last.lines) front.1 ∙ sym (told g past last legal),
@@ -84,6 +85,7 @@ module _ (told : ReportIsTold) (g : Given) (before : List Act) (first : Past) (p
     turns = kept.turns;
     acts = kept.acts;
     cut = h.running.cut;
+    opened = h.running.opened;
     text = [];
     wrote = wrote_nothing to;
     front =
@@ -96,7 +98,7 @@ module _ (told : ReportIsTold) (g : Given) (before : List Act) (first : Past) (p
           subst (λ (m : State). Leads m (turns_of ahead) q.server.desk.now) kept.start
           (subst (λ (ts : List Turn). Leads q.server.desk.footing.start ts q.server.desk.now) kept.turns law.legal)
 
-  module _ (t : BoardTurn) (bytes : List ℕ) where
+  module _ (t : BoardTurn) (bytes : List ℕ) (once : OpensOnce t ahead) where
     abbrev turned : Past
     turned = Does (acts.Gives t bytes) ∷ ahead
 
@@ -110,6 +112,7 @@ module _ (told : ReportIsTold) (g : Given) (before : List Act) (first : Past) (p
       turns = turns;
       acts = log_is;
       cut = (quiet, h.running.cut);
+      opened = (once, h.running.opened);
       text = text;
       wrote = wrote;
       front =

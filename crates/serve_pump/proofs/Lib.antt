@@ -1,7 +1,12 @@
 pub mod Asked
+pub mod Beside
 pub mod Broken
+pub mod Closed
 pub mod Followed
+pub mod Going
 pub mod Reached
+pub mod Reports
+pub mod Started
 pub mod Stretched
 pub mod Turned
 pub mod Whole

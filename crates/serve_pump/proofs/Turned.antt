@@ -19,13 +19,14 @@ use Rattle.machine_desk.specs.declared.report.ReportStop.TheVariants.{Failed, No
 use Rattle.serve_steps.specs.Deeds.{Past, acts_of, turns_of}
 use Rattle.serve_steps.specs.Deeds.Deed.{Does}
 use Rattle.serve_steps.specs.Laws.{ReportIsTold}
-use Rattle.serve_steps.specs.Parts.{Given, deeds_of}
+use Rattle.serve_steps.specs.Parts.{Given, Part, deeds_of}
 use Rattle.serve_channels.specs.declared.server.Server.{Server}
-use Rattle.serve_channels.specs.Delivering.{AllLive, FailsBy, GivesOne, GoesReporting, IsNew, IsStill, Receives, bytes_in, given_deeds}
+use Rattle.serve_channels.specs.Delivering.{AllLive, FailsBy, GivesOne, GoesReporting, IsNew, IsStill, OpensOnce, Receives, bytes_in, given_deeds}
 use Rattle.serve_channels.specs.Keeping.{IsKept, IsServing}
 use Rattle.serve_channels.specs.Stretches.{IsQuietly}
+use Rattle.serve_channels.proofs.Taking.{opens_once}
 use Rattle.serve_pump.specs.declared.pump.Pump.{Pump}
-use Rattle.serve_pump.specs.Running.{BreaksOff, BreaksOffBy, FailsAtBoard, TurnsBy}
+use Rattle.serve_pump.specs.Running.{BreaksOff, BreaksOffBy, FailsAtBoard, GoesOn, TurnsBy}
 use Rattle.serve_pump.specs.Turning.{Acted, Comes, Follows, FollowsBy, IsReceived, IsTurned, ReadsBy, ReadsFor, TurnLaws}
 use Rattle.serve_pump.proofs.Broken.{breaks_before, breaks_reporting, breaks_since, breaks_with}
 use Rattle.serve_pump.proofs.Followed.{kept_marked, marked, serving_acted}
@@ -59,7 +60,7 @@ module _ (p q : Pump) (law : DeskLaw p.server.desk) (desk : q.server.desk ≡ p.
   pub breaks_given : ReportIsTold → (old new : List Act) → GivesOne old new → (to : SinkView) → BreaksOffBy p old q new to to
   breaks_given told old new gave to g before first parts h =
       let ahead = deeds_of first parts in
-      breaks_with told g before first parts old p h gave.turn gave.bytes [] new q to to [] law_still (ap (λ (d : DeskView). d.footing.start) desk ∙ h.running.kept.start) refl
+      breaks_with told g before first parts old p h gave.turn gave.bytes (opens_once h.running.kept gave.turn gave.anew) [] new q to to [] law_still (ap (λ (d : DeskView). d.footing.start) desk ∙ h.running.kept.start) refl
       (ap (λ (d : DeskView). d.past) desk ∙ h.running.kept.turns ∙ sym (append-nil (turns_of ahead)))
       (gave.log ∙ ap (λ (xs : List Act). xs ++ acts.Gives gave.turn gave.bytes ∷ []) h.running.kept.acts
       ∙ append_assoc before (acts_of ahead) (acts.Gives gave.turn gave.bytes ∷ []))
@@ -131,6 +132,10 @@ module _ (t : BoardTurn) (p mid : Pump) (old came : BoardView) (received : IsRec
         marks = refl;
       }))
 
+  -- a number that it opens wasn't opened before
+  opened_once : (g : Given) (before : List Act) (first : Past) (parts : List Part) → GoesOn g before first parts old.log p → OpensOnce t (deeds_of first parts)
+  opened_once g before first parts h = (received.receives g before (deeds_of first parts) h.running.kept).2
+
   pub turned_by : IsServing old.log p.server → IsTurned t came.log m
   turned_by serving =
       let h = is_marked serving.given serving.before serving.past serving.kept in
@@ -147,7 +152,7 @@ module _ (t : BoardTurn) (p mid : Pump) (old came : BoardView) (received : IsRec
         → BreaksOffBy p old.log f log to to
     breaks_followed told footing quietly law to g before first parts h =
         let k = is_marked g before (deeds_of first parts) h.running.kept in
-        breaks_since told g before first parts old.log p h t bytes came.log log m f to k.kept k.marks footing quietly law
+        breaks_since told g before first parts old.log p h t bytes (opened_once g before first parts h) came.log log m f to k.kept k.marks footing quietly law
 
     module _ (follows : FollowsBy t ready came.log f log) where
       pub serving_followed : IsServing old.log p.server → IsServing log f.server
@@ -191,12 +196,12 @@ module _ (t : BoardTurn) (p mid : Pump) (old came : BoardView) (received : IsRec
             silently e =
                 let k = is_marked g before (deeds_of first parts) h.running.kept in
                 subst (λ (x : SinkView). BreaksOff g before first parts log q from x) (sym e)
-                (breaks_since told g before first parts old.log p h t bytes came.log log m q from k.kept k.marks footing quietly law)
+                (breaks_since told g before first parts old.log p h t bytes (opened_once g before first parts h) came.log log m q from k.kept k.marks footing quietly law)
 
             partly : ReportsInPart f.server.desk q.server.desk from to → BreaksOff g before first parts log q from to
             partly e =
                 let w = acted_by g before (deeds_of first parts) h.running.kept in
-                breaks_reporting told g before first parts old.log p h t bytes w.done log f.server q from to e w.kept w.stretch.quiet w.unread law
+                breaks_reporting told g before first parts old.log p h t bytes (opened_once g before first parts h) w.done log f.server q from to e w.kept w.stretch.quiet w.unread law
 
             by_stop : (stop : ReportStop) → EndsReport stop f.server.desk q.server.desk from to → BreaksOff g before first parts log q from to
             by_stop Failed ends = partly ends.0

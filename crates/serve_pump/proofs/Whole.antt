@@ -50,15 +50,15 @@ module _ (g : Given) (before : List Act) (past : Past) (log : List Act) (s : Ser
   legal =
       subst (λ (m : State). Leads m (turns_of past) s.desk.now) kept.start (subst (λ (ts : List Turn). Leads s.desk.footing.start ts s.desk.now) kept.turns law.legal)
 
-  state_is : StatesAreTold → state_of g past ≡ s.desk.now
+  pub state_is : StatesAreTold → state_of g past ≡ s.desk.now
   state_is told = told (opening g.policy g.settings) s.desk.now past legal
 
-  is_worked : StatesAreTold → StatesGrow → IsWorked g past
+  pub is_worked : StatesAreTold → StatesGrow → IsWorked g past
   is_worked told grow none =
       ap (λ (m : State). m.jobs) (state_is told)
       ∙ kept.jobs (kept.crew.none (ap (λ (x : Settings). x.workers) (leads_same grow (opening g.policy g.settings) s.desk.now (turns_of past) legal) ∙ none))
 
-  is_at_rest : StatesAreTold → IsStill s → IsAtRest g past
+  pub is_at_rest : StatesAreTold → IsStill s → IsAtRest g past
   is_at_rest told still = record {
     jobs = ap (λ (m : State). m.jobs) (state_is told) ∙ still.none;
     taken = λ c opened. subst (λ (m : State). messages_for c m ≡ []) (sym (state_is told)) (taken_open g before past log s kept still c opened);

@@ -2,3 +2,8 @@
 -- the contracts below it.
 pub mod Running
 pub mod Turning
+pub mod Beginning
+pub mod Ending
+pub mod EndLaws
+pub mod Opened
+pub mod Resting

@@ -88,6 +88,7 @@ pub record BreaksOff (g : Given) (before : List Act) (first : Past) (parts : Lis
   pub turns : p.server.desk.past ≡ turns_of (deeds_of first all)
   pub acts : log ≡ before ++ acts_of (deeds_of first all)
   pub cut : AreCutAtTurns first all
+  pub opened : AreOpenedOnce first all
   pub text : List ℕ
   pub wrote : Wrote old new text
   pub front : IsFront (taken_report (deeds_of first parts) ++ text) (report (deeds_of first all))

@@ -16,10 +16,10 @@ pub struct Pump<'h> {
     pub(crate) room: Vec<u8>,
 }
 
-/// Why a run breaks off in a turn.
+/// Why a run breaks off.
 #[derive(Clone, Copy, Debug, PartialEq, Eq)]
 pub enum TurnStop {
-    /// The board failed as it was asked for the turn. Nothing was done since.
+    /// The board failed, at its start or as it was asked for a turn. Nothing was done since.
     Board,
     /// Memory ran out, or the hall is worn, which the desk tells.
     Stopped,

@@ -323,9 +323,10 @@ others_stay_in_script g first (p ∷ ahead) others go is = absurd (none_left is.
     none_left e = absurd (cc)
 
 pub others_stay_in_broken_off : OthersStayInBrokenOff
-others_stay_in_broken_off text g first [] others go is = record { ahead = tt; front = front_on g first others go text is.front }
+others_stay_in_broken_off text g first [] others go is = record { ahead = tt; written = tt; front = front_on g first others go text is.front }
 others_stay_in_broken_off text g first (p ∷ ahead) others go is = record {
   ahead = is.ahead;
+  written = is.written;
   front =
       subst (λ (past : Past). IsFront text (report past)) (sym (behind_all others first (p ∷ ahead)))
       (front_on g (deeds_of first (p ∷ ahead)) others go text is.front);

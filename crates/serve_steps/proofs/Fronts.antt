@@ -56,7 +56,7 @@ sends_to : (c d : ℕ) (bytes : List ℕ) (answer : Sent) (past : Past) → Send
     → ((d == c) ≡ true) ⊎ ((d == c) ≡ false) → SentIsFront c (Does (acts.Takes d bytes answer) ∷ past)
 sends_to c d bytes answer past next is =
     ⊎_elim
-    (λ e. subst (λ n. SentIsFront n (Does (acts.Takes d bytes answer) ∷ past)) (eqb-true d c e) (sends_own d bytes answer past next (own_bytes d d bytes answer (subst (λ n. (d == n) ≡ true) (sym (eqb-true d c e)) e))))
+    (λ e. subst (λ n. SentIsFront n (Does (acts.Takes d bytes answer) ∷ past)) (eqb-true d c e) (sends_own d bytes answer past next.0 (own_bytes d d bytes answer (subst (λ n. (d == n) ≡ true) (sym (eqb-true d c e)) e))))
     (λ e. stays c (Does (acts.Takes d bytes answer)) past (others c d bytes answer e) is)
 
 one_more : (c : ℕ) (d : Deed) (past : Past) → SendsNext d past → SentIsFront c past → SentIsFront c (d ∷ past)

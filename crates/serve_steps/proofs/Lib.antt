@@ -6,3 +6,4 @@ mod Others
 mod Reports
 mod Sends
 mod States
+mod Taken

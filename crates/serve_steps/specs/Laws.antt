@@ -15,6 +15,7 @@ use Rattle.board_lines.specs.Readings.{beginning, last_item}
 use Rattle.of10_stream.specs.Cut.{IsOpen}
 use Rattle.sim_steps.specs.Agreeing.{AreCut}
 use Rattle.machine_steps.specs.declared.entry.Entry.{Entry}
+use Rattle.machine_steps.specs.declared.entry.Entry.TheVariants as entries
 use Rattle.machine_steps.specs.Histories.{Turn, IsTurn, Leads}
 use Rattle.machine_steps.specs.Machine.{State, opening}
 use Rattle.machine_steps.specs.Sound.{IsSound}
@@ -25,7 +26,7 @@ use Rattle.serve_steps.specs.Deeds.Deed.{Enters, Does}
 use Rattle.serve_steps.specs.Deeds.{Past, acts_of, calls_of, is_others, is_over, state_behind, taken_of, turns_of, last_answer, was_cut, bytes_of, inputs_of, is_open}
 use Rattle.serve_steps.specs.Texts.{Ask, IsEntryOf, asks_last, asks_more, asks_of, control_asks, ended_items, quits}
 use Rattle.serve_steps.specs.Texts.Ask.{Renews}
-use Rattle.serve_steps.specs.Parts.{AreFree, Given, Part, SendsNext, EachBehind, IsAsked, deeds_of, own_of, IsDelivered, AreCutAtTurns, AreOpenedOnce, has_ended}
+use Rattle.serve_steps.specs.Parts.{AreFree, Given, Part, SendsNext, EachBehind, IsAsked, deeds_of, own_of, IsDelivered, AreCutAtTurns, AreOpenedOnce, has_ended, is_overload}
 use Rattle.serve_steps.specs.Runs.{AreParts, ArePartsButLast, IsAtRest, IsBrokenOff, IsLastAsked, IsRightInWorlds, IsScripted, report, taken_report}
 
 -- what was sent to a connection is a front of what the machine gave for it
@@ -168,6 +169,26 @@ abbrev pub OthersTellNothing : Type 0
 OthersTellNothing =
     (g : Given) (first : Past) (parts : List Part) (others : List Turn) (go : OthersGoOn g (deeds_of first parts) others) → go.now.jobs ≡ []
     → report (deeds_entered others first parts) ≡ report (deeds_of first parts)
+
+-- ---- the report is taken once more
+
+-- what is so of a run stays so where the report is taken behind all that was done, by one turn more in the part in which others' turns stand
+abbrev pub TakenStaysIn : (Given → Past → List Part → Type 0) → Type 0
+TakenStaysIn P =
+    (g : Given) (first : Past) (parts : List Part) (t : Turn) → t.entry ≡ entries.TakeReport → is_overload t.reply ≡ false → P g first parts
+    → P g (first_entered (t ∷ []) first parts) (parts_entered (t ∷ []) parts)
+
+-- the parts but the last are parts of a run, and in the last one all was done that was asked for
+abbrev pub TakenStaysInLastAsked : Type 0
+TakenStaysInLastAsked = TakenStaysIn (λ (g : Given) (first : Past) (parts : List Part). ArePartsButLast g first parts × IsLastAsked g first parts)
+
+-- the parts are cut at the board's turns, and it opens each number once
+abbrev pub TakenStaysInCut : Type 0
+TakenStaysInCut = TakenStaysIn (λ (g : Given) (first : Past) (parts : List Part). AreCutAtTurns first parts × AreOpenedOnce first parts)
+
+-- the run has ended, or it hasn't
+abbrev pub TakenStaysInEnd : Type 0
+TakenStaysInEnd = (ended : Bool) → TakenStaysIn (λ (g : Given) (first : Past) (parts : List Part). has_ended g first parts ≡ ended)
 
 -- ---- the report
 

@@ -32,8 +32,18 @@ pub record Given : Type 0 where
   pub settings : Settings
   pub script : List ℕ
   pub first_line : ℕ
-  pub switches : ℕ
-  pub operators : ℕ
+  pub listen : ℕ
+  pub control : ℕ
+
+abbrev pub given : Policy → Settings → List ℕ → ℕ → ℕ → ℕ → Given
+given policy settings script first_line listen control = record {
+  policy = policy;
+  settings = settings;
+  script = script;
+  first_line = first_line;
+  listen = listen;
+  control = control;
+}
 
 -- a turn of the board with its bytes, and what was done behind it, up to the next turn
 pub record Part : Type 0 where
@@ -240,9 +250,10 @@ ended_here c done after = list_any (ends c) done && not (list_any (ends_by_link 
 abbrev pub is_served : ℕ → Past → Past → Bool
 is_served c done after = is_open c after || ended_here c done after
 
--- a send may be made only of what comes next in what was taken out
+-- a send may be made only of what comes next in what was taken out, and ahead of the connection's close, which is made once
 abbrev pub SendsNext : Deed → Past → Type 0
-SendsNext (Does (acts.Takes c bytes answer)) past = IsFront (sent c (acts_of past) ++ bytes) (taken_of c past)
+SendsNext (Does (acts.Takes c bytes answer)) past = IsFront (sent c (acts_of past) ++ bytes) (taken_of c past) × (was_closed c (acts_of past) ≡ false)
+SendsNext (Does (acts.Closes c)) past = was_closed c (acts_of past) ≡ false
 SendsNext d past = Unit {0}
 
 abbrev pub is_not_yet : Option Sent → Bool

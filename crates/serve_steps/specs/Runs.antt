@@ -1,6 +1,6 @@
 -- A run of `serve`, and what it is at each of its ends.
-use Rattle.std.specs.Prelude.{◌≡◌, ◌≢◌, ◌⊎◌, ℕ, ◌^◌, ◌≤◌, Bool, true, false, List, [], ◌∷◌, ◌++◌, length, Some, None}
-use Rattle.std.specs.List.{AllByRecursion, flat_map, list_all}
+use Rattle.std.specs.Prelude.{◌≡◌, ◌≢◌, ◌⊎◌, ℕ, ◌≤◌, Bool, true, false, List, [], ◌∷◌, ◌++◌, length, Some, None}
+use Rattle.std.specs.List.{flat_map, list_all}
 use Rattle.maple_io.specs.Fronts.{IsFront}
 use Rattle.maple_io.specs.Views.{SinkView, Wrote, WriteFailed, NoWriteFailed}
 use Rattle.maple_io.specs.declared.act.Act.{Act}
@@ -10,7 +10,6 @@ use Rattle.report_text.specs.declared.line.ScriptRefusal.{ScriptRefusal}
 use Rattle.report_text.specs.Report.{spelled}
 use Rattle.machine_steps.specs.Histories.{Leads, Turn, report_of}
 use Rattle.machine_steps.specs.Machine.{State, opening}
-use Rattle.machine_steps.specs.declared.reply.Reply.TheVariants as replies
 use Rattle.world_steps.specs.Worlds.{World, messages_for}
 use Rattle.world_steps.specs.Runs.{Event as WorldEvent, IsWorldRun}
 use Rattle.world_steps.specs.Runs.{turns_of as world_turns}
@@ -19,6 +18,7 @@ use Rattle.serve_steps.specs.declared.end.ServeEnd.{ServeEnd}
 use Rattle.serve_steps.specs.declared.end.ServeEnd.TheVariants.{Done, Script, WriteFault, BoardFault, Worn, NoMemory}
 use Rattle.sim_steps.specs.Agreeing.{taken_text}
 use Rattle.sim_steps.specs.Deeds.Deed.{Enters as EntersAtBench}
+pub use Rattle.sim_steps.specs.Ends.{AllHadMemory, most_entries}
 use Rattle.serve_steps.specs.Deeds.Deed.{Enters, Does}
 use Rattle.serve_steps.specs.Deeds.{Deed, Past, gathered, turns_of, acts_of, is_open}
 use Rattle.serve_steps.specs.Texts.{script_asks, script_quits, ahead_of_refused, first_refused, AreEntriesOf}
@@ -29,7 +29,7 @@ use Rattle.serve_steps.specs.Parts.{Given, Part, deeds_of, own_of, had_memory, a
 -- the board is started, with its two ports, unless a line of the start script is `quit`
 abbrev pub start_by : Bool → Given → List Act
 start_by true g = []
-start_by false g = acts.Starts g.switches g.operators ∷ []
+start_by false g = acts.Starts g.listen g.control ∷ []
 
 abbrev pub start_of : Given → List Act
 start_of g = start_by (script_quits g.first_line g.script) g
@@ -73,10 +73,6 @@ pub record IsAtRest (g : Given) (past : Past) : Type 0 where
 
 -- ---- the ends
 
--- memory sufficed for each turn of a history
-abbrev pub AllHadMemory : List Turn → Type 0
-AllHadMemory history = AllByRecursion (λ (t : Turn). t.reply ≢ replies.NoMemory) history
-
 -- the run came to its end: at the board's end, or at a line `quit` of the control text, or of the start script
 pub record IsDone (g : Given) (first : Past) (parts : List Part) (text : List ℕ) : Type 0 where
   pub all : AreParts g first parts
@@ -100,9 +96,15 @@ abbrev pub ArePartsButLast : Given → Past → List Part → Type 0
 ArePartsButLast g first [] = Unit {0}
 ArePartsButLast g first (last ∷ ahead) = AreParts g first ahead
 
--- the run broke off in its last part, and a front of the report was written
+-- the report of all parts but the last was written
+abbrev pub IsWrittenButLast : Past → List Part → List ℕ → Type 0
+IsWrittenButLast first [] text = Unit {0}
+IsWrittenButLast first (last ∷ ahead) text = IsFront (report (deeds_of first ahead)) text
+
+-- the run broke off in its last part, and a front of the report was written, that of the parts ahead at least
 pub record IsBrokenOff (g : Given) (first : Past) (parts : List Part) (text : List ℕ) : Type 0 where
   pub ahead : ArePartsButLast g first parts
+  pub written : IsWrittenButLast first parts text
   pub front : IsFront text (report (deeds_of first parts))
 
 -- the board failed at its start, or as it was asked for the next turn: in the last part all was done that was asked for
@@ -119,9 +121,6 @@ pub record IsFailed (g : Given) (first : Past) (parts : List Part) (text : List 
   pub text_is : text ≡ report (deeds_of first parts)
 
 -- the history is so long that no further entry is taken
-abbrev pub most_entries : ℕ
-most_entries = 2 ^ 62
-
 pub record IsWorn (g : Given) (first : Past) (parts : List Part) (text : List ℕ) : Type 0 where
   pub broken : IsBrokenOff g first parts text
   pub long : most_entries ≤ length (turns_of (deeds_of first parts))
@@ -170,3 +169,11 @@ pub record HasCause (end : ServeEnd) (board_old board_new : BoardView) (to_old t
 -- each run of the world with this history is right: over a switch that keeps the specification each hit and each answer is as it says
 abbrev pub IsRightInWorlds : Given → Past → Type 0
 IsRightInWorlds g past = (es : List WorldEvent) (w : World) → IsWorldRun g.policy g.settings es w → world_turns es ≡ turns_of past → IsRight es
+
+-- ---- a call
+
+-- a run of some history, meant as that of the call's hall at its close; each run of the world with it is right
+pub record HasRun (end : ServeEnd) (g : Given) (board_old board_new : BoardView) (to_old to_new : SinkView) : Type 0 where
+  pub history : List Turn
+  pub run : IsRun end g history board_old board_new to_old to_new
+  pub right : IsRightInWorlds g (deeds_of run.first run.parts)

@@ -1,6 +1,7 @@
 // What holds of all runs.
 ghost use Rattle.serve_steps.specs.Laws.{AllowedAreOthers, AreFronts, EachAsksOnce, EndedIsGiven, EndedStays, FrontStays, GoesOnFrom, HeardIsCut, LastAsks, LinesGoOn, LogGoesOn, NeverSends, NoneHeardBehindEnd, OthersAreFree, RenewsAlike, ReportIsTold, StatesAreTold, TurnsGoOn, WorldsAreRight};
 ghost use Rattle.serve_steps.specs.Laws.{OthersStandLast, OthersStayAtRest, OthersStayInBrokenOff, OthersStayInCut, OthersStayInEnd, OthersStayInLastAsked, OthersStayInParts, OthersStayInScript, OthersTakeNothing, OthersTellNothing};
+ghost use Rattle.serve_steps.specs.Laws.{TakenStaysInCut, TakenStaysInEnd, TakenStaysInLastAsked};
 
 use board_lines::{control_laws, kept_laws};
 use machine_sharing::{between_laws, legal_laws};
@@ -40,6 +41,13 @@ pub fn others_laws()
     between_laws();
     legal_laws();
 }
+
+/// Nor does it change what is said of a run that the report is taken once more, behind all that was done.
+pub fn taking_laws()
+    ensures asked { TakenStaysInLastAsked }
+    ensures cut { TakenStaysInCut }
+    ensures ended { TakenStaysInEnd }
+{}
 
 /// What has ended in a control text stays, whatever comes behind it, and is what its reader gives byte by
 /// byte; so each line asks once, and the last one as the text comes to its end. What is kept of a

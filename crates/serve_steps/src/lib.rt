@@ -5,4 +5,4 @@ mod end;
 pub mod laws;
 
 pub use end::ServeEnd;
-pub use laws::{heard_law, others_laws, run_laws, text_laws, world_law};
+pub use laws::{heard_law, others_laws, run_laws, taking_laws, text_laws, world_law};

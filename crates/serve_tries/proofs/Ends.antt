@@ -1,5 +1,5 @@
 -- Runs at other ends, and ends that are none.
-use Rattle.std.proofs.Common.{◌≡◌, ℕ, ◌==◌, true, false, List, [], ◌∷◌, Some, None, refl, inl, inr, ⊎_elim}
+use Rattle.std.proofs.Common.{◌≡◌, ℕ, ◌==◌, true, false, List, [], ◌∷◌, Some, None, refl, sym, inl, inr, ⊎_elim}
 use Rattle.std.proofs.lemmas.Bool.{cases_Bool}
 use Rattle.maple_base.specs.declared.decision.Settings.{Settings}
 use Rattle.policy_lang.specs.declared.Policy.{Policy}
@@ -7,10 +7,9 @@ use Rattle.std.specs.Fmt.{digits}
 use Rattle.report_text.specs.declared.line.ScriptRefusal.{ScriptRefusal}
 use Rattle.report_text.specs.declared.line.ScriptRefusal.TheVariants.{Grammar}
 use Rattle.maple_io.specs.declared.act.Act.{Act}
-use Rattle.serve_steps.specs.Parts.{IsDelivered, deeds_of}
-use Rattle.serve_steps.specs.Runs.{report}
+use Rattle.serve_steps.specs.Parts.{IsDelivered}
 use Rattle.serve_tries.specs.Row.{first_row, part1, part2}
-use Rattle.serve_tries.specs.Ends.{DoneTooSoon, FirstFails, GoesOn, LacksMemory, PassesOver, RefusesNone, RefusesWithout, StartFails, StartsBehindQuit, ThirdFails, Unwritten, WriteFails, lacking}
+use Rattle.serve_tries.specs.Ends.{DoneTooSoon, FirstFails, Gathers, GoesOn, LacksMemory, PassesOver, RefusesNone, RefusesWithout, StartFails, StartsBehindQuit, ThirdFails, Unwritten, WriteFails, lacking}
 use Rattle.serve_tries.proofs.Row.{first_is, part1_is, part2_is}
 
 pub start_fails : StartFails
@@ -32,7 +31,7 @@ third_fails p s = record {
 }
 
 pub write_fails : WriteFails
-write_fails p s = record { ahead = (part1_is p s, first_is p s); front = (report (deeds_of first_row (part2 p s ∷ part1 p s ∷ [])), refl) }
+write_fails p s = record { ahead = (part1_is p s, first_is p s); written = ([], rw one_is refl); front = ([], rw one_is refl) }
 
 never : false ≡ true → ⊥
 never e = absurd (cc)
@@ -70,6 +69,9 @@ refuses_without p s text is = is.memory.1.0 refl
 
 begins : (x : ℕ) (xs : List ℕ) → [] ≡ x ∷ xs → ⊥
 begins x xs e = absurd (cc)
+
+pub gathers : Gathers
+gathers p s is = begins 111 _ (sym is.written.1)
 
 pub unwritten : Unwritten
 unwritten p s is = begins 111 _ is.text_is

@@ -117,7 +117,7 @@ abbrev pub quit_script : List ℕ
 quit_script = 114 ∷ 117 ∷ 108 ∷ 101 ∷ 115 ∷ 32 ∷ 49 ∷ 10 ∷ 113 ∷ 117 ∷ 105 ∷ 116 ∷ 10 ∷ []
 
 abbrev pub given_script : Policy → Settings → List ℕ → Given
-given_script p s script = record { policy = p; settings = s; script = script; first_line = 3; switches = 6633; operators = 6634 }
+given_script p s script = record { policy = p; settings = s; script = script; first_line = 3; listen = 6633; control = 6634 }
 
 abbrev pub one_entry : Policy → Settings → Past
 one_entry p s = enters p s (entries.ReadRules 1) replies.Done ∷ []

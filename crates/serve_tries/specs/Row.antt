@@ -42,7 +42,7 @@ abbrev pub was_heard : Message
 was_heard = record { xid = 0; body = body.Hello 1 }
 
 abbrev pub given_row : Policy → Settings → Given
-given_row policy settings = record { policy = policy; settings = settings; script = []; first_line = 1; switches = 6633; operators = 6634 }
+given_row policy settings = record { policy = policy; settings = settings; script = []; first_line = 1; listen = 6633; control = 6634 }
 
 abbrev pub session0 : Settings → Session
 session0 settings = opened 1 settings.capacity

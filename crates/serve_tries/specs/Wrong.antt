@@ -5,7 +5,7 @@ use Rattle.policy_lang.specs.declared.Policy.{Policy}
 use Rattle.maple_io.specs.declared.act.Act.TheVariants as acts
 use Rattle.maple_io.specs.declared.board.Turn.TheVariants as turn
 use Rattle.maple_io.specs.declared.board.Sent.TheVariants as sends
-use Rattle.switch_session.specs.declared.told.End.TheVariants.{LinkEnd}
+use Rattle.switch_session.specs.declared.told.End.TheVariants.{LinkEnd, Version}
 use Rattle.machine_steps.specs.declared.entry.Entry.TheVariants as entries
 use Rattle.machine_steps.specs.declared.entry.Input.TheVariants.{Message as Whole}
 use Rattle.machine_steps.specs.declared.reply.Reply.TheVariants as replies
@@ -13,6 +13,7 @@ use Rattle.machine_steps.specs.Histories.{Turn}
 use Rattle.serve_steps.specs.Deeds.{is_over}
 use Rattle.serve_steps.specs.Deeds.Deed.{Enters, Does}
 use Rattle.serve_steps.specs.Parts.{Part, deeds_of, AreCutAtTurns, AreOpenedOnce, IsPart}
+use Rattle.serve_tries.specs.More.{enters, last_words, zero_bytes, zero_hello}
 use Rattle.serve_tries.specs.Row.{first_row, given_row, part1, part2, state2, state4, turn1, turn2, turn3, turn4, turn5, was_heard, hello_bytes, request_bytes}
 
 -- ---- what was taken out is never sent
@@ -109,6 +110,20 @@ early p s = record { given = turn.Idle; bytes = []; done = Does (acts.Closes 1) 
 
 abbrev pub ClosedEarly : Type 0
 ClosedEarly = (p : Policy) (s : Settings) → ¬ (IsPart (given_row p s) first_row (part1 p s ∷ []) (early p s))
+
+-- the last bytes for a connection are sent behind its close
+abbrev pub sent_late : Policy → Settings → Part
+sent_late p s = record {
+  given = turn.Bytes 1 8;
+  bytes = zero_bytes;
+  done =
+      Does (acts.Takes 1 last_words (sends.Took 12)) ∷ Does (acts.Closes 1) ∷ enters p s (entries.TakeOut 1) (replies.Out last_words)
+      ∷ enters p s (entries.Heard 1 (Whole zero_hello)) (replies.Ended Version)
+      ∷ [];
+}
+
+abbrev pub SentBehindClose : Type 0
+SentBehindClose = (p : Policy) (s : Settings) → ¬ (IsPart (given_row p s) first_row (part1 p s ∷ []) (sent_late p s))
 
 -- the machine is asked to run the policy itself, though no run was stale
 abbrev pub asks_at_once : Policy → Settings → Part

@@ -1,5 +1,5 @@
 // Runs that are right, and some that are wrong.
-ghost use Rattle.serve_tries.specs.Ends.{DoneTooSoon, FirstFails, GoesOn, LacksMemory, PassesOver, RefusesNone};
+ghost use Rattle.serve_tries.specs.Ends.{DoneTooSoon, FirstFails, Gathers, GoesOn, LacksMemory, PassesOver, RefusesNone};
 ghost use Rattle.serve_tries.specs.Ends.{RefusesWithout, StartFails, StartsBehindQuit, ThirdFails, Unwritten, WriteFails};
 ghost use Rattle.serve_tries.specs.Lines.{CommittedUntold, CutLineAsks, DecidedBehindThree, DecidedBehindTwo, EndAsks};
 ghost use Rattle.serve_tries.specs.Lines.{NoneBehindQuit, NothingAsks, PlacesAreRefused, PolicyAsks};
@@ -7,7 +7,7 @@ ghost use Rattle.serve_tries.specs.More.{LineIsRefused, OpensInVain, Passes, Scr
 ghost use Rattle.serve_tries.specs.Row.{RowIsCut, RowIsDone, RowIsOpenedOnce, RowLeads};
 ghost use Rattle.serve_tries.specs.Whole.{LaterIsDone, LeftOpen, WholeIsDone, WholeIsSent};
 ghost use Rattle.serve_tries.specs.Wrong.{ClosedEarly, DecidedAtOnce, EndIsSeen, HeardBehindEnd, NeverSent, NotClosed};
-ghost use Rattle.serve_tries.specs.Wrong.{NotTold, OpenedTwice, SentTwice, Skipped, TakenTooSoon, TwoTurnsInOne};
+ghost use Rattle.serve_tries.specs.Wrong.{NotTold, OpenedTwice, SentBehindClose, SentTwice, Skipped, TakenTooSoon, TwoTurnsInOne};
 
 /// A connection is opened, a HELLO comes, and the control text says `quit`: this run is done.
 pub fn row_law()
@@ -29,6 +29,7 @@ pub fn wrong_laws()
     ensures soon { TakenTooSoon }
     ensures unclosed { NotClosed }
     ensures early { ClosedEarly }
+    ensures late { SentBehindClose }
     ensures decided { DecidedAtOnce }
     ensures turns { TwoTurnsInOne }
     ensures opened { OpenedTwice }
@@ -57,13 +58,14 @@ pub fn whole_law()
 {}
 
 /// The board fails at its start, or as it is asked for a turn, or a write fails: these runs are so. Runs
-/// that end too soon, or not at all, that lacked memory, whose report isn't written, or that pass over a
-/// refused line of the start script are none.
+/// that end too soon, or not at all, that lacked memory, whose report isn't written, or not as it comes, or
+/// that pass over a refused line of the start script are none.
 pub fn end_laws()
     ensures start { StartFails }
     ensures first { FirstFails }
     ensures third { ThirdFails }
     ensures write { WriteFails }
+    ensures gathers { Gathers }
     ensures done { DoneTooSoon }
     ensures on { GoesOn }
     ensures lacks { LacksMemory }

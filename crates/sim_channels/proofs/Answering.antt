@@ -27,7 +27,8 @@ use Rattle.packet_workers.specs.Rounds.{HasNoJob, IsClosedBy}
 use Rattle.machine_desk.specs.Desks.{DeskView, calls_of}
 use Rattle.machine_desk.specs.Working.{IsPlainCall, RoundsArePlain, RoundsClose, Works}
 use Rattle.machine_desk.specs.declared.hearing.Heard.TheVariants as heard
-use Rattle.sim_channels.specs.Answering.{Answers, IsPlain, IsWhole}
+use Rattle.desk_jobs.specs.Tending.{IsWhole}
+use Rattle.sim_channels.specs.Answering.{Answers, IsPlain}
 use Rattle.sim_channels.specs.Channels.{IsReached}
 use Rattle.sim_channels.specs.Driving.{DrivingLaws}
 use Rattle.sim_channels.specs.Passes.{WaitsBy}

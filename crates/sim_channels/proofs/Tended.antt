@@ -14,17 +14,16 @@ use Rattle.machine_desk.specs.declared.hearing.Heard.{Heard}
 use Rattle.machine_desk.specs.declared.hearing.Heard.TheVariants as heards
 use Rattle.desk_jobs.specs.Laws.{Meanwhile, NothingIsLeft, RoomStays, TendingIsAllowed}
 use Rattle.desk_jobs.specs.declared.tending.Handed.{Handed}
-use Rattle.desk_jobs.specs.Tending.{Done, HandsOver, Reaches, Room, Sight}
+use Rattle.desk_jobs.specs.Tending.{Done, HandsOver, IsInHand, IsWhole, Reaches, Room, Sight}
 use Rattle.sim_steps.specs.Stretches.{Carried}
 use Rattle.sim_steps.proofs.Joining.{carried_none, carried_then}
 use Rattle.sim_steps.proofs.Others.{carried_beside}
 use Rattle.desk_jobs.specs.declared.crew.Crew.{Crew}
 use Rattle.sim_channels.specs.declared.driver.Driver.{Driver}
-use Rattle.sim_channels.specs.Answering.{IsWhole}
-use Rattle.desk_jobs.specs.Crews.{IsCrewStill, SameCrew, sight}
+use Rattle.desk_jobs.specs.Crews.{BySights, IsCrewStill, SameCrew, sight}
 use Rattle.sim_channels.specs.Channels.{CarriedOver, IsKept, IsSame, Tends, WorksAlone, bench}
 use Rattle.sim_channels.specs.Driving.{DrivingLaws}
-use Rattle.sim_channels.specs.Passes.{Attends, AwaitsAll, Beside, BySights, HasHeard, HearsBy, IsInHand, MakesRoom, Passed, WaitsBy, came_of, is_state, rest_at, rest_in}
+use Rattle.sim_channels.specs.Passes.{Attends, AwaitsAll, Beside, HasHeard, HearsBy, MakesRoom, Passed, WaitsBy, came_of, is_state, rest_at, rest_in}
 use Rattle.sim_channels.proofs.Answering.{answers_by}
 use Rattle.sim_channels.proofs.Keeping.{reached_sound}
 use Rattle.sim_channels.proofs.Others.{alone_on, channel_stays, items_stay, same_desk, same_driver, same_then, tends_beside, tends_kept, tends_learning}

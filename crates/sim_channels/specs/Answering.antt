@@ -3,8 +3,6 @@ use Rattle.std.specs.Prelude.{◌≡◌, ◌≢◌, List, [], ◌++◌}
 use Rattle.std.specs.List.{AllByRecursion}
 use Rattle.history_lock.specs.Histories.{AreAllowed}
 use Rattle.machine_desk.specs.Desks.{DeskView, calls_of}
-use Rattle.packet_workers.specs.declared.worked.Worked.{Worked}
-use Rattle.packet_workers.specs.declared.worked.Worked.TheVariants as how
 use Rattle.machine_steps.specs.declared.reply.Reply.TheVariants.{NoMemory, Overload}
 use Rattle.machine_steps.specs.Histories.{Leads, Turn}
 use Rattle.machine_sharing.specs.Sharing.{Allows}
@@ -13,12 +11,6 @@ use Rattle.machine_sharing.specs.Sharing.{Allows}
 pub record IsPlain (t : Turn) : Type 0 where
   pub few : t.reply ≢ Overload
   pub memory : t.reply ≢ NoMemory
-
--- the work on a packet came to its end
-abbrev pub IsWhole : Worked → Type 0
-IsWhole how.NoMemory = ⊥
-IsWhole how.Worn = ⊥
-IsWhole worked = Unit {0}
 
 -- turns of the machine alone, each of which who doesn't lead may make, answer the packet that waits, and none waits any more
 pub record Answers (a b : DeskView) : Type 0 where

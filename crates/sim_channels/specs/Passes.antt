@@ -12,18 +12,16 @@ use Rattle.machine_steps.specs.Waiting.{Waiting}
 use Rattle.machine_desk.specs.Desks.{DeskView}
 use Rattle.machine_desk.specs.Hearing.{Comes, Hears}
 use Rattle.desk_jobs.specs.declared.tending.Handed.{Handed}
-use Rattle.desk_jobs.specs.declared.tending.Handed.TheVariants.{Queued, Worked}
+use Rattle.desk_jobs.specs.Crews.{BySights}
 use Rattle.desk_jobs.specs.Laws.{Meanwhile}
-use Rattle.desk_jobs.specs.Tending.{Done, HandsOver, Reaches, Room, Sight, at}
+use Rattle.desk_jobs.specs.Tending.{Done, HandsOver, IsInHand, Reaches, Room, Sight}
 use Rattle.machine_desk.specs.declared.inbound.Inbound.{Inbound}
 use Rattle.machine_desk.specs.declared.hearing.Heard.{Heard}
 use Rattle.machine_desk.specs.declared.hearing.Heard.TheVariants as heard
-use Rattle.worker_crew.specs.Takers.{places}
-use Rattle.sim_channels.specs.Answering.{Answers, IsWhole}
+use Rattle.sim_channels.specs.Answering.{Answers}
 use Rattle.sim_channels.specs.Channels.{CarriedOver, IsKept, IsSame, Tends, WorksAlone}
 use Rattle.sim_channels.specs.Waiting.{IsHeard, IsOffered, NoneWaits, StaysBut}
 use Rattle.sim_channels.specs.declared.channel.Channel.{Channel}
-use Rattle.desk_jobs.specs.declared.crew.Crew.{Crew}
 use Rattle.sim_channels.specs.declared.driver.Driver.{Driver}
 use Rattle.sim_channels.specs.Hearing.{KeepsChannels}
 use Rattle.sim_channels.specs.declared.hear.Came.{Came}
@@ -54,18 +52,8 @@ abbrev pub WaitsBy : Heard → List Job → Type 0
 WaitsBy (heard.Packet item) jobs = (j : Job) × (jobs ≡ j ∷ []) × (item ≡ item_of j)
 WaitsBy rest jobs = Unit {0}
 
--- with a crew ahead and behind, this holds of its queue's places and of what the driver knows ahead and behind
-abbrev pub BySights : (ℕ → Sight → Sight → Type 0) → DeskView → DeskView → Option Crew → Option Crew → Type 0
-BySights R a b (Some c) (Some d) = R (places c.jobs.now) (at a c.taker.now) (at b d.taker.now)
-BySights R a b c d = Unit {0}
-
 abbrev pub Beside : (ℕ → Sight → Sight → Type 0) → Driver → Driver → Type 0
 Beside R old new = BySights R old.desk new.desk old.crew new.crew
-
--- it is in the queue, or was worked to the end
-abbrev pub IsInHand : Handed → Type 0
-IsInHand Queued = Unit {0}
-IsInHand (Worked worked) = IsWhole worked
 
 -- a packet is answered, or handed over to who works beside
 pub record Attends (item : Waiting) (old new : Driver) : Type 0 where

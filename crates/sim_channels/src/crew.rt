@@ -1,7 +1,7 @@
 // Who works beside the driver.
 ghost use Rattle.std.specs.Prelude.{◌≡◌, not, OnOk, is_some};
 ghost use Rattle.machine_desk.specs.declared.hearing.Heard.TheVariants.{Packet};
-ghost use Rattle.sim_channels.specs.Answering.{IsWhole};
+ghost use Rattle.desk_jobs.specs.Tending.{IsWhole};
 ghost use Rattle.sim_channels.specs.Channels.{IsKept, IsSame, WorksAlone};
 ghost use Rattle.sim_channels.specs.Passes.{Attends, AwaitsAll, MakesRoom, WaitsBy};
 

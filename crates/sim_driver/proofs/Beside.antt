@@ -39,7 +39,7 @@ use Rattle.sim_driver.specs.Passes.{DroveAt, DroveBy, EndsAt, joined, untaken, w
 use Rattle.sim_driver.specs.Runs.{AllHadMemory, Ends, EndsWith, Given, IsAtRefused, IsBrokenOff, IsFollowed, IsFull, IsRunOf, IsToEnd, IsUnwritten, just}
 use Rattle.sim_driver.specs.Runs.{of_part, opened, orders, report}
 use Rattle.sim_driver.proofs.Going.{Known, report_append, run_of, settings_stay}
-use Rattle.sim_driver.proofs.Memory.{had_at_all, had_joined}
+use Rattle.desk_jobs.proofs.HadMemory.{had_at_all, had_joined}
 use Rattle.sim_driver.proofs.Parting.{Stands, part_longer}
 
 -- ---- what is told of an end

@@ -12,7 +12,7 @@ use Rattle.report_text.specs.Report.{spelled}
 use Rattle.device_port.specs.Devices.{Meaning}
 use Rattle.machine_desk.specs.declared.report.ReportStop.{ReportStop}
 use Rattle.machine_desk.specs.declared.report.ReportStop.TheVariants.{Failed, NoMemory, Worn}
-use Rattle.machine_desk.specs.Desks.{DeskLaw, DeskView, Footing}
+use Rattle.machine_desk.specs.Desks.{DeskLaw, DeskView, Footing, SameHall}
 use Rattle.maple_base.specs.declared.decision.Settings.{Settings}
 use Rattle.machine_steps.specs.Histories.{Leads as Steady, Turn, report_of, said}
 use Rattle.machine_steps.specs.Machine.{State, opening}
@@ -31,7 +31,7 @@ use Rattle.sim_channels.specs.declared.driver.Driver.{Driver}
 use Rattle.sim_channels.specs.Channels.{bench}
 use Rattle.sim_driver.specs.declared.drive.SimEnd.{SimEnd}
 use Rattle.sim_driver.specs.declared.drive.SimEnd.TheVariants as ends
-use Rattle.sim_driver.specs.Passes.{Breaks, DeedLaws, EndsAt, Finished, IsFinished, IsMarked, IsReady, IsReported, IsUnreported, Passed, SameHall, end_of}
+use Rattle.sim_driver.specs.Passes.{Breaks, DeedLaws, EndsAt, Finished, IsFinished, IsMarked, IsReady, IsReported, IsUnreported, Passed, end_of}
 use Rattle.sim_driver.specs.Passes.{untaken}
 use Rattle.sim_driver.specs.Runs.{AllHadMemory, Ends, EndsOver, EndsWith, Given, GoesOnFrom, IsBrokenOff, IsFollowed, IsRunOf, IsToEnd, IsUnwritten, just}
 use Rattle.sim_driver.specs.Runs.{of_part, opened, orders, report}

@@ -13,7 +13,7 @@ use Rattle.sim_driver.specs.declared.drive.SimEnd.{SimEnd}
 use Rattle.sim_driver.specs.Passes.{DroveBy}
 use Rattle.sim_driver.specs.Runs.{Ends, Given}
 use Rattle.sim_driver.proofs.Going.{closed}
-use Rattle.sim_driver.proofs.Memory.{had_at_all, had_seen}
+use Rattle.desk_jobs.proofs.HadMemory.{had_at_all, had_seen}
 
 -- how it ends in a hall that is closed with the desk's pass, which made all calls
 pub alone_ends : (end : SimEnd) (g : Given) (refused : Option (ℕ × ScriptRefusal)) (start : State) (k : PassView) (after : List Meaning) (old new : SinkView)

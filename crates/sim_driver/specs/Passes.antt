@@ -23,7 +23,7 @@ use Rattle.sim_channels.specs.Channels.{EntersNext, Fits, IsAtStart, OthersDid, 
 use Rattle.sim_channels.specs.Waiting.{IsAtRest, IsDone}
 use Rattle.machine_desk.specs.declared.report.ReportStop.{ReportStop}
 use Rattle.machine_desk.specs.declared.report.ReportStop.TheVariants.{Failed, NoMemory, Worn}
-use Rattle.machine_desk.specs.Desks.{DeskView, Footing, HadMemory, calls_of}
+use Rattle.machine_desk.specs.Desks.{DeskView, HadMemory, calls_of}
 use Rattle.machine_steps.specs.declared.entry.Entry.TheVariants.{TakeReport}
 use Rattle.machine_steps.specs.declared.reply.Reply.TheVariants.{Lines}
 use Rattle.maple_io.specs.Fronts.{IsFront}
@@ -61,13 +61,6 @@ pub record TakesReport (old new : Driver) : Type 0 where
   pub others : OthersDid old ahead
   pub enters : EntersNext TakeReport (Lines (waiting ahead)) ahead.desk new.desk
   pub footing : new.desk.footing ≡ old.desk.footing
-
--- what a desk keeps through a run: which hall it is, by which reference its pass was lent, the machine at first, and the parts
-pub record SameHall (a b : Footing) : Type 0 where
-  pub place : b.place ≡ a.place
-  pub name : b.name ≡ a.name
-  pub start : b.start ≡ a.start
-  pub parts : b.parts ≡ a.parts
 
 -- it was marked, and then its footing stayed
 abbrev pub IsMarked : DeskView → DeskView → Type 0

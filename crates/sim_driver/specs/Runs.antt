@@ -1,6 +1,6 @@
 -- A run of a script over devices, and how it ends.
-use Rattle.std.specs.Prelude.{◌≡◌, ◌≢◌, ◌⊎◌, ℕ, ◌^◌, ◌≤◌, map, List, [], ◌∷◌, ◌++◌, Option, Some, None, length}
-use Rattle.std.specs.List.{AllByRecursion, flat_map}
+use Rattle.std.specs.Prelude.{◌≡◌, ◌⊎◌, ℕ, ◌≤◌, map, List, [], ◌∷◌, ◌++◌, Option, Some, None, length}
+use Rattle.std.specs.List.{flat_map}
 use Rattle.std.specs.declared.vec.Vec.{Vec}
 use Rattle.maple_base.specs.declared.decision.Settings.{Settings}
 use Rattle.maple_io.specs.Views.{SinkView, Wrote}
@@ -9,7 +9,6 @@ use Rattle.report_text.specs.declared.line.ScriptRefusal.{ScriptRefusal}
 use Rattle.report_text.specs.Report.{spelled}
 use Rattle.device_port.specs.Devices.{Meaning}
 use Rattle.history_lock.specs.Histories.{StartsWith}
-use Rattle.machine_steps.specs.declared.reply.Reply.TheVariants as replies
 use Rattle.machine_steps.specs.Histories.{Leads, Turn, report_of}
 use Rattle.machine_steps.specs.Machine.{State, opening}
 use Rattle.script_text.specs.Lines.{ended_lines}
@@ -18,6 +17,7 @@ use Rattle.script_text.specs.Orders.Order.{Nothing}
 use Rattle.sim_steps.specs.Agreeing.{AllAgree}
 use Rattle.sim_steps.specs.Benches.{Bench, IsSolo, Slot, opening_bench}
 use Rattle.sim_steps.specs.Deeds.{Event, Runs, turns_of}
+pub use Rattle.sim_steps.specs.Ends.{AllHadMemory, most_entries}
 use Rattle.sim_steps.specs.Parts.{Follows, IsPart, IsStill}
 use Rattle.sim_steps.specs.Showing.{AllKeep}
 use Rattle.sim_laws.specs.Laws.{AreWorldRun}
@@ -27,10 +27,6 @@ use Rattle.sim_driver.specs.declared.drive.SimEnd.TheVariants.{Done, Script, Wri
 -- what devices in a vector mean, from place 1 on
 abbrev pub over : {A Alloc : Type 0} → (A → Meaning) → Vec A Alloc → List Meaning
 over meaning devices = map meaning devices.items
-
--- the most workers
-abbrev pub most_workers : ℕ
-most_workers = 16
 
 -- what is given to a run: the policy, the settings, the devices as they are at first, and the lines of a script, of which the first has this number
 pub record Given : Type 0 where
@@ -149,7 +145,7 @@ pub record IsUnwritten (g : Given) (after : List Meaning) (history : List Turn) 
 
 -- the hall read so many entries that it has room for no more
 abbrev pub IsFull : ℕ → Type 0
-IsFull number = 2 ^ 62 ≤ number
+IsFull number = most_entries ≤ number
 
 -- how a run ends that wrote this text, where the machine has this history, and so many entries were read of it; memory may run out as a report is written
 abbrev pub EndsWith : SimEnd → Given → List Meaning → ℕ → List Turn → List ℕ → Type 0
@@ -162,10 +158,6 @@ EndsWith Worn g after number history text = IsBrokenOff g history text × IsFull
 -- the same with what was written
 abbrev pub EndsOver : SimEnd → Given → List Meaning → ℕ → List Turn → SinkView → SinkView → Type 0
 EndsOver end g after number history old new = (text : List ℕ) × EndsWith end g after number history text × Wrote old new text
-
--- memory sufficed for each turn of a history
-abbrev pub AllHadMemory : List Turn → Type 0
-AllHadMemory history = AllByRecursion (λ (t : Turn). t.reply ≢ replies.NoMemory) history
 
 -- the script came to its end, or to a line that is refused
 abbrev pub IsToEnd : SimEnd → Type 0

@@ -6,12 +6,13 @@ ghost use Rattle.sim_steps.specs.Benches.{IsSolo};
 ghost use Rattle.worker_crew.specs.Takers.{IsTakerOf, shares};
 ghost use Rattle.sim_driver.specs.Crewing.{IsReadyBeside, RanBeside};
 ghost use Rattle.sim_driver.specs.Passes.{DroveBy, IsOpening, given_over, joined};
-ghost use Rattle.sim_driver.specs.Runs.{Ends, IsAtRefused, most_workers, refused_line};
+ghost use Rattle.desk_jobs.specs.Crews.{most_workers};
+ghost use Rattle.sim_driver.specs.Runs.{Ends, IsAtRefused, refused_line};
 
 use crate::drive::SimEnd;
 use crate::lines::{at_desk, deed_laws};
 use core_machine::{Core, JobItem};
-use desk_jobs::Crew;
+use desk_jobs::{Crew, QUEUE_PLACES};
 use device_port::Device;
 use history_lock::{Hall, Pass};
 use machine_desk::{Desk, Opening, close_hall};
@@ -22,9 +23,6 @@ use std::alloc::Global;
 use std::sync::Wait;
 use std::thread::Threads;
 use worker_crew::{Drives, GaveUp, JobPass, Jobs, Lobby, with_workers};
-
-/// How many packets the workers' queue has places for.
-const PLACES: u32 = 4_096;
 
 /// How a run ended, beside what was lent to it.
 pub(crate) struct Returned<'d, D, O> {
@@ -81,7 +79,7 @@ pub(crate) fn crewed<'d, R: Threads + Wait + Sync, D: Device, O: Sink, G: Gate +
     deed_laws();
     legal_laws();
     between_laws();
-    let Ok((jobs, taker)) = Jobs::<JobItem>::new(alloc, PLACES) else {
+    let Ok((jobs, taker)) = Jobs::<JobItem>::new(alloc, QUEUE_PLACES) else {
         close_hall(hall, pass);
         return Returned {
             devices,

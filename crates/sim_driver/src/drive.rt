@@ -3,7 +3,8 @@ ghost use Rattle.std.specs.Prelude.{◌≡◌, ◌≢◌, ◌+◌, ◌^◌, ◌<
 ghost use Rattle.maple_io.specs.Views.{NoWriteFailed, WriteFailed};
 ghost use Rattle.machine_steps.specs.Sound.{AreInRange};
 ghost use Rattle.sim_steps.specs.Showing.{AllIdle};
-ghost use Rattle.sim_driver.specs.Runs.{EndsRun, IsAtRefused, most_workers, over, refused_line};
+ghost use Rattle.desk_jobs.specs.Crews.{most_workers};
+ghost use Rattle.sim_driver.specs.Runs.{EndsRun, IsAtRefused, over, refused_line};
 
 use crate::alone::alone;
 use crate::crewed::crewed;
@@ -18,9 +19,6 @@ use report_text::ScriptRefusal;
 use std::alloc::Global;
 use std::sync::Wait;
 use std::thread::Threads;
-
-/// The most workers beside the driver.
-pub const MOST_WORKERS: u32 = 16;
 
 /// How a run ends.
 #[derive(Clone, Copy, Debug, PartialEq, Eq)]

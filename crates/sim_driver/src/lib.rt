@@ -13,4 +13,4 @@ mod obeying;
 mod places;
 mod plugging;
 
-pub use drive::{MOST_WORKERS, SimEnd, run_sim};
+pub use drive::{SimEnd, run_sim};

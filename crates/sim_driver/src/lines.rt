@@ -1,8 +1,9 @@
 // The lines of a script are run.
 ghost use Rattle.std.specs.Prelude.{◌≡◌, ◌≢◌, ◌+◌, ◌^◌, ◌<◌, None, map, length};
 ghost use Rattle.maple_io.specs.Views.{NoWriteFailed, WriteFailed};
+ghost use Rattle.machine_desk.specs.Desks.{SameHall};
 ghost use Rattle.desk_jobs.specs.Crews.{MayHave, SameCrew};
-ghost use Rattle.sim_driver.specs.Passes.{DeedLaws, DroveAt, EndsAt, IsOpened, IsOpenedAt, SameHall, end_of, given_at, with_memory};
+ghost use Rattle.sim_driver.specs.Passes.{DeedLaws, DroveAt, EndsAt, IsOpened, IsOpenedAt, end_of, given_at, with_memory};
 ghost use Rattle.sim_driver.specs.Runs.{IsAtRefused, refused_line};
 
 use crate::drive::SimEnd;

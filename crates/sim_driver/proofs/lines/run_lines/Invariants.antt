@@ -1,7 +1,8 @@
 use Rattle.std.proofs.Common.{◌≡◌, ◌+◌, ◌≤◌, length, map}
 use Rattle.script_text.specs.Lines.{ended_lines}
 use Rattle.desk_jobs.specs.Crews.{SameCrew}
-use Rattle.sim_driver.specs.Passes.{IsReady, SameHall, given_at}
+use Rattle.machine_desk.specs.Desks.{SameHall}
+use Rattle.sim_driver.specs.Passes.{IsReady, given_at}
 use Rattle.sim_driver.proofs.Going.{Went}
 use Rattle.sim_driver.proofs.lines.run_lines.Given as goal
 

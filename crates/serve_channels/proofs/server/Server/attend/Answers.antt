@@ -1,7 +1,8 @@
-use Rattle.std.proofs.Common.{Ok, Err}
-use Rattle.std.specs.Prelude.{OnOk, Result}
+use Rattle.std.proofs.Common.{Ok, Err, ap}
+use Rattle.std.specs.Prelude.{OnOk, Result, is_some}
 use Rattle.desk_jobs.specs.declared.stopped.Stopped.{Stopped}
-use Rattle.serve_channels.specs.Passing.{Attends, IsWhole}
+use Rattle.desk_jobs.specs.Tending.{IsWhole}
+use Rattle.serve_channels.specs.Passing.{Attends}
 use Rattle.serve_channels.specs.declared.server.Server.{Server}
 use Rattle.serve_channels.proofs.Attended.{worked_alone}
 use Rattle.serve_channels.proofs.server.Server.attend.Goals as goal
@@ -14,4 +15,4 @@ returns-in-None-clause-attends g c = go c.answered.result c.answered.ensures
 
     go : (r : Result (Unit {0}) Stopped) → OnOk r (IsWhole c.work.result) → OnOk r (Attends c.args.item old (record old { desk = c.work.new.self }))
     go (Err stopped) whole = tt
-    go (Ok done) whole = worked_alone old c.work.new.self c.args.item c.work.result c.work.ensures.footing c.work.ensures.works whole
+    go (Ok done) whole = worked_alone old c.work.new.self c.args.item c.work.result (ap is_some c.in-None.is) c.work.ensures.footing c.work.ensures.works whole

@@ -1,4 +1,3 @@
-use Rattle.std.proofs.Common.{sym}
 use Rattle.serve_channels.proofs.Items.{asks_alone}
 use Rattle.serve_channels.proofs.server.Server.obey_next.Goals as goal
 

@@ -1,7 +1,7 @@
 use Rattle.std.proofs.Common.{Ok, Err, ap}
 use Rattle.std.specs.Prelude.{OnOk, Result, is_some}
 use Rattle.desk_jobs.specs.declared.stopped.Stopped.{Stopped}
-use Rattle.sim_channels.specs.Answering.{IsWhole}
+use Rattle.desk_jobs.specs.Tending.{IsWhole}
 use Rattle.sim_channels.specs.Passes.{Attends}
 use Rattle.sim_channels.specs.declared.driver.Driver.{Driver}
 use Rattle.sim_channels.proofs.Tended.{worked_alone}

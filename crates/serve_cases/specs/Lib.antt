@@ -1,0 +1,2 @@
+-- Slow: what the slow board of the cases tells.
+pub mod Slow

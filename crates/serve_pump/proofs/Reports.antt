@@ -1,0 +1,38 @@
+-- The report of a run grows with its parts.
+use Rattle.std.proofs.Common.{◌≡◌, ℕ, List, [], ◌∷◌, ◌++◌, append-nil, append_assoc, sym, ap, ◌∙◌}
+use Rattle.std.specs.List.{flat_map}
+use Rattle.std.proofs.lemmas.Grind.{flat_map-append}
+use Rattle.maple_io.specs.declared.act.Act.TheVariants as acts
+use Rattle.maple_io.specs.Fronts.{IsFront}
+use Rattle.report_text.specs.Report.{spelled}
+use Rattle.machine_steps.specs.Histories.{Turn, report_of, said}
+use Rattle.serve_steps.specs.Deeds.{Past, turn_in, turns_of}
+use Rattle.serve_steps.specs.Deeds.Deed.{Does}
+use Rattle.serve_steps.specs.Parts.{Part, deeds_of}
+use Rattle.serve_steps.specs.Runs.{IsWrittenButLast, report}
+use Rattle.serve_channels.proofs.Stretching.{gathered_then}
+
+pub front_then : (a b c : List ℕ) → IsFront a b → IsFront b c → IsFront a c
+front_then a b c h k = (h.0 ++ k.0, sym (append_assoc a h.0 k.0) ∙ ap (λ (xs : List ℕ). xs ++ k.0) h.1 ∙ k.1)
+
+-- what was done behind adds its lines
+report_behind : (past more : Past) → report (more ++ past) ≡ report past ++ flat_map spelled (report_of (turns_of more))
+report_behind past more =
+    ap (λ (ts : List Turn). flat_map spelled (report_of ts)) (gathered_then turn_in past more)
+    ∙ ap (flat_map spelled) (flat_map-append (λ (t : Turn). said t.before t.entry t.behind) (turns_of past) (turns_of more))
+    ∙ flat_map-append spelled (report_of (turns_of past)) (report_of (turns_of more))
+
+-- that of the parts ahead stands at its front
+pub report_grows : (first : Past) (ahead : List Part) (p : Part) → IsFront (report (deeds_of first ahead)) (report (deeds_of first (p ∷ ahead)))
+report_grows first ahead p =
+    let past = deeds_of first ahead in
+    let turned = Does (acts.Gives p.given p.bytes) ∷ past in
+    let later = flat_map spelled (report_of (turns_of p.done)) in
+    let same : report past ≡ report turned = ap (λ (ts : List Turn). flat_map spelled (report_of ts)) (sym (append-nil (turns_of past))) in
+    (later, ap (λ (text : List ℕ). text ++ later) same ∙ sym (report_behind turned p.done))
+
+-- where the whole report was written, and maybe more
+pub written_behind : (first : Past) (parts : List Part) (more text : List ℕ) → report (deeds_of first parts) ++ more ≡ text → IsWrittenButLast first parts text
+written_behind first [] more text e = tt
+written_behind first (p ∷ ahead) more text e =
+    front_then (report (deeds_of first ahead)) (report (deeds_of first (p ∷ ahead))) text (report_grows first ahead p) (more, e)

@@ -1,0 +1,163 @@
+// Gates that hold packets up until others come.
+use crate::running::{boot, heard, quit, run};
+use maple_io::MemTurn;
+use packet_workers::Gate;
+use serve_steps::ServeEnd;
+use std::alloc::{AllocError, Global};
+use std::sync::atomic::{AtomicBool, AtomicU32, Ordering};
+use std::test::Fail;
+use std::thread;
+
+// How often a thread looks whether what it waits for is there.
+const TRIES: u32 = 500_000_000;
+
+const SSH: &str = "policy { if pkt.tp_dst is 22 { drop; } out 2; }\n";
+
+// Whether the first packet's work began, whether that of the second is over, and whether one of them waited in vain.
+#[derive(Drop)]
+struct Crossed {
+    first_came: AtomicBool,
+    second_went: AtomicBool,
+    is_late: AtomicBool,
+}
+
+impl Crossed {
+    fn new() -> Crossed {
+        Crossed {
+            first_came: AtomicBool::new(false),
+            second_went: AtomicBool::new(false),
+            is_late: AtomicBool::new(false),
+        }
+    }
+
+    fn wait_for(&self, flag: &AtomicBool) {
+        if !comes(flag) {
+            self.is_late.store(true, Ordering::SeqCst);
+        }
+    }
+
+    fn met(&self) -> bool {
+        !self.is_late.load(Ordering::SeqCst)
+    }
+}
+
+// Whether it is set, within so many tries.
+fn comes(flag: &AtomicBool) -> bool {
+    for _ in 0..TRIES {
+        if flag.load(Ordering::SeqCst) {
+            return true;
+        }
+        thread::yield_now();
+    }
+    false
+}
+
+impl Gate for Crossed {
+    fn before(&self, job: u64) {
+        match job {
+            1 => {
+                self.first_came.store(true, Ordering::SeqCst);
+                self.wait_for(&self.second_went);
+            }
+            2 => self.wait_for(&self.first_came),
+            _ => {}
+        }
+    }
+
+    fn after(&self, job: u64, _asked: u32) {
+        if job == 2 {
+            self.second_went.store(true, Ordering::SeqCst);
+        }
+    }
+}
+
+// A packet of 54 bytes that came in by port 1, to this TCP port.
+fn packet(alloc: Global, turns: &mut Vec<MemTurn>, tcp_port: u8) -> Result<(), AllocError> {
+    let mut bytes = Vec::from_slice(
+        alloc,
+        b"\x01\x0a\x00\x48\x00\x00\x00\x00\xff\xff\xff\xff\x00\x36\x00\x01\x00\x00",
+    )?;
+    bytes.extend_from_slice(b"\x00\x00\x00\x00\x00\x00\x00\x00\x00\x00\x00\x00\x08\x00")?;
+    bytes.extend_from_slice(b"\x45\x00\x00\x28\x00\x00\x00\x00\x40\x06\x00\x00")?;
+    bytes.extend_from_slice(b"\x00\x00\x00\x00\x00\x00\x00\x00\x00\x00\x00")?;
+    bytes.push(tcp_port)?;
+    bytes.extend_from_slice(b"\x00\x00\x00\x00\x00\x00\x00\x00\x50")?;
+    bytes.extend_from_slice(b"\x00\x00\x00\x00\x00\x00\x00")?;
+    heard(alloc, turns, &bytes)
+}
+
+fn two_packets(alloc: Global) -> Result<Vec<MemTurn>, AllocError> {
+    let mut turns = Vec::new(alloc);
+    boot(alloc, &mut turns)?;
+    packet(alloc, &mut turns, 80)?;
+    packet(alloc, &mut turns, 22)?;
+    quit(alloc, &mut turns)?;
+    Ok(turns)
+}
+
+// Two packets hold each other: no thread could work them one behind the other. What is sent: 108 bytes until the switch is
+// ready; the second packet's rule of 72, and a barrier of 8; the first packet of 78.
+#[test]
+fn two_packets_that_hold_each_other(rt: HostRuntime) -> Result<(), Fail> {
+    let alloc = rt.alloc();
+    let wanted =
+        "open c1\nstate 1 pruned 0\nready c1 s1\nanswer s1 1 drop learned\nanswer s1 1 out 2 learned\n";
+    for turn in 0..200 {
+        let gate = Crossed::new();
+        let Some(came) = run(&rt, alloc, SSH, 2, two_packets(alloc)?, &gate)? else {
+            return Err(Fail::from("a run"));
+        };
+        assert!(rt; gate.met(), "run {turn}");
+        assert_eq!(&rt; came.end, ServeEnd::Done);
+        assert_eq!(&rt; came.text(), wanted);
+        assert_eq!(&rt; came.sent(alloc)?.len(), 266);
+    }
+    Ok(())
+}
+
+// Counts the packets that were worked.
+#[derive(Drop)]
+struct Counts {
+    before: AtomicU32,
+    after: AtomicU32,
+}
+
+impl Counts {
+    fn new() -> Counts {
+        Counts {
+            before: AtomicU32::new(0),
+            after: AtomicU32::new(0),
+        }
+    }
+
+    // Whether it was told of so many, ahead and behind.
+    fn are(&self, packets: u32) -> bool {
+        self.before.load(Ordering::SeqCst) == packets
+            && self.after.load(Ordering::SeqCst) == packets
+    }
+}
+
+impl Gate for Counts {
+    fn before(&self, _job: u64) {
+        self.before.fetch_add(1, Ordering::SeqCst);
+    }
+
+    fn after(&self, _job: u64, _asked: u32) {
+        self.after.fetch_add(1, Ordering::SeqCst);
+    }
+}
+
+// Whoever works a packet, the gate is told of it.
+#[test]
+fn the_gate_is_told_of_each_packet(rt: HostRuntime) -> Result<(), Fail> {
+    let alloc = rt.alloc();
+    for workers in [0, 3] {
+        let gate = Counts::new();
+        let Some(came) = run(&rt, alloc, SSH, workers, two_packets(alloc)?, &gate)? else {
+            return Err(Fail::from("a run"));
+        };
+        assert_eq!(&rt; came.end, ServeEnd::Done);
+        assert!(&rt; gate.are(2));
+    }
+    Ok(())
+}
