@@ -1,6 +1,9 @@
 // What holds of all runs.
-ghost use Rattle.serve_steps.specs.Laws.{AllowedAreOthers, AreFronts, EachAsksOnce, EndedIsGiven, EndedStays, FrontStays, GoesOnFrom, HeardIsCut, LastAsks, LinesGoOn, LogGoesOn, NeverSends, NoneHeardBehindEnd, OthersAreFree, RenewsAlike, ReportIsTold, StatesAreTold, TurnsGoOn, WorldsAreRight};
-ghost use Rattle.serve_steps.specs.Laws.{OthersStandLast, OthersStayAtRest, OthersStayInBrokenOff, OthersStayInCut, OthersStayInEnd, OthersStayInLastAsked, OthersStayInParts, OthersStayInScript, OthersTakeNothing, OthersTellNothing};
+ghost use Rattle.serve_steps.specs.Laws.{AllowedAreOthers, AreFronts, EachAsksOnce, EndedIsGiven, EndedStays, FrontStays, GoesOnFrom, HeardIsCut, LastAsks};
+ghost use Rattle.serve_steps.specs.Laws.{LinesGoOn, LogGoesOn, NeverSends, NoneHeardBehindEnd, OthersAreFree, RenewsAlike};
+ghost use Rattle.serve_steps.specs.Laws.{ReportIsTold, StatesAreTold, TurnsGoOn, WorldsAreRight};
+ghost use Rattle.serve_steps.specs.Laws.{OthersStandLast, OthersStayAtRest, OthersStayInBrokenOff, OthersStayInCut, OthersStayInEnd};
+ghost use Rattle.serve_steps.specs.Laws.{OthersStayInLastAsked, OthersStayInParts, OthersStayInScript, OthersTakeNothing, OthersTellNothing};
 ghost use Rattle.serve_steps.specs.Laws.{TakenStaysInCut, TakenStaysInEnd, TakenStaysInLastAsked};
 
 use board_lines::{control_laws, kept_laws};

@@ -58,13 +58,6 @@ module _ (old : Driver) (desk : DeskView) (c d : Crew) (is : old.crew ≡ Some c
   sights : (R : ℕ → Sight → Sight → Type 0) → R (places c.jobs.now) (sight old.desk c) (sight desk d) → Beside R old Later
   sights R r = subst (λ (o : Option Crew). BySights R old.desk desk o (Some d)) (sym is) r
 
-  pub handed_by : TendingIsAllowed → (item : Waiting) (handed : Handed) → IsInHand handed → HandsOver handed item (places c.jobs.now) (sight old.desk c) (sight desk d) → Attends item old Later
-  handed_by allowed item handed in_hand h = record {
-    tends = tends (allowed.hands handed item (places c.jobs.now) (sight old.desk c) (sight desk d) h);
-    answers = λ none. absurd (beside none);
-    hands = sights (λ n s t. (handed : Handed) × HandsOver handed item n s t × IsInHand handed) (handed, h, in_hand);
-  }
-
   module _ (laws : DrivingLaws) (allowed : TendingIsAllowed) (kept : IsKept old) where
     sound : Meanwhile old.desk desk → IsSound desk.now
     sound meanwhile = reached_sound laws desk.now (tends_kept laws old Later kept (tends meanwhile)).reached

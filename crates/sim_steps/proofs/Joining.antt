@@ -70,14 +70,6 @@ carried_behind xs s a b c h k =
 pub stretch_between : (xs : List Event) (s : List ℕ) (a b c d : Bench) → a ≡ c → b ≡ d → Stretch xs s a b → Stretch xs s c d
 stretch_between xs s a b c d e f h = subst (λ (x : Bench). Stretch xs s x d) e (subst (λ (y : Bench). Stretch xs s a y) f h)
 
--- ---- one entry was asked for
-
-pub asked_ahead : (entry : Entry) (a b c : Bench) → Carried a b → Asked entry b c → Asked entry a c
-asked_ahead entry a b c h k = record { event = k.event; stretch = carried_ahead (k.event ∷ []) [] a b c h k.stretch; reply = k.reply; deed = k.deed }
-
-pub asked_behind : (entry : Entry) (a b c : Bench) → Asked entry a b → Carried b c → Asked entry a c
-asked_behind entry a b c h k = record { event = h.event; stretch = carried_behind (h.event ∷ []) [] a b c h.stretch k; reply = h.reply; deed = h.deed }
-
 -- ---- orders
 
 pub obeyed : (o : Order) (xs : List Event) (a b : Bench) → Stretch xs [] a b → Obeys o a xs → IsCalm b → (IsSolo b.machine → IsStill b) → Obeyed o a b

@@ -113,9 +113,6 @@ module _ (entry : Entry) (reply : Reply) (a b : Bench) where
   pub stretch_entry : asks entry ≡ true → IsDrained (entered entry reply a b) → lacks_memory reply ≡ false → EntersAt entry reply a b → Stretch (entered entry reply a b ∷ []) [] a b
   stretch_entry asked drained memory h = fine_asked Entering asked drained refl (plain_fine (asks_plain entry asked) memory h)
 
-  pub asked_entry : asks entry ≡ true → IsDrained (entered entry reply a b) → lacks_memory reply ≡ false → EntersAt entry reply a b → Asked entry a b
-  asked_entry asked drained memory h = record { event = Entering; stretch = stretch_entry asked drained memory h; reply = reply; deed = refl }
-
 heard_no_fault : (c : ℕ) (input : Input) (reply : Reply) → IsFault (Enters (entries.Heard c input) reply) → ⊥
 heard_no_fault c input reply (d, told, e) = cc
 
