@@ -2,7 +2,7 @@
 use Rattle.std.proofs.Common.{◌≡◌, ℕ, ◌==◌, Bool, true, false, ◌&&◌, ◌||◌, not, List, [], ◌∷◌, ◌++◌, append-nil, append_assoc, refl, sym, ap, ◌∙◌, subst}
 use Rattle.std.proofs.Math.Bool.{or-false, or-true}
 use Rattle.std.specs.List.{list_all}
-use Rattle.std.proofs.lemmas.Bool.{and_parts}
+use Rattle.std.proofs.lemmas.Bool.{and_parts, or_left}
 use Rattle.std.proofs.lemmas.Grind.{flat_map-append}
 use Rattle.std.proofs.lemmas.List.Folds.{list_any-append, list_all-append}
 use Rattle.maple_io.specs.declared.act.Act.{Act}
@@ -140,23 +140,38 @@ alike_of c old new h same failed closed = record {
   opened = λ was. h.opened ∙ was;
 }
 
--- ---- a connection is closed
+-- ---- an act that does nothing with a connection, but that bytes may come, or that it may be opened
 
-closing_other : (c d : ℕ) (log : List Act) → (d == c) ≡ false → was_closed c (log ++ acts.Closes d ∷ []) ≡ was_closed c log
-closing_other c d log e = list_any-append (is_closing c) log (acts.Closes d ∷ []) ∙ ap (λ (b : Bool). was_closed c log || (b || false)) e ∙ or-false (was_closed c log)
+none_closed : (c : ℕ) (act : Act) (log : List Act) → is_closing c act ≡ false → was_closed c (log ++ act ∷ []) ≡ was_closed c log
+none_closed c act log e = list_any-append (is_closing c) log (act ∷ []) ∙ ap (λ (b : Bool). was_closed c log || (b || false)) e ∙ or-false (was_closed c log)
+
+none_sent : (c : ℕ) (act : Act) (log : List Act) → sent_in c act ≡ [] → sent c (log ++ act ∷ []) ≡ sent c log
+none_sent c act log e = flat_map-append (sent_in c) log (act ∷ []) ∙ ap (λ (xs : List ℕ). sent c log ++ (xs ++ [])) e ∙ append-nil (sent c log)
+
+pub act_alike : (c : ℕ) (act : Act) (past : Past) → sent_in c act ≡ [] → has_failed c (Does act ∷ past) ≡ has_failed c past → is_closing c act ≡ false
+    → IsAlike c past (Does act ∷ past)
+act_alike c act past unsent failed unclosed = record {
+  accepted = refl;
+  over = refl;
+  cut = refl;
+  failed = failed;
+  inputs = append-nil (inputs_of c past);
+  taken = append-nil (taken_of c past);
+  sent_is = none_sent c act (acts_of past) unsent;
+  closed = none_closed c act (acts_of past) unclosed;
+  opened = λ was. list_any-append (is_opening c) (acts_of past) (act ∷ []) ∙ or_left (was_opened c (acts_of past)) (was_opened c (act ∷ [])) was;
+}
+
+-- ---- a connection is closed
 
 pub closing_own : (c : ℕ) (log : List Act) → (c == c) ≡ true → was_closed c (log ++ acts.Closes c ∷ []) ≡ true
 closing_own c log e = list_any-append (is_closing c) log (acts.Closes c ∷ []) ∙ ap (λ (b : Bool). was_closed c log || (b || false)) e ∙ or-true (was_closed c log)
-
-none_sent : (c d : ℕ) (log : List Act) → sent c (log ++ acts.Closes d ∷ []) ≡ sent c log
-none_sent c d log = flat_map-append (sent_in c) log (acts.Closes d ∷ []) ∙ append-nil (sent c log)
 
 pub closing_stays : (c d : ℕ) (past : Past) → Stays c past (Does (acts.Closes d) ∷ past)
 closing_stays c d past = stays_one c (acts.Closes d) past refl
 
 pub closing_alike : (c d : ℕ) (past : Past) → (d == c) ≡ false → IsAlike c past (Does (acts.Closes d) ∷ past)
-closing_alike c d past e =
-    alike_of c past (Does (acts.Closes d) ∷ past) (closing_stays c d past) (none_sent c d (acts_of past)) refl (closing_other c d (acts_of past) e)
+closing_alike c d past e = act_alike c (acts.Closes d) past refl refl e
 
 -- ---- the log
 

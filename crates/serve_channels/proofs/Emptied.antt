@@ -27,9 +27,10 @@ use Rattle.serve_channels.specs.Keeping.{IsServing}
 use Rattle.serve_channels.specs.Servers.{number_of}
 use Rattle.serve_channels.specs.Serving.{ServingLaws}
 use Rattle.serve_channels.proofs.Entering.{EntersNext, ahead, enters_next, meanwhile_ahead, next_lawful, next_session}
-use Rattle.serve_channels.proofs.Kept.{set_beside, set_there, apart}
+use Rattle.serve_channels.proofs.Kept.{set_beside, set_there}
 use Rattle.serve_channels.proofs.Others.{IsLawful, meanwhile_lawful, some_at}
 use Rattle.serve_channels.proofs.TakenOut.{with_more}
+use Rattle.serve_channels.proofs.Sorted.{apart}
 
 -- a session that is there behind an entry, and what became of it
 record IsThere (c d : ℕ) (s : Session) (b : DeskView) : Type 0 where
@@ -113,7 +114,7 @@ module _ (laws : ServingLaws) {log : List Act} {at : ℕ} {a b : Server} (servin
       → messages_for (number_of k) a.desk.now ≡ [] → messages_for (number_of k) b.desk.now ≡ []
   others_behind n k other there live empty =
       others_wait laws mid b.desk c takes.bytes mid_law next (number_of k)
-      (ne_eqb c (number_of k) (λ e. apart a.connections.items serving.kept.distinct at n takes.connection k takes.there there other (sym e))) (plugged n k there live)
+      (ne_eqb c (number_of k) (λ e. apart a.connections.items serving.kept.sorted at n takes.connection k takes.there there other (sym e))) (plugged n k there live)
       ∙ ap (messages_for (number_of k)) same_now ∙ empty
 
   -- and then sent

@@ -1,6 +1,6 @@
 -- An entry of the server with what others did ahead of it, in a call under way: about a connection, about a new one, or about none.
 use Rattle.std.proofs.Common.{◌≡◌, ℕ, true, false, not, ◌&&◌, List, [], ◌∷◌, ◌++◌, set, Option, Some, None, refl, ap, subst}
-use Rattle.std.specs.List.{slice_get}
+use Rattle.std.specs.List.{insert, slice_get}
 use Rattle.maple_io.specs.declared.act.Act.{Act}
 use Rattle.machine_steps.specs.declared.entry.Entry.{Entry}
 use Rattle.machine_steps.specs.declared.entry.Entry.TheVariants as entries
@@ -18,13 +18,14 @@ use Rattle.serve_steps.specs.Parts.{Given, ends_due, entry_if, hears_open, keeps
 use Rattle.serve_channels.specs.declared.connection.Connection.{Connection}
 use Rattle.serve_channels.specs.declared.server.Server.{Server}
 use Rattle.serve_channels.specs.Keeping.{Agrees}
-use Rattle.serve_channels.specs.Servers.{IsSame, IsUnknown, WorksAlone, number_of}
+use Rattle.serve_channels.specs.Servers.{IsGap, IsSame, IsUnknown, WorksAlone, number_of}
 use Rattle.serve_channels.specs.Serving.{ServingLaws}
 use Rattle.serve_channels.proofs.Alike.{Spares, is_about, spares_another}
 use Rattle.serve_channels.proofs.Entering.{EntersNext, IsUnderWay, ahead, at_desk, beside_at, enters_next, goes_beside, goes_next, meanwhile_ahead, next_another, next_spared, next_told, owes_next}
-use Rattle.serve_channels.proofs.Kept.{IsKeptBut, IsLeft, IsTold, alone_back, kept_at, kept_new, kept_same, pushed_number, pushed_unknown, set_unknown}
+use Rattle.serve_channels.proofs.Kept.{IsKeptBut, IsLeft, IsTold, alone_back, kept_at, kept_new, kept_same, set_unknown}
 use Rattle.serve_channels.proofs.Others.{DidBeside, IsLawful, meanwhile_none}
 use Rattle.serve_channels.proofs.Replies.{few_wait}
+use Rattle.serve_channels.proofs.Sorted.{inserted_number, inserted_unknown}
 use Rattle.serve_channels.proofs.Stretching.{Owes}
 
 -- ---- where it may stand
@@ -136,10 +137,10 @@ module _ (laws : ServingLaws) {g : Given} {before : List Act} {past : Past} {to 
           (let was = set_unknown a.connections.items b.connections.items at k l there set_is number c unknown in (was.0, spares_another c t (others c was.1))))
 
       -- about a new one
-      pub goes_with_new : (l : Connection) → b.connections.items ≡ a.connections.items ++ l ∷ [] → IsUnknown (number_of l) a.connections.items
+      pub goes_with_new : (at : ℕ) (l : Connection) → IsGap at (number_of l) a.connections.items → b.connections.items ≡ insert a.connections.items at l
           → ((c : ℕ) → (c ≡ number_of l → ⊥) → is_about c e ≡ false) → Agrees (Enters t ∷ (did ++ past)) l → IsStaged l.inbound b.desk.now → Goes
-      goes_with_new l push_is unknown others agrees staged =
-          goes_so (kept_new ahead_now.kept told_now l push_is unknown agrees staged (λ c other. another c (others c other))) (λ c none. (
-            pushed_unknown a.connections.items b.connections.items l push_is c none,
-            spares_another c t (others c (pushed_number a.connections.items b.connections.items l push_is c none)),
+      goes_with_new at l gap insert_is others agrees staged =
+          goes_so (kept_new ahead_now.kept told_now at l gap insert_is agrees staged (λ c other. another c (others c other))) (λ c none. (
+            inserted_unknown a.connections.items b.connections.items at l gap insert_is c none,
+            spares_another c t (others c (inserted_number a.connections.items b.connections.items at l gap insert_is c none)),
           ))

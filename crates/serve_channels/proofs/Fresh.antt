@@ -1,30 +1,26 @@
 -- A server that has done nothing yet, and the board's start.
 use Rattle.std.proofs.Common.{◌≡◌, ◌≢◌, ℕ, List, [], ◌∷◌, ◌++◌, append-nil, append_assoc, refl, sym, ap, ◌∙◌, subst}
-use Rattle.std.proofs.Math.Bool.{or-false}
 use Rattle.std.specs.FinSet.{contains-empty}
 use Rattle.std.specs.List.{slice_get}
 use Rattle.std.specs.Ordering.{nat_cmp}
 use Rattle.std.specs.Prelude.{Some, is_some}
-use Rattle.std.proofs.lemmas.Bool.{or_left}
-use Rattle.std.proofs.lemmas.Grind.{flat_map-append}
-use Rattle.std.proofs.lemmas.List.Folds.{list_any-append}
 use Rattle.std.proofs.lemmas.Option.{none-some}
 use Rattle.maple_io.specs.declared.act.Act.{Act}
 use Rattle.maple_io.specs.declared.act.Act.TheVariants as acts
 use Rattle.maple_io.specs.declared.board.Started.{Started}
 use Rattle.maple_io.specs.declared.board.Started.TheVariants as started
-use Rattle.maple_io.specs.Boards.{BoardFailed, BoardView, NoBoardFailed, is_closing, is_opening, sent, sent_in, was_closed, was_opened}
+use Rattle.maple_io.specs.Boards.{BoardFailed, BoardView, NoBoardFailed}
 use Rattle.maple_io.specs.Turns.{started_acts}
 use Rattle.machine_steps.specs.Machine.{State, opening, session_at}
 use Rattle.machine_steps.specs.Machine.{was_opened as was_session}
-use Rattle.serve_steps.specs.Deeds.{Past, acts_of, inputs_of, taken_of, turns_of}
+use Rattle.serve_steps.specs.Deeds.{Past, acts_of, turns_of}
 use Rattle.serve_steps.specs.Deeds.Deed.{Does}
 use Rattle.serve_steps.specs.Parts.{Given}
 use Rattle.serve_channels.specs.declared.connection.Connection.{Connection}
 use Rattle.serve_channels.specs.declared.server.Server.{Server}
 use Rattle.serve_channels.specs.Keeping.{IsKept}
 use Rattle.serve_channels.specs.Starting.{FreshIsKept, IsFresh, Starts, StartsBy, started_deeds}
-use Rattle.serve_channels.proofs.Alike.{IsAlike}
+use Rattle.serve_channels.proofs.Acts.{act_alike}
 use Rattle.serve_channels.proofs.Kept.{IsLeft, IsTold, kept_but, kept_same, kept_whole, same_self}
 
 -- ---- nothing was done
@@ -41,7 +37,7 @@ module _ (g : Given) (log : List Act) (s : Server) (h : IsFresh s) (opens : s.de
     start = opens;
     turns = h.none;
     acts = sym (append-nil log);
-    distinct = λ i j c a b. absurd (none_there i a.connection a.there);
+    sorted = λ i j c d up a b. absurd (none_there i a.connection a.there);
     agree = λ at k there. absurd (none_there at k there);
     forgotten = λ c unknown. record { shut = refl; closed = refl };
     unused = λ c none. (
@@ -74,21 +70,8 @@ module _ (g : Given) (before : List Act) (past : Past) (listen control : ℕ) (o
   abbrev start : Act
   start = acts.Starts listen control
 
-  start_alike : (c : ℕ) → IsAlike c past (Does start ∷ past)
-  start_alike c = record {
-    accepted = refl;
-    over = refl;
-    cut = refl;
-    failed = refl;
-    inputs = append-nil (inputs_of c past);
-    taken = append-nil (taken_of c past);
-    sent_is = flat_map-append (sent_in c) (acts_of past) (start ∷ []) ∙ append-nil (sent c (acts_of past));
-    closed = list_any-append (is_closing c) (acts_of past) (start ∷ []) ∙ or-false (was_closed c (acts_of past));
-    opened = λ was. list_any-append (is_opening c) (acts_of past) (start ∷ []) ∙ or_left (was_opened c (acts_of past)) (was_opened c (start ∷ [])) was;
-  }
-
   start_left : (c : ℕ) → IsLeft past (Does start ∷ past) s s c
-  start_left c = record { alike = start_alike c; bytes = λ known. refl; session = record { live = refl; opened = refl } }
+  start_left c = record { alike = act_alike c start past refl refl refl; bytes = λ known. refl; session = record { live = refl; opened = refl } }
 
   start_told : new ≡ old ++ start ∷ [] → IsTold before (Does start ∷ past) new s s
   start_told log_is = record {

@@ -16,7 +16,7 @@ use Rattle.serve_channels.specs.declared.server.Server.{Server}
 use Rattle.serve_channels.specs.Hearing.{Hears, HearsWhile, UpTo}
 use Rattle.serve_channels.specs.Keeping.{Agrees, Goes, ServesSome}
 use Rattle.serve_channels.specs.Passing.{HearsAt, HearsSome}
-use Rattle.serve_channels.specs.Servers.{IsAt, IsSame, IsUnknown, SameNumbers, number_of}
+use Rattle.serve_channels.specs.Servers.{IsAt, IsMissing, IsSame, SameNumbers, number_of}
 use Rattle.serve_channels.proofs.Kept.{same_then, same_self}
 use Rattle.serve_channels.proofs.Numbered.{numbers_then, stay_known, numbers_same}
 use Rattle.serve_channels.proofs.Rounds.{serving_on}
@@ -191,6 +191,6 @@ module _ (c at : ℕ) (k : Came) (old now new : Server) (h : HearsOn c at old no
   on_last other log = goes_so (λ past. Unit {0}) (HearsSome c k) (Hears c Nothing) old new log log (hears_all c k other) (goes_now log)
 
 -- of a number that isn't there
-pub heard_unknown : (c : ℕ) (s : Server) → IsUnknown c s.connections.items → (log : List Act) → Goes (Hears c Nothing) s log s log
-heard_unknown c s unknown log g before past kept pre =
-    went_nowhere g before (Hears c Nothing past) past log s (subst (λ b. HearsWhile b c Nothing past [] []) (sym (kept.forgotten c unknown).shut) refl) kept
+pub heard_missing : (c : ℕ) (s : Server) → IsMissing c s.connections.items → (log : List Act) → Goes (Hears c Nothing) s log s log
+heard_missing c s missing log g before past kept pre =
+    went_nowhere g before (Hears c Nothing past) past log s (subst (λ b. HearsWhile b c Nothing past [] []) (sym (kept.forgotten c (missing kept.sorted)).shut) refl) kept

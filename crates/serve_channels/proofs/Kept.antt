@@ -1,7 +1,7 @@
 -- What a server keeps, from before to behind: where nothing is done with any connection, with all but one, or with all but a new one.
-use Rattle.std.proofs.Common.{◌≡◌, ◌⊎◌, ℕ, zero, suc, true, false, List, [], ◌∷◌, ◌++◌, length, set, refl, sym, ap, ◌∙◌, subst, inl, inr, ⊎_elim}
+use Rattle.std.proofs.Common.{◌≡◌, ◌⊎◌, ℕ, zero, suc, true, false, List, [], ◌∷◌, ◌++◌, set, refl, sym, ap, ◌∙◌, subst, inl, inr, ⊎_elim}
 use Rattle.std.specs.Prelude.{IfSome, Option, Some, None, is_some}
-use Rattle.std.specs.List.{slice_get}
+use Rattle.std.specs.List.{insert, slice_get}
 use Rattle.std.proofs.lemmas.Bool.{cases_Bool, cases_eq}
 use Rattle.std.proofs.lemmas.Option.{none-some, same_Some}
 use Rattle.maple_base.specs.declared.decision.Settings.{Settings}
@@ -19,8 +19,9 @@ use Rattle.serve_steps.specs.Parts.{Given}
 use Rattle.serve_channels.specs.declared.connection.Connection.{Connection}
 use Rattle.serve_channels.specs.declared.server.Server.{Server}
 use Rattle.serve_channels.specs.Keeping.{Agrees, IsForgotten, IsKept, IsUnused}
-use Rattle.serve_channels.specs.Servers.{AreDistinct, AreSessions, IsAt, IsKnown, IsSame, IsUnknown, WorksAlone, number_of}
+use Rattle.serve_channels.specs.Servers.{AreSessions, AreSorted, IsAt, IsGap, IsKnown, IsSame, IsUnknown, WorksAlone, number_of}
 use Rattle.serve_channels.proofs.Alike.{IsAlike, agrees_alike, forgotten_alike, unused_alike}
+use Rattle.serve_channels.proofs.Sorted.{apart, at_there, inserted_from, inserted_number, inserted_unknown, none_at, sorted_insert}
 
 -- ---- all but that no packet waits
 
@@ -28,7 +29,7 @@ pub record IsKeptBut (g : Given) (before : List Act) (past : Past) (log : List A
   pub start : s.desk.footing.start ≡ opening g.policy g.settings
   pub turns : s.desk.past ≡ turns_of past
   pub acts : log ≡ before ++ acts_of past
-  pub distinct : AreDistinct s.connections.items
+  pub sorted : AreSorted s.connections.items
   pub agree : (at : ℕ) (k : Connection) → slice_get s.connections.items at ≡ Some k → Agrees past k
   pub forgotten : (c : ℕ) → IsUnknown c s.connections.items → IsForgotten c past
   pub unused : (c : ℕ) → was_opened c (acts_of past) ≡ false → IsUnused c past × (was_session c s.desk.now ≡ false)
@@ -40,7 +41,7 @@ kept_but h = record {
   start = h.start;
   turns = h.turns;
   acts = h.acts;
-  distinct = h.distinct;
+  sorted = h.sorted;
   agree = h.agree;
   forgotten = h.forgotten;
   unused = h.unused;
@@ -54,7 +55,7 @@ kept_whole h jobs = record {
   start = h.start;
   turns = h.turns;
   acts = h.acts;
-  distinct = h.distinct;
+  sorted = h.sorted;
   agree = h.agree;
   forgotten = h.forgotten;
   unused = h.unused;
@@ -123,20 +124,12 @@ crew_on a b h settings may = record {
 
 -- ---- connections
 
-pub at_there : (at : ℕ) (k : Connection) (ks : List Connection) → slice_get ks at ≡ Some k → IsAt at (number_of k) ks
-at_there at k ks there = record { connection = k; there = there; number = refl }
-
 pub number_there : (at c : ℕ) (k : Connection) (ks : List Connection) → slice_get ks at ≡ Some k → IsAt at c ks → number_of k ≡ c
 number_there at c k ks there is = ap number_of (same_Some k is.connection (sym there ∙ is.there)) ∙ is.number
 
 -- an unknown number isn't that of one that is there
 pub not_there : (at c : ℕ) (k : Connection) (ks : List Connection) → slice_get ks at ≡ Some k → IsUnknown c ks → number_of k ≡ c → ⊥
 not_there at c k ks there unknown e = unknown (at, record { connection = k; there = there; number = e })
-
--- any other has another number
-pub apart : (ks : List Connection) → AreDistinct ks → (at n : ℕ) (k x : Connection) → slice_get ks at ≡ Some k → slice_get ks n ≡ Some x → (n ≡ at → ⊥)
-    → number_of x ≡ number_of k → ⊥
-apart ks distinct at n k x there is other same = other (distinct n at (number_of k) (record { connection = x; there = is; number = same }) (at_there at k ks there))
 
 -- ---- lists
 
@@ -151,22 +144,6 @@ set_beside (z ∷ zs) zero zero y other = absurd (other refl)
 set_beside (z ∷ zs) zero (suc n) y other = refl
 set_beside (z ∷ zs) (suc at) zero y other = refl
 set_beside (z ∷ zs) (suc at) (suc n) y other = set_beside zs at n y (λ e. other (ap suc e))
-
-pushed_still : {X : Type 0} (xs : List X) (y : X) (n : ℕ) (x : X) → slice_get xs n ≡ Some x → slice_get (xs ++ y ∷ []) n ≡ Some x
-pushed_still [] y n x e = absurd (none-some x e)
-pushed_still (z ∷ zs) y zero x e = e
-pushed_still (z ∷ zs) y (suc n) x e = pushed_still zs y n x e
-
-pushed_end : {X : Type 0} (xs : List X) (y : X) → slice_get (xs ++ y ∷ []) (length xs) ≡ Some y
-pushed_end [] y = refl
-pushed_end (z ∷ zs) y = pushed_end zs y
-
-pushed_at : {X : Type 0} (xs : List X) (y : X) (n : ℕ) (x : X) → slice_get (xs ++ y ∷ []) n ≡ Some x
-    → (slice_get xs n ≡ Some x) ⊎ ((n ≡ length xs) × (y ≡ x))
-pushed_at [] y zero x e = inr (refl, same_Some y x e)
-pushed_at [] y (suc n) x e = absurd (none-some x e)
-pushed_at (z ∷ zs) y zero x e = inl e
-pushed_at (z ∷ zs) y (suc n) x e = ⊎_elim (λ was. inl was) (λ new. inr (ap suc new.0, new.1)) (pushed_at zs y n x e)
 
 swapped : {A B : Type 0} → A ⊎ B → B ⊎ A
 swapped (inl a) = inr a
@@ -207,21 +184,6 @@ pub set_unknown : (ks ls : List Connection) (at : ℕ) (k l : Connection) → sl
 set_unknown ks ls at k l there set_is number c unknown =
     let was : IsUnknown c ks = λ known. unknown (known.0, (set_numbers ks ls at k l there set_is number known.0 c).0 known.1) in
     (was, λ e. not_there at c k ks there was (sym e))
-
--- a number that isn't there behind a new connection wasn't there, and isn't that one's
-pub pushed_unknown : (ks ls : List Connection) (l : Connection) → ls ≡ ks ++ l ∷ [] → (c : ℕ) → IsUnknown c ls → IsUnknown c ks
-pushed_unknown ks ls l e c none known =
-    none (
-      known.0,
-      record {
-        connection = known.1.connection;
-        there = ap (λ xs. slice_get xs known.0) e ∙ pushed_still ks l known.0 known.1.connection known.1.there;
-        number = known.1.number;
-      },
-    )
-
-pub pushed_number : (ks ls : List Connection) (l : Connection) → ls ≡ ks ++ l ∷ [] → (c : ℕ) → IsUnknown c ls → c ≡ number_of l → ⊥
-pushed_number ks ls l e c none same = none (length ks, record { connection = l; there = ap (λ xs. slice_get xs (length ks)) e ∙ pushed_end ks l; number = sym same })
 
 -- ---- a session stays
 
@@ -275,7 +237,7 @@ module _ {g : Given} {before : List Act} {past after : Past} {old_log log : List
     start = start_is;
     turns = told.turns;
     acts = told.acts;
-    distinct = subst AreDistinct (sym e) kept.distinct;
+    sorted = subst AreSorted (sym e) kept.sorted;
     agree = λ at k there. agrees_left at k (left (number_of k)) (sym (ap (λ ks. slice_get ks at) e) ∙ there);
     forgotten = λ c unknown. forgotten_left c (left c) (subst (IsUnknown c) e unknown);
     unused = λ c none. unused_left c (left c) none;
@@ -311,7 +273,7 @@ module _ {g : Given} {before : List Act} {past after : Past} {old_log log : List
     gone = set_unknown a.connections.items b.connections.items at k l there set_is number
 
     other_number : (n : ℕ) (x : Connection) → (n ≡ at → ⊥) → slice_get a.connections.items n ≡ Some x → number_of x ≡ number_of k → ⊥
-    other_number n x other is = apart a.connections.items kept.distinct at n k x there is other
+    other_number n x other is = apart a.connections.items kept.sorted at n k x there is other
 
     never_this : (c : ℕ) → (c ≡ number_of k → ⊥) ⊎ (c ≡ number_of k) → was_opened c (acts_of after) ≡ false → IsLeft past after a b c
     never_this c (inl other) none = others c other
@@ -322,7 +284,7 @@ module _ {g : Given} {before : List Act} {past after : Past} {old_log log : List
       start = start_is;
       turns = told.turns;
       acts = told.acts;
-      distinct = λ i j c first second. kept.distinct i j c ((numbers i c).1 first) ((numbers j c).1 second);
+      sorted = λ i j c d up first second. kept.sorted i j c d up ((numbers i c).1 first) ((numbers j d).1 second);
       agree = by_place (Agrees after) here (λ n x other is. agrees_left n x (others (number_of x) (other_number n x other is)) is);
       forgotten = λ c unknown. forgotten_left c (others c (gone c unknown).1) (gone c unknown).0;
       unused = λ c none. unused_left c (never_this c (swapped (cases_eq c (number_of k))) none) none;
@@ -335,38 +297,21 @@ module _ {g : Given} {before : List Act} {past after : Past} {old_log log : List
 
   -- ---- a new one is there, with which nothing was done before
 
-  module _ (l : Connection) (push_is : b.connections.items ≡ a.connections.items ++ l ∷ []) (unknown : IsUnknown (number_of l) a.connections.items)
+  module _ (at : ℕ) (l : Connection) (gap : IsGap at (number_of l) a.connections.items) (insert_is : b.connections.items ≡ insert a.connections.items at l)
       (here : Agrees after l) (staged : IsStaged l.inbound b.desk.now) (others : (c : ℕ) → (c ≡ number_of l → ⊥) → IsLeft past after a b c) where
-    by_end : (P : Connection → Type 0) → P l → ((n : ℕ) (x : Connection) → slice_get a.connections.items n ≡ Some x → P x)
+    by_either : (P : Connection → Type 0) → P l → ((n : ℕ) (x : Connection) → slice_get a.connections.items n ≡ Some x → P x)
         → (n : ℕ) (x : Connection) → slice_get b.connections.items n ≡ Some x → P x
-    by_end P this that n x e =
-        ⊎_elim (λ is. that n x is) (λ is. subst P is.1 this) (pushed_at a.connections.items l n x (sym (ap (λ ks. slice_get ks n) push_is) ∙ e))
-
-    -- one that is there was there, or is the new one
-    at_either : (n c : ℕ) → IsAt n c b.connections.items → IsAt n c a.connections.items ⊎ ((n ≡ length a.connections.items) × (c ≡ number_of l))
-    at_either n c is =
-        ⊎_elim
-        (λ was. inl (record { connection = is.connection; there = was; number = is.number })) (λ new. inr (new.0, sym is.number ∙ ap number_of (sym new.1)))
-        (pushed_at a.connections.items l n is.connection (sym (ap (λ ks. slice_get ks n) push_is) ∙ is.there))
-
-    are_distinct : AreDistinct b.connections.items
-    are_distinct i j c first second = by (at_either i c first) (at_either j c second)
-      where
-        by : IsAt i c a.connections.items ⊎ ((i ≡ length a.connections.items) × (c ≡ number_of l))
-            → IsAt j c a.connections.items ⊎ ((j ≡ length a.connections.items) × (c ≡ number_of l)) → i ≡ j
-        by (inl x) (inl y) = kept.distinct i j c x y
-        by (inr x) (inr y) = x.0 ∙ sym y.0
-        by (inl x) (inr y) = absurd (unknown (i, subst (λ n. IsAt i n a.connections.items) y.1 x))
-        by (inr x) (inl y) = absurd (unknown (j, subst (λ n. IsAt j n a.connections.items) x.1 y))
+    by_either P this that n x e =
+        ⊎_elim (λ new. subst P new.1 this) (λ was. that was.from x was.there) (inserted_from a.connections.items b.connections.items at l gap insert_is n x e)
 
     was_unknown : (c : ℕ) → IsUnknown c b.connections.items → IsUnknown c a.connections.items
-    was_unknown c none = pushed_unknown a.connections.items b.connections.items l push_is c none
+    was_unknown = inserted_unknown a.connections.items b.connections.items at l gap insert_is
 
     not_new : (c : ℕ) → IsUnknown c b.connections.items → c ≡ number_of l → ⊥
-    not_new c none e = pushed_number a.connections.items b.connections.items l push_is c none e
+    not_new = inserted_number a.connections.items b.connections.items at l gap insert_is
 
     old_number : (n : ℕ) (x : Connection) → slice_get a.connections.items n ≡ Some x → number_of x ≡ number_of l → ⊥
-    old_number n x is e = unknown (n, record { connection = x; there = is; number = e })
+    old_number n x is e = none_at a.connections.items at (number_of l) gap kept.sorted (n, record { connection = x; there = is; number = e })
 
     never_new : (c : ℕ) → (c ≡ number_of l → ⊥) ⊎ (c ≡ number_of l) → was_opened c (acts_of after) ≡ false → IsLeft past after a b c
     never_new c (inl other) none = others c other
@@ -377,12 +322,12 @@ module _ {g : Given} {before : List Act} {past after : Past} {old_log log : List
       start = start_is;
       turns = told.turns;
       acts = told.acts;
-      distinct = are_distinct;
-      agree = by_end (Agrees after) here (λ n x is. agrees_left n x (others (number_of x) (old_number n x is)) is);
+      sorted = sorted_insert a.connections.items b.connections.items at l gap insert_is kept.sorted;
+      agree = by_either (Agrees after) here (λ n x is. agrees_left n x (others (number_of x) (old_number n x is)) is);
       forgotten = λ c none. forgotten_left c (others c (not_new c none)) (was_unknown c none);
       unused = λ c none. unused_left c (never_new c (swapped (cases_eq c (number_of l))) none) none;
       sessions = record {
-        staged = by_end (λ x. IsStaged x.inbound b.desk.now) staged (λ n x is. staged_left n x (others (number_of x) (old_number n x is)) is);
+        staged = by_either (λ x. IsStaged x.inbound b.desk.now) staged (λ n x is. staged_left n x (others (number_of x) (old_number n x is)) is);
         alone = λ c none. alone_left c (others c (not_new c none)) (was_unknown c none);
       };
       crew = crew_on a b told.same told.settings kept.crew;

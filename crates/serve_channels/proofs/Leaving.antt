@@ -24,7 +24,7 @@ use Rattle.serve_channels.specs.declared.connection.Connection.{Connection}
 use Rattle.serve_channels.specs.declared.server.Server.{Server}
 use Rattle.serve_channels.specs.Delivering.{Leaves}
 use Rattle.serve_channels.specs.Keeping.{Agrees, Are, Goes}
-use Rattle.serve_channels.specs.Servers.{IsSame, IsUnknown, WorksAlone, number_of}
+use Rattle.serve_channels.specs.Servers.{IsMissing, IsSame, WorksAlone, number_of}
 use Rattle.serve_channels.specs.Serving.{ServingLaws}
 use Rattle.serve_channels.proofs.Alike.{Spares, spares_gone}
 use Rattle.serve_channels.proofs.Entering.{EntersNext, IsUnderWay, begins, is_over_now, next_opened, next_session}
@@ -155,16 +155,16 @@ module _ {at : ℕ} {fault : Bool} {a b : Server} (h : Leaves at fault a b) wher
 
 -- ---- of a number that isn't there
 
-module _ (laws : ServingLaws) (c : ℕ) (fault : Bool) (r : Reply) (a b : Server) (law : IsLawful a.desk) (same : IsSame a b) (unknown : IsUnknown c a.connections.items)
+module _ (laws : ServingLaws) (c : ℕ) (fault : Bool) (r : Reply) (a b : Server) (law : IsLawful a.desk) (same : IsSame a b) (missing : IsMissing c a.connections.items)
     (items : b.connections.items ≡ a.connections.items) (h : EntersDesk a.desk (entries.Gone c fault) r b.desk) where
   abbrev entry : Entry
   entry = entries.Gone c fault
 
-  pub unknown_goes : (log : List Act) → Goes (Are (entry ∷ [])) a log b log
-  unknown_goes log g before past kept pre =
+  pub missing_goes : (log : List Act) → Goes (Are (entry ∷ [])) a log b log
+  missing_goes log g before past kept pre =
       let u = begins kept law in
       let v = ahead_now laws u b h in
-      let nobody = gone_none c fault h.between r b.desk.now (v.kept.sessions.alone c unknown) h.made.steps in
+      let nobody = gone_none c fault h.between r b.desk.now (v.kept.sessions.alone c (missing v.kept.sorted)) h.made.steps in
       is_over_now (Are (entry ∷ []) past) (goes_with_none laws u b h same
       (unheard a b h None (entered h.others [] ++ past) refl refl refl (gone_enough c fault h.between r b.desk.now h.made.steps)) refl items
       (λ n. subst (λ (x : Reply). Spares n (turn h.between entry x b.desk.now)) (sym nobody) (spares_gone n h.between b.desk.now c fault)) (λ n e. absurd (cc))

@@ -23,6 +23,7 @@ pub mod Rounds
 pub mod Sending
 pub mod Served
 pub mod Shutting
+pub mod Sorted
 pub mod Stretching
 pub mod TakenOut
 pub mod TakenReport

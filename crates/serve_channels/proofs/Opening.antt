@@ -1,5 +1,6 @@
 -- A session is opened.
 use Rattle.std.proofs.Common.{◌≡◌, ◌⊎◌, ℕ, ◌+◌, Bool, true, false, not, ◌&&◌, ◌||◌, ◌==◌, List, [], ◌∷◌, ◌++◌, length, None, append-nil, refl, sym, ap, ◌∙◌, subst, inl, inr}
+use Rattle.std.specs.List.{insert}
 use Rattle.std.proofs.lemmas.Bool.{eq-eqb, ne_eqb}
 use Rattle.maple_io.specs.declared.act.Act.{Act}
 use Rattle.maple_io.specs.Boards.{sent, was_closed, was_opened}
@@ -24,7 +25,7 @@ use Rattle.serve_steps.specs.Laws.{entered}
 use Rattle.serve_channels.specs.declared.connection.Connection.{Connection}
 use Rattle.serve_channels.specs.declared.server.Server.{Server}
 use Rattle.serve_channels.specs.Keeping.{Agrees, Are, GoesFrom, IsBegun}
-use Rattle.serve_channels.specs.Servers.{IsSame, IsUnknown}
+use Rattle.serve_channels.specs.Servers.{IsGap, IsSame}
 use Rattle.serve_channels.specs.Serving.{ServingLaws}
 use Rattle.serve_channels.proofs.Alike.{IsAlike, unused_alike}
 use Rattle.serve_channels.proofs.Entering.{begins, is_over_now}
@@ -105,9 +106,10 @@ begun_alike c a b h came begun = (unused_alike c a b h begun.0, h.opened begun.1
 -- ---- the call
 
 module _ (laws : ServingLaws) (a b : Server) (i j : Inbound) (q : QueueView) (law : DeskLaw a.desk) (stream : i.from.stream ≡ beginning) (number : q.number ≡ i.connection)
-    (rest : q.rest ≡ []) (whole : q.failed ≡ false) (unknown : IsUnknown i.connection a.connections.items) (unused : was_session i.connection a.desk.now ≡ false)
+    (rest : q.rest ≡ []) (whole : q.failed ≡ false) (unused : was_session i.connection a.desk.now ≡ false)
     (h : Opens a.desk i b.desk j) (staged : IsStaged j b.desk.now) (same : IsSame a b)
-    (pushed : b.connections.items ≡ a.connections.items ++ record { inbound = j; queue = q; cut = false } ∷ []) where
+    (at : ℕ) (gap : IsGap at i.connection a.connections.items)
+    (insert_is : b.connections.items ≡ insert a.connections.items at (record { inbound = j; queue = q; cut = false })) where
   abbrev entry : Entry
   entry = entries.Open i.connection
 
@@ -144,6 +146,7 @@ module _ (laws : ServingLaws) (a b : Server) (i j : Inbound) (q : QueueView) (la
   pub open_goes : (log : List Act) → GoesFrom (IsBegun i.connection) (Are (entry ∷ [])) a log b log
   open_goes log g before past kept begun =
       is_over_now (Are (entry ∷ []) past) (goes_with_new laws (begins kept (lawful law)) b enters same
-      (unheard a b enters None (did_before ++ past) refl refl refl memory) refl k pushed (subst (λ n. IsUnknown n a.connections.items) (sym number_is) unknown)
+      (unheard a b enters None (did_before ++ past) refl refl refl memory) refl at k
+      (subst (λ n. IsGap at n a.connections.items) (sym number_is) gap) insert_is
       (λ n other. ne_eqb i.connection n (λ e. other (sym e ∙ sym number_is))) (here (did_before ++ past) (begun_now past begun)) staged)
       refl (entry_jobs a b enters laws (lawful law) same refl kept.jobs)

@@ -27,9 +27,10 @@ use Rattle.serve_channels.specs.Delivering.{Empties, EmptiesAll, FewerUnfailed, 
 use Rattle.serve_channels.specs.Keeping.{Goes, IsServing}
 use Rattle.serve_channels.specs.Servers.{IsAt, SameNumbers, number_of}
 use Rattle.serve_channels.specs.Stretches.{IsAside, IsQuietly}
-use Rattle.serve_channels.proofs.Kept.{at_there, set_beside}
+use Rattle.serve_channels.proofs.Kept.{set_beside}
 use Rattle.serve_channels.proofs.Numbered.{stay_known}
 use Rattle.serve_channels.proofs.Stretching.{answer_then, goes_so, goes_then, went_nowhere}
+use Rattle.serve_channels.proofs.Sorted.{at_there}
 
 -- ---- one was served
 

@@ -34,12 +34,13 @@ use Rattle.serve_channels.specs.Stretches.{IsAside}
 use Rattle.serve_channels.proofs.Acts.{did, did_last}
 use Rattle.serve_channels.proofs.Alike.{aside_turn, spares_another}
 use Rattle.serve_channels.proofs.Entering.{IsUnderWay, ahead, is_over_now, meanwhile_ahead}
-use Rattle.serve_channels.proofs.Kept.{set_there, apart}
+use Rattle.serve_channels.proofs.Kept.{set_there}
 use Rattle.serve_channels.proofs.Leaving.{goes_gone, gone_jobs, gone_turn}
 use Rattle.serve_channels.proofs.Others.{AreOthers, IsLawful, meanwhile_others, others_aside}
 use Rattle.serve_channels.proofs.Sending.{AreGood, Requeues, aside_good, aside_one, goes_failed, goes_good, send_to}
 use Rattle.serve_channels.proofs.Stretching.{aside_nothing, went_nowhere}
 use Rattle.serve_channels.proofs.TakenOut.{ServesSoFar, serves_taken, with_more}
+use Rattle.serve_channels.proofs.Sorted.{apart}
 
 -- ---- what was done stays done
 
@@ -81,7 +82,7 @@ module _ {g : Given} {before : List Act} {past done : Past} (from to : BoardView
     under_way = goes_good so_far.under_way h to.log more log own_is number same good
 
     another : (n : ℕ) (x : Connection) → n ≢ at → slice_get d.connections.items n ≡ Some x → number_of x ≢ number_of k
-    another n x other is = apart d.connections.items under_way.kept.distinct at n (record k { queue = l }) x there_now is other
+    another n x other is = apart d.connections.items under_way.kept.sorted at n (record k { queue = l }) x there_now is other
 
     went_good : Went g before (ServesAt at d past) past to.log d
     went_good =
@@ -178,7 +179,7 @@ module _ {g : Given} {before : List Act} {past done : Past} (from to : BoardView
     number_left = ap (λ (i : Inbound). i.connection) leaves.closes.stage ∙ ap number_of is_left
 
     another_left : (n : ℕ) (x : Connection) → n ≢ at → slice_get e.connections.items n ≡ Some x → number_of x ≢ number_of k
-    another_left n x other is same = apart e.connections.items under_way_left.kept.distinct at n left x there_left is other (same ∙ sym number_left)
+    another_left n x other is same = apart e.connections.items under_way_left.kept.sorted at n left x there_left is other (same ∙ sym number_left)
 
     taken_left : list_any (takes_out (number_of k)) behind ≡ true
     taken_left =

@@ -1,12 +1,10 @@
 -- Connections whose sessions are over are closed, and forgotten.
-use Rattle.std.proofs.Common.{◌≡◌, ◌≢◌, ◌⊎◌, ℕ, ◌+◌, ◌-◌, ◌<◌, ◌==◌, ◌||◌, Bool, true, false, not, List, [], ◌∷◌, ◌++◌, length, get_or, set, append-nil, append_assoc, get_or-set_same, get_or-set_other, refl, sym, ap, ◌∙◌, subst, ⊎_elim, arith, eq-eqb}
+use Rattle.std.proofs.Common.{◌≡◌, ◌≢◌, ◌⊎◌, ℕ, ◌+◌, ◌<◌, ◌==◌, ◌||◌, Bool, true, false, not, List, [], ◌∷◌, ◌++◌, length, get_or, append-nil, append_assoc, refl, sym, ap, ◌∙◌, subst, ⊎_elim, arith, eq-eqb}
 use Rattle.std.proofs.Math.Bool.{or-true}
 use Rattle.std.specs.Prelude.{Option, Some, is_some, unwrap_or}
-use Rattle.std.specs.List.{slice_get, swap_remove}
+use Rattle.std.specs.List.{remove, slice_get}
 use Rattle.std.proofs.lemmas.Bool.{cases_eq, ne_eqb, both_ways}
 use Rattle.std.proofs.lemmas.List.Folds.{list_any-append}
-use Rattle.std.proofs.lemmas.List.{get_or-take, length-set, length-take}
-use Rattle.std.proofs.lemmas.Option.{get_or_from_slice_get, slice_get-get_or, slice_get_within}
 use Rattle.maple_io.specs.declared.act.Act.{Act}
 use Rattle.maple_io.specs.declared.act.Act.TheVariants as acts
 use Rattle.maple_io.specs.Boards.{is_opening, was_opened}
@@ -22,90 +20,14 @@ use Rattle.serve_channels.specs.declared.connection.Connection.{Connection}
 use Rattle.serve_channels.specs.declared.server.Server.{Server}
 use Rattle.serve_channels.specs.Delivering.{Closes, ClosesAt, IsOverAt, AllLive}
 use Rattle.serve_channels.specs.Keeping.{Agrees, Goes, IsForgotten, IsKept, IsServing, IsUnused}
-use Rattle.serve_channels.specs.Servers.{AreDistinct, IsUnknown, number_of}
+use Rattle.serve_channels.specs.Servers.{AreSorted, IsUnknown, number_of}
 use Rattle.serve_channels.specs.Stretches.{IsAside, IsQuietly}
 use Rattle.serve_channels.proofs.Acts.{closing_alike, closing_own, closing_stays, open_same}
 use Rattle.serve_channels.proofs.Alike.{agrees_alike, forgotten_alike, unused_alike}
-use Rattle.serve_channels.proofs.Kept.{apart}
 use Rattle.serve_channels.proofs.Numbered.{there_at}
 use Rattle.serve_channels.proofs.Sending.{stretch_act}
+use Rattle.serve_channels.proofs.Sorted.{apart, came_from, left_there, not_left, sorted_left}
 use Rattle.serve_channels.proofs.Stretching.{aside_then}
-
--- ---- one connection goes, and the last takes its place
-
--- what is at this place now was at the last place where it is the one that was left, and else here
-pub record CameFrom (at last n : ℕ) (ks : List Connection) (k : Connection) : Type 0 where
-  pub from : ℕ
-  pub there : slice_get ks from ≡ Some k
-  pub below : n < last
-  pub moved : n ≡ at → from ≡ last
-  pub stays : n ≢ at → from ≡ n
-
-long_removed : (ks : List Connection) (at : ℕ) (x : Connection) → at < length ks → length (swap_remove ks at x) + 1 ≡ length ks
-long_removed ks at x h =
-    let few = length-take (length ks - 1) (set ks at (get_or ks (length ks - 1) x)) in
-    let same = length-set ks at (get_or ks (length ks - 1) x) in
-    omega (arith, h, few, same)
-
-read_removed : (ks : List Connection) (at n : ℕ) (x d : Connection) → n < length ks - 1 → get_or (swap_remove ks at x) n d ≡ get_or (set ks at (get_or ks (length ks - 1) x)) n d
-read_removed ks at n x d h = get_or-take (length ks - 1) (set ks at (get_or ks (length ks - 1) x)) n d h
-
-last_there : (ks : List Connection) (at : ℕ) (x k : Connection) → at < length ks → get_or ks (length ks - 1) x ≡ k → slice_get ks (length ks - 1) ≡ Some k
-last_there ks at x k h e = slice_get-get_or ks (length ks - 1) x (omega (arith, h)) ∙ ap (λ (y : Connection). Some y) e
-
-pub came_from : (ks : List Connection) (at n : ℕ) (x k : Connection) → at < length ks → slice_get (swap_remove ks at x) n ≡ Some k → CameFrom at (length ks - 1) n ks k
-came_from ks at n x k h e =
-    let long = long_removed ks at x h in
-    let here = slice_get_within (swap_remove ks at x) n k e in
-    let few : n < length ks - 1 = omega (arith, h, long, here) in
-    let read : get_or (set ks at (get_or ks (length ks - 1) x)) n k ≡ k = sym (read_removed ks at n x k few) ∙ get_or_from_slice_get (swap_remove ks at x) n k k e in
-    ⊎_elim
-    (λ same. record {
-      from = length ks - 1;
-      there = last_there ks at x k h (sym (get_or-set_same ks at (get_or ks (length ks - 1) x) k h)
-          ∙ ap (λ (i : ℕ). get_or (set ks at (get_or ks (length ks - 1) x)) i k) (sym same) ∙ read);
-      below = few;
-      moved = λ is. refl;
-      stays = λ other. absurd (other same);
-    })
-    (λ other. record {
-      from = n;
-      there = there_at ks n k (omega (arith, few)) (sym (sym (get_or-set_other ks at n (get_or ks (length ks - 1) x) k other) ∙ read));
-      below = few;
-      moved = λ same. absurd (other same);
-      stays = λ is. refl;
-    })
-    (cases_eq n at)
-
-not_left : (at last n : ℕ) (ks : List Connection) (k : Connection) (f : CameFrom at last n ks k) → f.from ≢ at
-not_left at last n ks k f e = ⊎_elim (λ same. omega (arith, f.below, f.moved same, e, same)) (λ other. other (sym (f.stays other) ∙ e)) (cases_eq n at)
-
-same_place : (at last m n : ℕ) (ks : List Connection) (k l : Connection) (f : CameFrom at last m ks k) (g : CameFrom at last n ks l) → f.from ≡ g.from → m ≡ n
-same_place at last m n ks k l f g e =
-    ⊎_elim
-    (λ here. ⊎_elim (λ there. here ∙ sym there) (λ other. absurd (omega (arith, e, f.moved here, g.stays other, g.below))) (cases_eq n at))
-    (λ other. ⊎_elim (λ there. absurd (omega (arith, e, f.stays other, g.moved there, f.below))) (λ also. sym (f.stays other) ∙ e ∙ g.stays also) (cases_eq n at))
-    (cases_eq m at)
-
--- each other one is there still
-pub left_there : (ks : List Connection) (at m : ℕ) (x k : Connection) → at < length ks → slice_get ks m ≡ Some k → m ≢ at
-    → (n : ℕ) × (slice_get (swap_remove ks at x) n ≡ Some k)
-left_there ks at m x k h e other =
-    let long = long_removed ks at x h in
-    let within = slice_get_within ks m k e in
-    ⊎_elim
-    (λ (last : m ≡ length ks - 1). let here : at < length ks - 1 = (let no : at ≢ length ks - 1 = λ a. other (last ∙ sym a) in omega (arith, h, no)) in (
-      at,
-      there_at (swap_remove ks at x) at k (omega (arith, long, here))
-          (sym (read_removed ks at at x k here ∙ get_or-set_same ks at (get_or ks (length ks - 1) x) k h
-          ∙ get_or_from_slice_get ks (length ks - 1) k x (ap (slice_get ks) (sym last) ∙ e))),
-    ))
-    (λ inner. let here : m < length ks - 1 = omega (arith, within, inner) in (
-      m,
-      there_at (swap_remove ks at x) m k (omega (arith, long, here))
-          (sym (read_removed ks at m x k here ∙ get_or-set_other ks at m (get_or ks (length ks - 1) x) k other ∙ get_or_from_slice_get ks m k k e)),
-    ))
-    (cases_eq m (length ks - 1))
 
 -- ---- what is kept
 
@@ -122,17 +44,14 @@ module _ {g : Given} {before : List Act} {past : Past} {old : List Act} {s : Ser
   agreed : Agrees past k
   agreed = kept.agree at k there
 
-  within : at < length s.connections.items
-  within = slice_get_within s.connections.items at k there
-
   -- any other has another number
   other_number : (m : ℕ) (l : Connection) → slice_get s.connections.items m ≡ Some l → m ≢ at → (number_of k == number_of l) ≡ false
-  other_number m l here other = ne_eqb (number_of k) (number_of l) (λ same. apart s.connections.items kept.distinct at m k l there here other (sym same))
+  other_number m l here other = ne_eqb (number_of k) (number_of l) (λ same. apart s.connections.items kept.sorted at m k l there here other (sym same))
 
   -- one that isn't there behind it is this one, or wasn't there
-  unknown_back : (c : ℕ) → IsUnknown c (swap_remove s.connections.items at k) → number_of k ≢ c → IsUnknown c s.connections.items
+  unknown_back : (c : ℕ) → IsUnknown c (remove s.connections.items at) → number_of k ≢ c → IsUnknown c s.connections.items
   unknown_back c unknown other known =
-      let here = left_there s.connections.items at known.0 k known.1.connection within known.1.there
+      let here = left_there s.connections.items at known.0 known.1.connection known.1.there
       (λ same. other (ap number_of (one_at s.connections.items at known.0 k known.1.connection there known.1.there (sym same)) ∙ known.1.number)) in
       unknown (here.0, record { connection = known.1.connection; there = here.1; number = known.1.number })
 
@@ -142,28 +61,21 @@ module _ {g : Given} {before : List Act} {past : Past} {old : List Act} {s : Ser
     closed = closing_own (number_of k) (acts_of past) (eq-eqb (number_of k) (number_of k) refl) ∙ sym (agreed.over ∙ ap not over);
   }
 
-  distinct_left : AreDistinct (swap_remove s.connections.items at k)
-  distinct_left m n c h i =
-      let f = came_from s.connections.items at m k h.connection within h.there in
-      let e = came_from s.connections.items at n k i.connection within i.there in
-      same_place at (length s.connections.items - 1) m n s.connections.items h.connection i.connection f e
-      (kept.distinct f.from e.from c (record { connection = h.connection; there = f.there; number = h.number }) (record { connection = i.connection; there = e.there; number = i.number }))
-
-  agree_left : (n : ℕ) (l : Connection) → slice_get (swap_remove s.connections.items at k) n ≡ Some l → Agrees (deed k past) l
+  agree_left : (n : ℕ) (l : Connection) → slice_get (remove s.connections.items at) n ≡ Some l → Agrees (deed k past) l
   agree_left n l here =
-      let f = came_from s.connections.items at n k l within here in
+      let f = came_from s.connections.items at n l here in
       agrees_alike l past (deed k past)
-      (closing_alike (number_of l) (number_of k) past (other_number f.from l f.there (not_left at (length s.connections.items - 1) n s.connections.items l f)))
+      (closing_alike (number_of l) (number_of k) past (other_number f.from l f.there (not_left at n s.connections.items l f)))
       refl (kept.agree f.from l f.there)
 
-  forgotten_left : (c : ℕ) → IsUnknown c (swap_remove s.connections.items at k) → IsForgotten c (deed k past)
+  forgotten_left : (c : ℕ) → IsUnknown c (remove s.connections.items at) → IsForgotten c (deed k past)
   forgotten_left c unknown =
       ⊎_elim
       (λ same. subst (λ (d : ℕ). IsForgotten d (deed k past)) same forgotten_now)
       (λ other. forgotten_alike c past (deed k past) (closing_alike c (number_of k) past (ne_eqb (number_of k) c other)) (kept.forgotten c (unknown_back c unknown other)))
       (cases_eq (number_of k) c)
 
-  alone_left : (c : ℕ) → IsUnknown c (swap_remove s.connections.items at k) → is_some (session_at c s.desk.now) ≡ false
+  alone_left : (c : ℕ) → IsUnknown c (remove s.connections.items at) → is_some (session_at c s.desk.now) ≡ false
   alone_left c unknown =
       ⊎_elim
       (λ same. subst (λ (d : ℕ). is_some (session_at d s.desk.now) ≡ false) same ((kept.sessions.staged at k there).live ∙ over))
@@ -181,19 +93,19 @@ module _ {g : Given} {before : List Act} {past : Past} {old : List Act} {s : Ser
       (unused_alike c past (deed k past) (closing_alike c (number_of k) past (not_opened c h)) u.0, u.1)
 
   pub kept_left : (new : List Act) (t : Server) → new ≡ old ++ acts.Closes (number_of k) ∷ [] → t ≡ record s { connections = t.connections }
-      → t.connections.items ≡ swap_remove s.connections.items at k → IsKept g before (deed k past) new t
+      → t.connections.items ≡ remove s.connections.items at → IsKept g before (deed k past) new t
   kept_left new t log rest removed =
       let back = sym removed in
       subst (λ (x : Server). IsKept g before (deed k past) new x) (sym rest) (record {
         start = kept.start;
         turns = kept.turns ∙ sym (append-nil (turns_of past));
         acts = log ∙ ap (λ (l : List Act). l ++ acts.Closes (number_of k) ∷ []) kept.acts ∙ append_assoc before (acts_of past) (acts.Closes (number_of k) ∷ []);
-        distinct = subst (λ (ks : List Connection). AreDistinct ks) back distinct_left;
+        sorted = subst (λ (ks : List Connection). AreSorted ks) back (sorted_left s.connections.items at kept.sorted);
         agree = λ n l here. agree_left n l (ap (λ (ks : List Connection). slice_get ks n) back ∙ here);
         forgotten = λ c unknown. forgotten_left c (subst (λ (ks : List Connection). IsUnknown c ks) removed unknown);
         unused = unused_left;
         sessions = record {
-          staged = λ n l here. (let f = came_from s.connections.items at n k l within (ap (λ (ks : List Connection). slice_get ks n) back ∙ here) in
+          staged = λ n l here. (let f = came_from s.connections.items at n l (ap (λ (ks : List Connection). slice_get ks n) back ∙ here) in
               kept.sessions.staged f.from l f.there);
           alone = λ c unknown. alone_left c (subst (λ (ks : List Connection). IsUnknown c ks) removed unknown);
         };
@@ -238,9 +150,8 @@ pub live_left : {s t : Server} {old new : List Act} {at : ℕ} → ClosesAt at s
     → ((n : ℕ) (k : Connection) → n < at → slice_get s.connections.items n ≡ Some k → is_live k.inbound.stage ≡ true)
     → (n : ℕ) (k : Connection) → n < at → slice_get t.connections.items n ≡ Some k → is_live k.inbound.stage ≡ true
 live_left {s} {at = at} c live n k low here =
-    let f = came_from s.connections.items at n c.connection k (slice_get_within s.connections.items at c.connection c.there)
-    (ap (λ (ks : List Connection). slice_get ks n) (sym c.removed) ∙ here) in
-    live n k low (ap (slice_get s.connections.items) (sym (f.stays (λ same. omega (arith, low, same)))) ∙ f.there)
+    let f = came_from s.connections.items at n k (ap (λ (ks : List Connection). slice_get ks n) (sym c.removed) ∙ here) in
+    live n k low (ap (slice_get s.connections.items) (sym (f.ahead low)) ∙ f.there)
 
 pub closes_all : (a s : Server) (log new : List Act) → AllLive s
     → Goes Shuts a log s new → Goes (Closes s) a log s new
@@ -264,19 +175,18 @@ was_opened_at log s at k h there =
     ap (was_opened (number_of k)) h.kept.acts ∙ list_any-append (is_opening (number_of k)) h.before (acts_of h.past)
     ∙ ap (λ (b : Bool). was_opened (number_of k) h.before || b) (h.kept.agree at k there).opened ∙ or-true (was_opened (number_of k) h.before)
 
-pub closes_at : (at n : ℕ) (s t : Server) (old new : List Act) (k x : Connection) → at < length s.connections.items → k ≡ get_or s.connections.items at k
-    → x ≡ get_or s.connections.items at x → IsOverAt at s → n ≡ number_of k → new ≡ old ++ acts.Closes n ∷ [] → t ≡ record s { connections = t.connections }
-    → t.connections.items ≡ swap_remove s.connections.items at x → ClosesAt at s t old new
-closes_at at n s t old new k x within is also over number log rest removed =
+pub closes_at : (at n : ℕ) (s t : Server) (old new : List Act) (k : Connection) → at < length s.connections.items → k ≡ get_or s.connections.items at k
+    → IsOverAt at s → n ≡ number_of k → new ≡ old ++ acts.Closes n ∷ [] → t ≡ record s { connections = t.connections }
+    → t.connections.items ≡ remove s.connections.items at → ClosesAt at s t old new
+closes_at at n s t old new k within is over number log rest removed =
     let there = there_at s.connections.items at k within is in
-    let same : x ≡ k = also ∙ get_or_from_slice_get s.connections.items at k x there in
     record {
       connection = k;
       there = there;
       over = over k there;
       log = log ∙ ap (λ (c : ℕ). old ++ acts.Closes c ∷ []) number;
       rest = rest;
-      removed = removed ∙ ap (λ (y : Connection). swap_remove s.connections.items at y) same;
+      removed = removed;
     }
 
 pub quietly_closed : {at : ℕ} {s t : Server} {old new : List Act} → ClosesAt at s t old new → IsQuietly old new

@@ -1,17 +1,15 @@
 -- A turn of the board comes.
 use Rattle.std.proofs.Common.{◌≡◌, ◌≢◌, ℕ, ◌+◌, Bool, true, false, ◌==◌, List, [], ◌∷◌, ◌++◌, length, Option, append-nil, length-append, refl, sym, ap, ◌∙◌, subst, inl, inr, arith}
-use Rattle.std.proofs.Math.Bool.{or-false}
 use Rattle.std.specs.Prelude.{is_some, Result, Ok, Err, OnErr}
 use Rattle.std.specs.List.{list_all}
-use Rattle.std.proofs.lemmas.Bool.{eq-eqb, ne_eqb, or_left, or_parts, both_ways}
-use Rattle.std.proofs.lemmas.Grind.{flat_map-append}
+use Rattle.std.proofs.lemmas.Bool.{eq-eqb, ne_eqb, or_parts, both_ways}
 use Rattle.std.proofs.lemmas.List.{append_assoc}
 use Rattle.std.proofs.lemmas.List.Folds.{list_any-append}
 use Rattle.maple_io.specs.declared.act.Act.{Act}
 use Rattle.maple_io.specs.declared.act.Act.TheVariants as acts
 use Rattle.maple_io.specs.declared.board.Turn.{Turn as BoardTurn}
 use Rattle.maple_io.specs.declared.board.Turn.TheVariants as turn
-use Rattle.maple_io.specs.Boards.{BoardFailed, BoardView, NoBoardFailed, is_closing, is_opening, sent, sent_in, was_closed, was_opened}
+use Rattle.maple_io.specs.Boards.{BoardFailed, BoardView, NoBoardFailed, is_opening, was_opened}
 use Rattle.maple_io.specs.Turns.{OpensAnew, given_acts}
 use Rattle.of10_codec.specs.declared.fault.Bad.{Bad as Fault}
 use Rattle.of10_stream.specs.Steps.{Held, Stream, appended, fed}
@@ -32,6 +30,7 @@ use Rattle.serve_channels.specs.Delivering.{FailsBy, GivesOne, IsNew, OpensOnce,
 use Rattle.serve_channels.specs.Feeding.{FeedsBy, FeedsOne}
 use Rattle.serve_channels.specs.Keeping.{Agrees, IsHeardTo, IsKept, is_message}
 use Rattle.serve_channels.specs.Servers.{IsKnown, IsSame, number_of}
+use Rattle.serve_channels.proofs.Acts.{act_alike}
 use Rattle.serve_channels.proofs.Alike.{IsAlike, unused_alike}
 use Rattle.serve_channels.proofs.Kept.{IsKeptBut, IsLeft, IsTold, alone_back, kept_at, kept_but, kept_same, kept_whole, same_connections, same_server}
 
@@ -42,17 +41,7 @@ module _ (c : ℕ) (t : BoardTurn) (bytes : List ℕ) (past : Past) where
   given = acts.Gives t bytes
 
   pub given_alike : IsAlike c past (Does given ∷ past)
-  given_alike = record {
-    accepted = refl;
-    over = refl;
-    cut = refl;
-    failed = refl;
-    inputs = append-nil (inputs_of c past);
-    taken = append-nil (taken_of c past);
-    sent_is = flat_map-append (sent_in c) (acts_of past) (given ∷ []) ∙ append-nil (sent c (acts_of past));
-    closed = list_any-append (is_closing c) (acts_of past) (given ∷ []) ∙ or-false (was_closed c (acts_of past));
-    opened = λ was. list_any-append (is_opening c) (acts_of past) (given ∷ []) ∙ or_left (was_opened c (acts_of past)) (was_opened c (given ∷ [])) was;
-  }
+  given_alike = act_alike c given past refl refl refl
 
 -- bytes come on another connection, or another is opened
 abbrev is_turn_of : ℕ → BoardTurn → Bool
@@ -222,8 +211,8 @@ module _ {g : Given} {before : List Act} {past : Past} {log : List Act} {a : Ser
     kept_given : (t : BoardTurn) (bytes : List ℕ) → new_log ≡ log ++ given_act t bytes → OpensAnew t log → FeedsBy t bytes a b
         → IsKept g before (given_deeds t bytes past) new_log b × IsNew t (given_deeds t bytes past) b
     kept_given (turn.Opened c) bytes log_is anew e = (given_kept (turn.Opened c) bytes log_is e (λ d known. not_new c d anew known), is_new c bytes anew e)
-    kept_given (turn.Bytes c n) bytes log_is anew (inl (unknown, e)) =
-        (given_kept (turn.Bytes c n) bytes log_is e (λ d known. ne_eqb c d (λ same. unknown (subst (λ m. IsKnown m a.connections.items) (sym same) known))), tt)
+    kept_given (turn.Bytes c n) bytes log_is anew (inl (missing, e)) =
+        (given_kept (turn.Bytes c n) bytes log_is e (λ d known. ne_eqb c d (λ same. missing kept.sorted (subst (λ m. IsKnown m a.connections.items) (sym same) known))), tt)
     kept_given (turn.Bytes c n) bytes log_is anew (inr feeds) = (fed_kept c n bytes log_is feeds, tt)
     kept_given (turn.Closed c) bytes log_is anew e = (quiet (turn.Closed c) bytes log_is (λ d. refl) e, tt)
     kept_given (turn.Broken c) bytes log_is anew e = (quiet (turn.Broken c) bytes log_is (λ d. refl) e, tt)

@@ -1,6 +1,6 @@
 -- What is delivered to connections, and which are closed.
 use Rattle.std.specs.Prelude.{◌≡◌, ◌≢◌, ◌⊎◌, ℕ, ◌<◌, ◌≤◌, true, false, not, List, [], ◌∷◌, ◌++◌, Bool, ◌||◌, count_by, set, take, Some, None, Ok}
-use Rattle.std.specs.List.{list_any, slice_get, swap_remove}
+use Rattle.std.specs.List.{list_any, remove, slice_get}
 use Rattle.maple_io.specs.declared.board.Sent.TheVariants as sends
 use Rattle.maple_io.specs.declared.board.Turn.{Turn as BoardTurn}
 use Rattle.maple_io.specs.declared.board.Turn.TheVariants as turn
@@ -192,14 +192,14 @@ pub record Closes (new : Server) (past : Past) (own : List Entry) (done : Past) 
 abbrev pub IsOverAt : ℕ → Server → Type 0
 IsOverAt at s = (k : Connection) → slice_get s.connections.items at ≡ Some k → is_live k.inbound.stage ≡ false
 
--- the connection with this index, whose session is over, is closed and left out: the last one takes its place
+-- the connection with this index, whose session is over, is closed and left out
 pub record ClosesAt (at : ℕ) (s t : Server) (old new : List Act) : Type 0 where
   pub connection : Connection
   pub there : slice_get s.connections.items at ≡ Some connection
   pub over : is_live connection.inbound.stage ≡ false
   pub log : new ≡ old ++ acts.Closes (number_of connection) ∷ []
   pub rest : t ≡ record s { connections = t.connections }
-  pub removed : t.connections.items ≡ swap_remove s.connections.items at connection
+  pub removed : t.connections.items ≡ remove s.connections.items at
 
 -- ---- the report
 

@@ -8,7 +8,7 @@ use Rattle.machine_desk.specs.declared.inbound.Inbound.{Inbound}
 use Rattle.machine_desk.specs.Hearing.{IsSameSession}
 use Rattle.serve_channels.specs.declared.connection.Connection.{Connection}
 use Rattle.serve_channels.specs.declared.server.Server.{Server}
-use Rattle.serve_channels.specs.Servers.{IsUnknown, number_of}
+use Rattle.serve_channels.specs.Servers.{IsMissing, number_of}
 
 -- they stand behind those that came before on the connection of this number
 pub record FeedsOne (c : ℕ) (bytes : List ℕ) (old new : Server) : Type 0 where
@@ -24,7 +24,7 @@ pub record FeedsOne (c : ℕ) (bytes : List ℕ) (old new : Server) : Type 0 whe
 
 -- those of a number that isn't there are passed over
 abbrev pub Feeds : ℕ → List ℕ → Server → Server → Type 0
-Feeds c bytes old new = (IsUnknown c old.connections.items × (new ≡ old)) ⊎ FeedsOne c bytes old new
+Feeds c bytes old new = (IsMissing c old.connections.items × (new ≡ old)) ⊎ FeedsOne c bytes old new
 
 -- what came by a turn is kept
 abbrev pub FeedsBy : BoardTurn → List ℕ → Server → Server → Type 0

@@ -17,7 +17,7 @@ use Rattle.serve_steps.specs.Parts.{Given}
 use Rattle.serve_steps.specs.Runs.{taken_report}
 use Rattle.serve_channels.specs.declared.connection.Connection.{Connection}
 use Rattle.serve_channels.specs.declared.server.Server.{Server}
-use Rattle.serve_channels.specs.Servers.{AreDistinct, AreSessions, IsUnknown, WorksAlone, number_of}
+use Rattle.serve_channels.specs.Servers.{AreSessions, AreSorted, IsUnknown, WorksAlone, number_of}
 use Rattle.serve_channels.specs.Stretches.{IsAside, Stretch}
 
 -- ---- a connection
@@ -73,7 +73,7 @@ pub record IsKept (g : Given) (before : List Act) (past : Past) (log : List Act)
   pub start : s.desk.footing.start ≡ opening g.policy g.settings
   pub turns : s.desk.past ≡ turns_of past
   pub acts : log ≡ before ++ acts_of past
-  pub distinct : AreDistinct s.connections.items
+  pub sorted : AreSorted s.connections.items
   pub agree : (at : ℕ) (k : Connection) → slice_get s.connections.items at ≡ Some k → Agrees past k
   pub forgotten : (c : ℕ) → IsUnknown c s.connections.items → IsForgotten c past
   pub unused : (c : ℕ) → was_opened c (acts_of past) ≡ false → IsUnused c past × (was_session c s.desk.now ≡ false)

@@ -1,5 +1,5 @@
 -- A server: the machine at its desk, who works beside it, and the connections of switches.
-use Rattle.std.specs.Prelude.{◌≡◌, ℕ, ◌<◌, ◌==◌, true, false, List, length, All, slice_index_or, Some, is_some}
+use Rattle.std.specs.Prelude.{◌≡◌, ℕ, ◌<◌, ◌≤◌, false, List, length, Some, is_some}
 use Rattle.std.specs.List.{slice_get}
 use Rattle.machine_steps.specs.Machine.{State, session_at}
 use Rattle.machine_desk.specs.Hearing.{IsStaged}
@@ -25,17 +25,19 @@ IsKnown c ks = (at : ℕ) × IsAt at c ks
 abbrev pub IsUnknown : ℕ → List Connection → Type 0
 IsUnknown c ks = IsKnown c ks → ⊥
 
--- the same of a number, and of a place, by tests
-abbrev pub NoneHas : ℕ → List Connection → Type 0
-NoneHas c ks = All (λ (k : Connection). (number_of k == c) ≡ false) ks
+-- they stand in the order of their numbers, and so no number stands twice
+abbrev pub AreSorted : List Connection → Type 0
+AreSorted ks = (i j c d : ℕ) → i < j → IsAt i c ks → IsAt j d ks → c < d
 
-pub record HasPlace (at c : ℕ) (ks : List Connection) : Type 0 where
-  pub within : at < length ks
-  pub has : (d : Connection) → (number_of (slice_index_or ks at d) == c) ≡ true
+-- there is none of this number, if they are sorted
+abbrev pub IsMissing : ℕ → List Connection → Type 0
+IsMissing c ks = AreSorted ks → IsUnknown c ks
 
--- no number stands twice
-abbrev pub AreDistinct : List Connection → Type 0
-AreDistinct ks = (i j c : ℕ) → IsAt i c ks → IsAt j c ks → i ≡ j
+-- a connection of this number would go here: if they are sorted, each one ahead has a lower number, and each one from here on a higher
+pub record IsGap (at c : ℕ) (ks : List Connection) : Type 0 where
+  pub within : at ≤ length ks
+  pub ahead : AreSorted ks → (i d : ℕ) → i < at → IsAt i d ks → d < c
+  pub behind : AreSorted ks → (i d : ℕ) → at ≤ i → IsAt i d ks → c < d
 
 -- ---- the machine
 

@@ -40,7 +40,7 @@ impl<'h> Server<'h> {
         ensures faults { NoBoardFailed (B.tells board.old) (B.tells board.new) }
     {
         board.close(self.connections[at].inbound.connection());
-        self.connections.swap_remove(at);
+        self.connections.remove(at);
     }
 }
 

@@ -1,7 +1,7 @@
 // The server of switches.
-ghost use Rattle.std.specs.Prelude.{◌≡◌, [], MatchOption, true};
+ghost use Rattle.std.specs.Prelude.{◌≡◌, [], IfErr, IfOk, MatchOption, true};
 ghost use Rattle.machine_desk.specs.Desks.{DeskLaw, HadMemory, calls_of};
-ghost use Rattle.serve_channels.specs.Servers.{HasPlace, IsAt, IsUnknown, NoneHas};
+ghost use Rattle.serve_channels.specs.Servers.{IsAt, IsGap, IsMissing};
 
 use crate::Connection;
 use desk_jobs::Crew;
@@ -15,7 +15,7 @@ pub struct Server<'h> {
     pub(crate) desk: Desk<'h>,
     /// Who works beside it, if anybody does.
     pub(crate) crew: Option<Crew<'h>>,
-    /// Those that were opened and weren't closed.
+    /// Those that were opened and weren't closed, in the order of their numbers.
     pub(crate) connections: Vec<Connection>,
 }
 
@@ -73,16 +73,17 @@ impl<'h> Server<'h> {
 
     // The index of the connection of a number.
     pub(crate) fn find(&self, number: u32) -> Option<usize>
-        ensures { MatchOption result (IsUnknown number self.now.connections.items) (λ at. IsAt at number self.now.connections.items) }
+        ensures { MatchOption result (IsMissing number self.now.connections.items) (λ at. IsAt at number self.now.connections.items) }
     {
-        place_of(&self.connections, number)
+        self.place(number).ok()
     }
-}
 
-fn place_of(connections: &[Connection], number: u32) -> Option<usize>
-    ensures { MatchOption result (NoneHas number connections.now) (λ at. HasPlace at number connections.now) }
-{
-    connections
-        .iter()
-        .position(|connection| connection.inbound.connection() == number)
+    // The index of the connection of a number, or the one at which it would go.
+    pub(crate) fn place(&self, number: u32) -> Result<usize, usize>
+        ensures found { IfOk result (λ at. IsAt at number self.now.connections.items) }
+        ensures absent { IfErr result (λ at. IsGap at number self.now.connections.items) }
+    {
+        self.connections
+            .binary_search_by_key(&number, |connection| connection.inbound.connection())
+    }
 }

@@ -29,6 +29,9 @@ impl<'h> Server<'h> {
     {
         serving_laws();
         self.desk.law();
+        let Err(at) = self.place(number) else {
+            unreachable!();
+        };
         let mut inbound = Inbound::new(self.alloc, number);
         self.desk.open(rt, &mut inbound)?;
         let connection = Connection {
@@ -36,7 +39,7 @@ impl<'h> Server<'h> {
             queue: SendQueue::new(number, self.alloc),
             cut: false,
         };
-        let Ok(()) = self.connections.push(connection) else {
+        let Ok(()) = self.connections.insert(at, connection) else {
             return Err(Stopped);
         };
         Ok(())

@@ -96,23 +96,15 @@ module _ (laws : EndingLaws) (g : Given) where
   pub run_of : (end : ServeEnd) (history : List Turn) (last : State) (first : Past) (parts : List Part) (text : List ℕ) (old_board new_board : BoardView) (old new : SinkView)
       → turns_of (deeds_of first parts) ≡ history → Leads (Opens g) history last → AreCutAtTurns first parts → AreOpenedOnce first parts
       → new_board.log ≡ old_board.log ++ acts_of (deeds_of first parts) → EndsWith end g first parts text → Wrote old new text → HasRun end g old_board new_board old new
-  run_of end history last first parts text old_board new_board old new turns legal cut opened log ends wrote = record {
-    history = history;
-    run = record {
-      first = first;
-      parts = parts;
-      turns = turns;
-      last = last;
-      legal = legal;
-      cut = cut;
-      opened = opened;
-      log = log;
-      text = text;
-      ends = ends;
-      wrote = wrote;
-    };
-    right = laws.world g (deeds_of first parts);
-  }
+  run_of end history last first parts text old_board new_board old new turns legal cut opened log ends wrote = (
+    text,
+    record {
+      history = history;
+      run = record { first = first; parts = parts; turns = turns; last = last; legal = legal; cut = cut; opened = opened; log = log; ends = ends };
+      right = laws.world g (deeds_of first parts);
+    },
+    wrote,
+  )
 
   -- memory ran out ahead of the machine
   pub never_ran : (board : BoardView) (to : SinkView) → HasRun ends.NoMemory g board board to to

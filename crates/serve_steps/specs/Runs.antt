@@ -133,9 +133,9 @@ EndsWith BoardFault g first parts text = IsFailed g first parts text
 EndsWith Worn g first parts text = IsWorn g first parts text
 EndsWith NoMemory g first parts text = IsBrokenOff g first parts text
 
--- a run of this history: its parts, in which the machine's turns are the history, which is legal, and the board's acts are what its log gained; and the text
--- that was written
-pub record IsRun (end : ServeEnd) (g : Given) (history : List Turn) (board_old board_new : BoardView) (to_old to_new : SinkView) : Type 0 where
+-- a run of this history that wrote this text: its parts, in which the machine's turns are the history, which is legal, and the board's acts are what its log
+-- gained
+pub record IsRun (end : ServeEnd) (g : Given) (history : List Turn) (before after : List Act) (text : List ℕ) : Type 0 where
   pub first : Past
   pub parts : List Part
   pub turns : turns_of (deeds_of first parts) ≡ history
@@ -143,10 +143,8 @@ pub record IsRun (end : ServeEnd) (g : Given) (history : List Turn) (board_old b
   pub legal : Leads (opening g.policy g.settings) history last
   pub cut : AreCutAtTurns first parts
   pub opened : AreOpenedOnce first parts
-  pub log : board_new.log ≡ board_old.log ++ acts_of (deeds_of first parts)
-  pub text : List ℕ
+  pub log : after ≡ before ++ acts_of (deeds_of first parts)
   pub ends : EndsWith end g first parts text
-  pub wrote : Wrote to_old to_new text
 
 -- ---- causes
 
@@ -172,8 +170,13 @@ IsRightInWorlds g past = (es : List WorldEvent) (w : World) → IsWorldRun g.pol
 
 -- ---- a call
 
--- a run of some history, meant as that of the call's hall at its close; each run of the world with it is right
-pub record HasRun (end : ServeEnd) (g : Given) (board_old board_new : BoardView) (to_old to_new : SinkView) : Type 0 where
+-- how a run ends that wrote this text, by some history, meant as that of the call's hall at its close; each run of the world with it is right
+pub record HasEnded (end : ServeEnd) (g : Given) (before after : List Act) (text : List ℕ) : Type 0 where
   pub history : List Turn
-  pub run : IsRun end g history board_old board_new to_old to_new
+  pub run : IsRun end g history before after text
   pub right : IsRightInWorlds g (deeds_of run.first run.parts)
+
+-- how it ends over a board and a sink
+abbrev pub HasRun : ServeEnd → Given → BoardView → BoardView → SinkView → SinkView → Type 0
+HasRun end g board_old board_new to_old to_new =
+    (text : List ℕ) × HasEnded end g board_old.log board_new.log text × Wrote to_old to_new text

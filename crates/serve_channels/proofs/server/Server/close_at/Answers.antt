@@ -13,4 +13,4 @@ close-requires g c =
 pub returns-clause-closes : goal.returns-clause-closes
 returns-clause-closes g c =
     closes_at c.args.at c.connection.result c.args.self.now _ (g.B.Board.tells c.args.board.now).log (g.B.Board.tells c.close.new.self).log c.index.result.now
-    c.swap_remove.result c.requires.within c.index.ensures c.swap_remove.ensures.value c.requires.over c.connection.ensures c.close.ensures.log refl c.swap_remove.ensures.items
+    c.requires.within c.index.ensures c.requires.over c.connection.ensures c.close.ensures.log refl c.remove.ensures.items

@@ -2,11 +2,11 @@ use Rattle.std.proofs.Common.{refl, subst}
 use Rattle.std.proofs.lemmas.Option.{slice_get_within}
 use Rattle.serve_channels.specs.declared.hearing.Came.TheVariants.{Message}
 use Rattle.serve_channels.specs.Passing.{HearsAt}
-use Rattle.serve_channels.proofs.InOrder.{heard_unknown, numbers_now, on_last, on_more, on_none, same_now}
+use Rattle.serve_channels.proofs.InOrder.{heard_missing, numbers_now, on_last, on_more, on_none, same_now}
 use Rattle.serve_channels.proofs.server.Server.hear.Goals as goal
 
 pub returns-in_default-clause-goes : goal.returns-in_default-clause-goes
-returns-in_default-clause-goes g c = heard_unknown c.args.number c.args.self.now c.in_default.ensures
+returns-in_default-clause-goes g c = heard_missing c.args.number c.args.self.now c.in_default.ensures
 
 pub loop-init : goal.loop-init
 loop-init g c = on_none c.args.number c.in-Some.at c.args.self.now c.in-Some.ensures c.requires.serving
