@@ -1,2 +1,4 @@
+pub mod Drawn
+pub mod Lengths
 mod Texts
 mod Totals

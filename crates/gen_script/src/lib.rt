@@ -2,11 +2,15 @@
 #![tactic(auto)]
 
 mod drawing;
+mod laws;
 mod line;
 mod pieces;
+mod policy;
 mod script;
 mod summing;
 mod tally;
 
+pub use laws::length_law;
+pub use policy::policy_text;
 pub use script::make_script;
 pub use summing::summary;

@@ -1,0 +1,2 @@
+-- A reader must believe Laws.
+pub mod Laws
