@@ -4,6 +4,7 @@
 use maple_base::{Bytes, NoMemory, Words};
 use maple_io::{ReadSource, WriteSink};
 use maple_top::{Status, run_program};
+use socket_board::SocketBoard;
 use std::env;
 use std::io::ErrorKind;
 use std::process::ExitCode;
@@ -34,7 +35,8 @@ fn main(rt: HostRuntime) -> ExitCode {
         Ok(words) => {
             let mut input = ReadSource::new(rt.stdin());
             let mut output = WriteSink::new(rt.stdout());
-            run_program(&rt, rt.alloc(), &words, &mut input, &mut output)
+            let mut board = SocketBoard::new(&rt, rt.alloc());
+            run_program(&rt, rt.alloc(), &words, &mut input, &mut output, &mut board)
         }
         Err(NoMemory) => Status::NoMemory,
     };

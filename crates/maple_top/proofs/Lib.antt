@@ -1,11 +1,9 @@
-pub mod Budgets
 pub mod Commands
 pub mod Endings
 pub mod Faults
-pub mod Hearing
 pub mod Known
-pub mod OptionWords
-pub mod Prefixes
+pub mod Lines
 pub mod Programs
-pub mod Runs
+pub mod Reading
+pub mod Results
 pub mod Tops

@@ -1,26 +1,33 @@
 -- A run over the devices of the program.
-use Rattle.std.proofs.Common.{◌≡◌, ◌⊎◌, ℕ, zero, suc, true, Option, Some, None, List, [], ◌∷◌, ◌++◌, length, map, refl, sym, ap, ◌∙◌, subst, inl, inr, append-nil, arith}
+use Rattle.std.proofs.Common.{◌≡◌, ◌≢◌, ℕ, zero, suc, true, List, [], ◌∷◌, ◌++◌, length, map, refl, sym, ap, ◌∙◌, subst, inl, inr, append-nil, arith}
 use Rattle.std.specs.List.{AllByRecursion}
 use Rattle.std.proofs.lemmas.List.{append_cancel_left}
 use Rattle.maple_io.specs.Answers.{ends as tells_end, fails, given}
+use Rattle.maple_io.specs.declared.act.Act.{Act}
 use Rattle.maple_io.specs.declared.answer.Answer.{Answer}
+use Rattle.maple_io.specs.Boards.{BoardFailed, BoardView, NoBoardFailed}
 use Rattle.maple_io.specs.Fronts.{IsFront}
-use Rattle.maple_io.specs.Views.{Heard, SinkView, SourceView, WriteFailed, Wrote}
+use Rattle.maple_io.specs.Views.{Heard, NoReadFailed, NoWriteFailed, SinkView, SourceView, WriteFailed, Wrote}
 use Rattle.maple_io.proofs.Pieces.{wrote_nothing}
 use Rattle.policy_lang.specs.declared.Policy.{Policy}
 use Rattle.device_port.specs.Devices.{Meaning}
+use Rattle.machine_steps.specs.Histories.{Turn}
 use Rattle.sim_steps.specs.Showing.{AllIdle, AllKeep}
 use Rattle.sim_driver.specs.declared.drive.SimEnd.{SimEnd}
-use Rattle.sim_driver.specs.declared.drive.SimEnd.TheVariants as ends
+use Rattle.sim_driver.specs.declared.drive.SimEnd.TheVariants as sims
+use Rattle.sim_driver.specs.Runs.{EndsBy, Given as SimGiven, given as sim_given}
+use Rattle.serve_steps.specs.declared.end.ServeEnd.{ServeEnd}
+use Rattle.serve_steps.specs.declared.end.ServeEnd.TheVariants as ends
+use Rattle.command_words.specs.declared.words.Command.{Command}
+use Rattle.command_words.specs.declared.words.Command.TheVariants.{Sim, Check, Gen, Serve}
 use Rattle.maple_top.specs.declared.status.Status.{Status}
-use Rattle.maple_top.specs.declared.status.Status.TheVariants.{Done, Usage, Policy as PolicyRefused, Script, ReadFault, WriteFault, NoMemory, TooLong, Worn}
-use Rattle.maple_top.specs.declared.words.Command.{Command}
-use Rattle.maple_top.specs.declared.words.Command.TheVariants.{Sim, Check}
-use Rattle.maple_top.specs.Due.{AreWords, Cuts, IsCut, IsDue, IsExact, IsOrUnwritten, IsReading, IsReport, IsReportOf, IsText, IsUnread, OfInput, Refuses, StopsAtFailure, Tells}
-use Rattle.maple_top.specs.Ends.{IsOfWhole, WroteFront}
-use Rattle.maple_top.specs.Program.{HasRun, IsRightText, Reports, RunsOver, device_at, devices_to, program_devices}
+use Rattle.maple_top.specs.declared.status.Status.TheVariants as status
+use Rattle.maple_top.specs.Due.{AreReading, AreServing, IsDue, IsDueBy, IsExact, IsExactBy, IsFault, IsReading, IsUnread, OfInput}
+use Rattle.maple_top.specs.Ends.{IsAside, IsBoardSpared, IsCutting, IsOrCut, IsUnhindered, StopsAtFailure, WroteFront, status_of}
+use Rattle.maple_top.specs.Outcomes.{Comes, Did, Results, ResultsBy, RunsPolicy, Switches, end_of, kept_of, switches}
+use Rattle.maple_top.specs.Program.{IsReporting, IsRight, IsRightReport, Reports, ResultsIn, RunsOver, device_at, devices_to, program_devices}
 use Rattle.maple_top.specs.Statuses.{last_line}
-use Rattle.maple_top.specs.Words.{command_of}
+use Rattle.maple_top.specs.Texts.{Texts, texts_of}
 
 -- ---- the devices
 
@@ -68,171 +75,245 @@ at_input : {source left : SourceView} {Of : Type 0 → List ℕ → Type 0} → 
     → Of (tells_end heard ≡ true) (given heard)
 at_input {source} {left} h heard is = at_heard source left h.heard heard is
 
-words_or : (words : List (List ℕ)) → AreWords words ⊎ ¬ (AreWords words)
-words_or words = cases (command_of words) refl
-  where
-    cases : (o : Option Command) → command_of words ≡ o → AreWords words ⊎ ¬ (AreWords words)
-    cases (Some command) is = inl (command, is)
-    cases None is = inr (λ h. let both = sym is ∙ h.1 in cc)
-
 -- what a run over devices promises, as far as it is cited here
-pub record Promises (source left : SourceView) (old new : SinkView) (before after : List Meaning) (places : ℕ) (words : List (List ℕ)) (s : Status) : Type 0 where
-  pub whole : IsOfWhole s → OfInput source left (λ ended bytes. ended)
-  pub done : s ≡ Done → OfInput source left (λ ended bytes. IsDue Done places words bytes)
-  pub script : s ≡ Script → OfInput source left (λ ended bytes. IsDue Script places words bytes)
-  pub policy : s ≡ PolicyRefused → OfInput source left (λ ended bytes. IsDue PolicyRefused places words bytes)
-  pub policy_text : s ≡ PolicyRefused → OfInput source left (λ ended bytes. Refuses words old new bytes)
-  pub too_long : s ≡ TooLong → OfInput source left (λ ended bytes. IsDue TooLong places words bytes)
-  pub too_long_text : s ≡ TooLong → Wrote old new (last_line TooLong)
-  pub usage : s ≡ Usage → ¬ (AreWords words)
-  pub usage_text : s ≡ Usage → Wrote old new (last_line Usage)
-  pub usage_exact : ¬ (AreWords words) → IsOrUnwritten Usage s
-  pub read_fault : s ≡ ReadFault → IsUnread source left
-  pub read_text : s ≡ ReadFault → Wrote old new (last_line ReadFault)
-  pub told : OfInput source left (λ ended bytes. Tells s ended words bytes before after old new)
-  pub cut : OfInput source left (λ ended bytes. Cuts s ended (IsUnread source left) words bytes before old new)
-  pub exact : OfInput source left (λ ended bytes. IsExact s places words bytes)
+pub record Promises (source left : SourceView) (old new : SinkView) (before after : BoardView) (first last : List Meaning) (places : ℕ) (words : List (List ℕ)) (s : Status) : Type 0 where
+  pub results : ResultsBy source left old new words (switches first before) (switches last after) s
+  pub due : IsDueBy source left s places words
+  pub exact : IsExactBy source left s places words
   pub reading : Heard source left IsReading
   pub failed : StopsAtFailure source left old new
-  pub unread : ¬ (AreWords words) → left ≡ source
-  pub write_fault : s ≡ WriteFault → WriteFailed old new
+  pub unread : ¬ (AreReading words) → left ≡ source
+  pub read_fault : s ≡ status.ReadFault → IsUnread source left
+  pub reads_spared : IsUnhindered s → NoReadFailed source left
+  pub write_fault : s ≡ status.WriteFault → WriteFailed old new
+  pub writes_spared : s ≢ status.WriteFault → NoWriteFailed old new
+  pub board_fault : s ≡ status.BoardFault → BoardFailed before after
+  pub board_spared : IsBoardSpared s → NoBoardFailed before after
+  pub board_aside : IsAside s → after ≡ before
+  pub unserved : ¬ (AreServing words) → after ≡ before
 
-module _ (source left : SourceView) (old new : SinkView) (after : List Meaning) (words : List (List ℕ)) (heard : List Answer) (is : left.answers ≡ source.answers ++ heard) where
-  -- what was written, and what holds of it
-  abbrev Ran : Status → Type 0
-  Ran s = (text : List ℕ) × HasRun s words heard text × Wrote old new text
+-- ---- what is right
 
-  right : (policy : Policy) (command : Command) (text : List ℕ) → IsReportOf policy command (given heard) program_devices after text
-      → IsRightText policy command (given heard) text
-  right policy (Sim settings) text (report, (history, e), text_is) = record {
-    after = after;
-    history = history;
-    report = report;
-    followed = e.ends;
-    memory = e.memory tt;
-    text_is = text_is;
-    world = e.ends.run.world devices_keep;
-  }
-  right policy Check text r = r.1
+-- it came to its end, or to a refused line
+abbrev IsToEnd : ServeEnd → Type 0
+IsToEnd ends.Done = Unit {0}
+IsToEnd (ends.Script line kind) = Unit {0}
+IsToEnd end = ⊥
 
-  reports : (s : Status) → tells_end heard ≡ true → IsDue s (length program_devices) words (given heard) → (text : List ℕ) → IsReport words (given heard) program_devices after text
-      → Reports s words heard text
-  reports s end due text (command, has_command, policy, has_policy, r) = record {
-    ended = end;
+to_end : (end : ServeEnd) → IsReporting (status_of end) → IsToEnd end
+to_end ends.Done h = tt
+to_end (ends.Script line kind) h = tt
+to_end ends.WriteFault h = h
+to_end ends.BoardFault h = h
+to_end ends.Worn h = h
+to_end ends.NoMemory h = h
+
+right_report : (end : SimEnd) (g : SimGiven) (after : List Meaning) (history : List Turn) (report : List ℕ) → AllKeep g.devices → IsToEnd (end_of end) → EndsBy end g after history report
+    → IsRightReport g report
+right_report sims.Done g after history report keep to e =
+    record { after = after; history = history; followed = e.ends; memory = e.memory tt; world = e.ends.run.world keep }
+right_report (sims.Script line kind) g after history report keep to e =
+    record { after = after; history = history; followed = e.ends; memory = e.memory tt; world = e.ends.run.world keep }
+right_report sims.WriteFault g after history report keep to e = absurd to
+right_report sims.NoMemory g after history report keep to e = absurd to
+right_report sims.Worn g after history report keep to e = absurd to
+
+right_of : (command : Command) (end : ServeEnd) (policy : Policy) (texts : Texts) (board : BoardView) (after : Switches) (report : List ℕ) → IsToEnd end
+    → Did command end policy texts (switches program_devices board) after report → IsRight command end policy texts board.log after.board.log report
+right_of (Sim settings) end policy texts board after report to d =
+    right_report d.sim_end (sim_given policy settings program_devices texts.script texts.first_line) after.devices d.ended.0 report devices_keep (subst IsToEnd d.end_is to) d.ended.1
+right_of (Gen number settings) end policy texts board after report to d =
+    right_report d.sim_end (sim_given policy settings program_devices texts.script texts.first_line) after.devices d.ended.0 report devices_keep (subst IsToEnd d.end_is to) d.ended.1
+right_of Check end policy texts board after report to d = d.2
+right_of (Serve listen control settings) end policy texts board after report to d = d.ended
+
+-- ---- what comes of it
+
+-- a read that failed is told by what was heard
+comes_heard : (ended unread fails : Type 0) (words : List (List ℕ)) (input : List ℕ) (before after : Switches) (due : Status) (kept last : List ℕ) → (unread → fails)
+    → Comes ended unread words input before after due kept last → Comes ended fails words input before after due kept last
+comes_heard ended unread fails words input before after status.Done kept last f h = h
+comes_heard ended unread fails words input before after status.Usage kept last f h = h
+comes_heard ended unread fails words input before after status.Policy kept last f h = h
+comes_heard ended unread fails words input before after status.Script kept last f h = h
+comes_heard ended unread fails words input before after status.ReadFault kept last f h = (h.0, f h.1, h.2)
+comes_heard ended unread fails words input before after status.WriteFault kept last f h = h
+comes_heard ended unread fails words input before after status.NoMemory kept last f h = h
+comes_heard ended unread fails words input before after status.TooLong kept last f h = h
+comes_heard ended unread fails words input before after status.BoardFault kept last f h = h
+comes_heard ended unread fails words input before after status.Worn kept last f h = h
+
+module _ (words : List (List ℕ)) (heard : List Answer) (board : BoardView) (after : Switches) (text : List ℕ) where
+  ran_reports : (s : Status) (kept last : List ℕ) → IsReporting s → IsDue s (length program_devices) words (given heard)
+      → RunsPolicy (tells_end heard ≡ true) words (given heard) (switches program_devices board) after s kept last → text ≡ kept ++ last → Reports s words heard board.log after.board.log text
+  ran_reports s kept last reporting due h is = record {
     due = due;
-    command = command;
-    has_command = has_command;
-    policy = policy;
-    has_policy = has_policy;
-    is_text = right policy command text r;
+    command = h.command;
+    has_command = h.has_command;
+    ended = λ reading. (h.read reading).0;
+    policy = h.policy;
+    has_policy = h.has_policy;
+    end = h.end;
+    result_is = h.status_is;
+    refused_at = h.ran.refused_at;
+    report = h.report;
+    right = right_of h.command h.end h.policy (texts_of h.command (given heard)) board after h.report (to_end h.end (subst IsReporting h.status_is reporting)) h.ran.did;
+    text_is = is ∙ ap (λ k. k ++ last) h.kept_is ∙ ap (λ l. kept_of h.command h.report ++ l) h.last_is;
   }
 
-  unread_text : (status : Status) (text : List ℕ) → IsText (tells_end heard ≡ true) (IsUnread source left) status words (given heard) text
-      → IsText (tells_end heard ≡ true) (fails heard ≡ true) status words (given heard) text
-  unread_text Done text t = absurd t
-  unread_text Usage text t = t
-  unread_text PolicyRefused text t = t
-  unread_text Script text t = absurd t
-  unread_text ReadFault text (w, u, e) = (w, at_heard source left u.1 heard is, e)
-  unread_text WriteFault text t = absurd t
-  unread_text NoMemory text t = absurd t
-  unread_text TooLong text t = t
-  unread_text Worn text t = absurd t
+  -- a run that isn't cut short comes to its status
+  uncut : (s due : Status) (kept last : List ℕ) → (IsCutting s → ⊥) → IsOrCut due s kept last text → (s ≡ due) × (text ≡ kept ++ last)
+  uncut s due kept last whole (inl h) = h
+  uncut s due kept last whole (inr (given, cut, front, is, e)) = absurd (whole cut)
 
-  cut_heard : (end : SimEnd) (text : List ℕ) → IsCut end (tells_end heard ≡ true) (IsUnread source left) words (given heard) program_devices text
-      → IsCut end (tells_end heard ≡ true) (fails heard ≡ true) words (given heard) program_devices text
-  cut_heard end text (inl (status, whole, t, front)) = inl (status, whole, unread_text status whole t, front)
-  cut_heard end text (inr rest) = inr rest
+  module _ (unread : Type 0) where
+    abbrev Came : Status → List ℕ → List ℕ → Type 0
+    Came s kept last = Comes (tells_end heard ≡ true) unread words (given heard) (switches program_devices board) after s kept last
 
-  words_are : (s : Status) → s ≡ ReadFault → (¬ (AreWords words) → IsOrUnwritten Usage s) → AreWords words
-  words_are s e f = cases (words_or words)
-    where
-      none : IsOrUnwritten Usage s → ⊥
-      none (inl u) = let both = sym u ∙ e in cc
-      none (inr (inl u)) = let both = sym u ∙ e in cc
-      none (inr (inr u)) = let both = sym u ∙ e in cc
+    came_reports : (s : Status) (kept last : List ℕ) → IsReporting s → (¬ (IsFault s) → IsDue s (length program_devices) words (given heard)) → Came s kept last → text ≡ kept ++ last
+        → Reports s words heard board.log after.board.log text
+    came_reports status.Done kept last o d h is = ran_reports status.Done kept last tt (d (λ f. f)) h is
+    came_reports status.Script kept last o d h is = ran_reports status.Script kept last tt (d (λ f. f)) h is
+    came_reports status.Usage kept last o d h is = absurd o
+    came_reports status.Policy kept last o d h is = absurd o
+    came_reports status.ReadFault kept last o d h is = absurd o
+    came_reports status.WriteFault kept last o d h is = absurd o
+    came_reports status.NoMemory kept last o d h is = absurd o
+    came_reports status.TooLong kept last o d h is = absurd o
+    came_reports status.BoardFault kept last o d h is = absurd o
+    came_reports status.Worn kept last o d h is = absurd o
 
-      cases : AreWords words ⊎ ¬ (AreWords words) → AreWords words
-      cases (inl w) = w
-      cases (inr n) = absurd (none (f n))
+    not_cutting : (s : Status) → IsReporting s → IsCutting s → ⊥
+    not_cutting status.Done o cut = cut
+    not_cutting status.Script o cut = cut
+    not_cutting status.Usage o cut = cut
+    not_cutting status.Policy o cut = cut
+    not_cutting status.ReadFault o cut = cut
+    not_cutting status.WriteFault o cut = o
+    not_cutting status.NoMemory o cut = o
+    not_cutting status.TooLong o cut = cut
+    not_cutting status.BoardFault o cut = cut
+    not_cutting status.Worn o cut = cut
 
-  ran_by : (s : Status) → Promises source left old new program_devices after (length program_devices) words s → Ran s
-  ran_by Done p =
-      let (text, report, wrote) = at_input p.told heard is in
-      (text, reports Done (at_input (p.whole tt) heard is) (at_input (p.done refl) heard is) text report, wrote)
-  ran_by Script p =
-      let (text, report, wrote) = at_input p.told heard is in
-      (text, reports Script (at_input (p.whole tt) heard is) (at_input (p.script refl) heard is) text report, wrote)
-  ran_by Usage p = (last_line Usage, (p.usage refl, refl), p.usage_text refl)
-  ran_by PolicyRefused p =
-      let (text, refusal, wrote) = at_input (p.policy_text refl) heard is in
-      let (fit, command, has, none) = at_input (p.policy refl) heard is in
-      (text, (at_input (p.whole tt) heard is, fit, none, refusal), wrote)
-  ran_by ReadFault p = (last_line ReadFault, (words_are ReadFault refl p.usage_exact, at_heard source left (p.read_fault refl).1 heard is, refl), p.read_text refl)
-  ran_by TooLong p = let due = at_input (p.too_long refl) heard is in (last_line TooLong, (due.0, due.1, refl), p.too_long_text refl)
-  ran_by WriteFault p = let (text, cut, wrote) = at_input p.cut heard is in (text, cut_heard ends.WriteFault text cut, wrote)
-  ran_by NoMemory p = let (text, cut, wrote) = at_input p.cut heard is in (text, cut_heard ends.NoMemory text cut, wrote)
-  ran_by Worn p = let (end, (text, short, wrote)) = at_input p.told heard is in (text, (end, after, short), wrote)
+    reports : (s : Status) → IsReporting s → (¬ (IsFault s) → IsDue s (length program_devices) words (given heard))
+        → Results (tells_end heard ≡ true) unread words (given heard) (switches program_devices board) after s text → Reports s words heard board.log after.board.log text
+    reports s reporting due r =
+        let (is, text_is) = uncut s r.came_to r.kept r.last (not_cutting s reporting) r.written in
+        came_reports s r.kept r.last reporting due (subst (λ (d : Status). Came d r.kept r.last) (sym is) r.comes) text_is
 
-  front_of : (text : List ℕ) → Wrote old new text → WroteFront old new (last_line ReadFault) → IsFront text (last_line ReadFault)
-  front_of text wrote (front, f, w) =
-      subst (λ t. IsFront t (last_line ReadFault)) (append_cancel_left old.took front text (sym w.took ∙ wrote.took)) f
+-- ---- a run
+
+module _ (source left : SourceView) (old new : SinkView) (before after : BoardView) (last : List Meaning) (words : List (List ℕ)) (heard : List Answer)
+    (is : left.answers ≡ source.answers ++ heard) where
+  front_of : (text : List ℕ) → Wrote old new text → WroteFront old new (last_line status.ReadFault) → IsFront text (last_line status.ReadFault)
+  front_of text wrote (front, f, w) = subst (λ t. IsFront t (last_line status.ReadFault)) (append_cancel_left old.took front text (sym w.took ∙ wrote.took)) f
 
   none_heard : left ≡ source → heard ≡ []
   none_heard same = append_cancel_left source.answers heard [] (sym is ∙ ap (λ (s : SourceView). s.answers) same ∙ sym (append-nil source.answers))
 
-  over_by : (s : Status) → Promises source left old new program_devices after (length program_devices) words s → Ran s → RunsOver source left old new words s
-  over_by s p (text, run, wrote) = record {
-    heard = heard;
-    were_heard = is;
-    text = text;
-    wrote = wrote;
-    run = run;
-    exact = at_input p.exact heard is;
-    reading = at_heard source left p.reading heard is;
-    unread = λ n. none_heard (p.unread n);
-    first = λ f. front_of text wrote (at_heard source left p.failed heard is f);
-    read_fault = λ e. (p.read_fault e).0;
-    write_fault = p.write_fault;
-  }
+  over_by : (s : Status) → Promises source left old new before after program_devices last (length program_devices) words s → RunsOver source left old new before after words s
+  over_by s p =
+      let (text, r, wrote) = at_input p.results heard is in
+      record {
+        heard = heard;
+        were_heard = is;
+        text = text;
+        wrote = wrote;
+        results = (
+          last,
+          record {
+            came_to = r.came_to;
+            kept = r.kept;
+            last = r.last;
+            comes = comes_heard (tells_end heard ≡ true) (IsUnread source left) (fails heard ≡ true) words (given heard) (switches program_devices before) (switches last after) r.came_to r.kept r.last
+                (λ u. at_heard source left u.1 heard is) r.comes;
+            written = r.written;
+          },
+        );
+        exact = at_input p.exact heard is;
+        reports = λ o. reports words heard before (switches last after) text (IsUnread source left) s o (at_input p.due heard is) r;
+        reading = at_heard source left p.reading heard is;
+        unread = λ n. none_heard (p.unread n);
+        first = λ f. front_of text wrote (at_heard source left p.failed heard is f);
+        read_fault = λ e. (p.read_fault e).0;
+        reads_spared = p.reads_spared;
+        write_fault = p.write_fault;
+        writes_spared = p.writes_spared;
+        board_fault = p.board_fault;
+        board_spared = p.board_spared;
+        board_aside = p.board_aside;
+        unserved = p.unserved;
+      }
 
-pub runs_over : (source left : SourceView) (old new : SinkView) (before after : List Meaning) (places : ℕ) (words : List (List ℕ)) (s : Status) → before ≡ program_devices
-    → places ≡ length program_devices → Promises source left old new before after places words s → RunsOver source left old new words s
-runs_over source left old new before after places words s e n p =
-    let q : Promises source left old new program_devices after places words s =
-    subst (λ (b : List Meaning). Promises source left old new b after places words s) e p in
-    let r : Promises source left old new program_devices after (length program_devices) words s =
-    subst (λ (k : ℕ). Promises source left old new program_devices after k words s) n q in
-    let (heard, is, reading) = r.reading in over_by source left old new after words heard is s r (ran_by source left old new after words heard is s r)
+pub runs_over : (source left : SourceView) (old new : SinkView) (before after : BoardView) (first last : List Meaning) (places : ℕ) (words : List (List ℕ)) (s : Status)
+    → first ≡ program_devices → places ≡ length program_devices → Promises source left old new before after first last places words s
+    → RunsOver source left old new before after words s
+runs_over source left old new before after first last places words s e n p =
+    let q : Promises source left old new before after program_devices last places words s =
+    subst (λ (b : List Meaning). Promises source left old new before after b last places words s) e p in
+    let r : Promises source left old new before after program_devices last (length program_devices) words s =
+    subst (λ (k : ℕ). Promises source left old new before after program_devices last k words s) n q in
+    let (heard, is, reading) = r.reading in over_by source left old new before after last words heard is s r
 
 -- a run whose devices find no memory
-pub never_run : (source : SourceView) (old : SinkView) (words : List (List ℕ)) → RunsOver source source old old words NoMemory
-never_run source old words = record {
+never_run : (source : SourceView) (old : SinkView) (board : BoardView) (words : List (List ℕ)) → RunsOver source source old old board board words status.NoMemory
+never_run source old board words = record {
   heard = [];
   were_heard = sym (append-nil source.answers);
   text = [];
   wrote = wrote_nothing old;
-  run = inr (inl refl);
-  exact = λ status due. inr (inr (inr (inl refl)));
+  results = (
+    program_devices,
+    record {
+      came_to = status.NoMemory;
+      kept = [];
+      last = [];
+      comes = inl (record { same = refl; nothing = refl; text_is = refl });
+      written = inl (refl, refl);
+    },
+  );
+  exact = λ due is_due. inr tt;
+  reports = λ o. absurd o;
   reading = (omega arith, inl refl);
   unread = λ n. refl;
   first = λ f. absurd (let no = f in cc);
   read_fault = λ e. absurd (let no = e in cc);
+  reads_spared = λ u. absurd u;
   write_fault = λ e. absurd (let no = e in cc);
+  writes_spared = λ other. refl;
+  board_fault = λ e. absurd (let no = e in cc);
+  board_spared = λ b. absurd b;
+  board_aside = λ a. absurd a;
+  unserved = λ n. refl;
 }
+
+-- the same, where nothing was done
+pub never_ran : (source left : SourceView) (old new : SinkView) (before after : BoardView) (words : List (List ℕ)) → left ≡ source → new ≡ old → after ≡ before
+    → RunsOver source left old new before after words status.NoMemory
+never_ran source left old new before after words e f k =
+    subst (λ (l : SourceView). RunsOver source l old new before after words status.NoMemory) (sym e)
+    (subst (λ (n : SinkView). RunsOver source source old n before after words status.NoMemory) (sym f)
+    (subst (λ (b : BoardView). RunsOver source source old old before b words status.NoMemory) (sym k) (never_run source old before words)))
 
 -- ---- from a fresh source to a fresh sink
 
-module _ {source left : SourceView} {old new : SinkView} {words : List (List ℕ)} {s : Status} (r : RunsOver source left old new words s) (unread : source.answers ≡ [])
-    (unwritten : old.took ≡ []) where
+module _ {source left : SourceView} {old new : SinkView} {before after : BoardView} {words : List (List ℕ)} {s : Status} (r : RunsOver source left old new before after words s)
+    (unread : source.answers ≡ []) (unwritten : old.took ≡ []) where
   heard_is : r.heard ≡ left.answers
   heard_is = sym (r.were_heard ∙ ap (λ (l : List Answer). l ++ r.heard) unread)
 
   text_is : r.text ≡ new.took
   text_is = sym (r.wrote.took ∙ ap (λ (l : List ℕ). l ++ r.text) unwritten)
 
-  pub fresh_run : HasRun s words left.answers new.took
-  fresh_run = subst (λ (t : List ℕ). HasRun s words left.answers t) text_is (subst (λ (h : List Answer). HasRun s words h r.text) heard_is r.run)
+  pub fresh_results : ResultsIn s words left.answers before after new.took
+  fresh_results =
+      subst (λ (t : List ℕ). ResultsIn s words left.answers before after t) text_is
+      (subst (λ (h : List Answer). ResultsIn s words h before after r.text) heard_is r.results)
+
+  pub fresh_reports : IsReporting s → Reports s words left.answers before.log after.log new.took
+  fresh_reports o =
+      subst (λ (t : List ℕ). Reports s words left.answers before.log after.log t) text_is
+      (subst (λ (h : List Answer). Reports s words h before.log after.log r.text) heard_is (r.reports o))
 
   pub fresh_exact : IsExact s (length program_devices) words (given left.answers)
   fresh_exact = subst (λ (h : List Answer). IsExact s (length program_devices) words (given h)) heard_is r.exact
@@ -240,11 +321,12 @@ module _ {source left : SourceView} {old new : SinkView} {words : List (List ℕ
   pub fresh_reading : IsReading left.answers
   fresh_reading = subst IsReading heard_is r.reading
 
-  pub fresh_unread : ¬ (AreWords words) → left.answers ≡ []
+  pub fresh_unread : ¬ (AreReading words) → left.answers ≡ []
   fresh_unread n = sym heard_is ∙ r.unread n
 
-  pub fresh_first : fails left.answers ≡ true → IsFront new.took (last_line ReadFault)
-  fresh_first f = subst (λ (t : List ℕ). IsFront t (last_line ReadFault)) text_is (r.first (subst (λ (h : List Answer). fails h ≡ true) (sym heard_is) f))
+  pub fresh_first : fails left.answers ≡ true → IsFront new.took (last_line status.ReadFault)
+  fresh_first f = subst (λ (t : List ℕ). IsFront t (last_line status.ReadFault)) text_is (r.first (subst (λ (h : List Answer). fails h ≡ true) (sym heard_is) f))
 
-pub done_by : (s : Status) (words : List (List ℕ)) (heard : List Answer) (text : List ℕ) → HasRun s words heard text → s ≡ Done → Reports Done words heard text
-done_by s words heard text h e = subst (λ (x : Status). HasRun x words heard text) e h
+pub reports_by : (s t : Status) (words : List (List ℕ)) (heard : List Answer) (before after : List Act) (text : List ℕ) → IsReporting t
+    → (IsReporting s → Reports s words heard before after text) → s ≡ t → Reports t words heard before after text
+reports_by s t words heard before after text o h e = subst (λ (x : Status). Reports x words heard before after text) e (h (subst IsReporting (sym e) o))

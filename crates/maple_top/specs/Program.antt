@@ -1,25 +1,32 @@
 -- What a run of the program over its own devices has read and written.
-use Rattle.std.specs.Prelude.{◌≡◌, ℕ, zero, suc, true, None, List, [], ◌∷◌, ◌++◌, length}
-use Rattle.maple_base.specs.declared.decision.Settings.{Settings}
+use Rattle.std.specs.Prelude.{◌≡◌, ◌≢◌, ℕ, zero, suc, true, None, List, [], ◌∷◌, ◌++◌, length}
 use Rattle.maple_io.specs.Answers.{ends as tells_end, fails, given}
+use Rattle.maple_io.specs.declared.act.Act.{Act}
 use Rattle.maple_io.specs.declared.answer.Answer.{Answer}
+use Rattle.maple_io.specs.Boards.{BoardFailed, BoardView, NoBoardFailed}
 use Rattle.maple_io.specs.Fronts.{IsFront}
-use Rattle.maple_io.specs.Views.{ReadFailed, SinkView, SourceView, WriteFailed, Wrote}
+use Rattle.maple_io.specs.Views.{NoReadFailed, NoWriteFailed, ReadFailed, SinkView, SourceView, WriteFailed, Wrote}
 use Rattle.policy_lang.specs.declared.Policy.{Policy}
 use Rattle.policy_text.specs.Printed.{policy_text}
 use Rattle.device_port.specs.Devices.{Meaning}
 use Rattle.machine_steps.specs.Histories.{Turn}
 use Rattle.model_switch.specs.States.{meaning_of, opened}
 use Rattle.sim_laws.specs.Laws.{AreWorldRun}
-use Rattle.sim_driver.specs.declared.drive.SimEnd.TheVariants as ends
-use Rattle.sim_driver.specs.Runs.{AllHadMemory, IsFollowed}
+use Rattle.sim_driver.specs.Runs.{AllHadMemory, Given as SimGiven, IsFollowed, given as sim_given}
+use Rattle.serve_steps.specs.declared.end.ServeEnd.{ServeEnd}
+use Rattle.serve_steps.specs.Parts.{given as serve_given}
+use Rattle.serve_steps.specs.Runs.{HasEnded as HasServeEnded}
+use Rattle.command_words.specs.declared.words.Command.{Command}
+use Rattle.command_words.specs.declared.words.Command.TheVariants.{Sim, Check, Gen, Serve}
 use Rattle.maple_top.specs.declared.status.Status.{Status}
-use Rattle.maple_top.specs.declared.status.Status.TheVariants.{Done, Usage, Policy as PolicyRefused, Script, ReadFault, WriteFault, NoMemory, TooLong, Worn}
-use Rattle.maple_top.specs.declared.words.Command.{Command}
-use Rattle.maple_top.specs.declared.words.Command.TheVariants.{Sim, Check}
-use Rattle.maple_top.specs.Due.{AreWords, HasCommand, HasPolicy, IsCut, IsDue, IsExact, IsReading, IsShort, IsText, run_given}
-use Rattle.maple_top.specs.Running.{end_of, refused_of}
+use Rattle.maple_top.specs.declared.status.Status.TheVariants as status
+use Rattle.maple_top.specs.Due.{AreReading, AreServing, HasCommand, HasPolicy, IsDue, IsExact, IsReading, refused}
+use Rattle.maple_top.specs.Ends.{IsAside, IsBoardSpared, IsUnhindered, status_of}
+use Rattle.maple_top.specs.Outcomes.{EndsAtRefused, Results, kept_of, last_of, switches}
 use Rattle.maple_top.specs.Statuses.{last_line}
+use Rattle.maple_top.specs.Texts.{Texts, reads, texts_of}
+
+-- ---- the devices
 
 -- the device at a place: a switch of this datapath id, with 48 ports and room for 65,535 rules, just made
 abbrev pub device_at : ℕ → Meaning
@@ -34,62 +41,73 @@ devices_to (suc place) = devices_to place ++ device_at (suc place) ∷ []
 unfoldable pub program_devices : List Meaning
 program_devices = devices_to 64
 
--- the text is the report of deeds that follow the script, up to its end or its first refused line, and then the last line. The deeds are a run of the world,
--- which is right: each rule that a ready session's switch hits decides as plain evaluation does; memory sufficed for each turn of the machine
-pub record IsRightReport (policy : Policy) (settings : Settings) (input text : List ℕ) : Type 0 where
+-- ---- what is right
+
+-- the report is that of deeds that follow the script, up to its end or its first refused line. The deeds are a run of the world, which is right: each rule
+-- that a ready session's switch hits decides as plain evaluation does; memory sufficed for each turn of the machine
+pub record IsRightReport (g : SimGiven) (report : List ℕ) : Type 0 where
   pub after : List Meaning
   pub history : List Turn
-  pub report : List ℕ
-  pub followed : IsFollowed (run_given policy settings program_devices input) after history report
+  pub followed : IsFollowed g after history report
   pub memory : AllHadMemory history
-  pub text_is : text ≡ report ++ end_of (refused_of (run_given policy settings program_devices input))
-  pub world : AreWorldRun policy settings program_devices followed.events followed.last
+  pub world : AreWorldRun g.policy g.settings g.devices followed.events followed.last
 
--- what a command writes of a policy
-abbrev pub IsRightText : Policy → Command → List ℕ → List ℕ → Type 0
-IsRightText policy (Sim settings) input text = IsRightReport policy settings input text
-IsRightText policy Check input text = text ≡ policy_text policy
+-- the report of a command that came to its end, or to a refused line, while the board did this
+abbrev pub IsRight : Command → ServeEnd → Policy → Texts → List Act → List Act → List ℕ → Type 0
+IsRight (Sim settings) end policy texts before after report =
+    IsRightReport (sim_given policy settings program_devices texts.script texts.first_line) report
+IsRight (Gen number settings) end policy texts before after report =
+    IsRightReport (sim_given policy settings program_devices texts.script texts.first_line) report
+IsRight Check end policy texts before after report = report ≡ policy_text policy
+IsRight (Serve listen control settings) end policy texts before after report =
+    HasServeEnded end (serve_given policy settings texts.script texts.first_line listen control) before after report
 
--- all of an input was given, up to its end, this status is due by it, and the text is what the words' command writes of the input's policy
-pub record Reports (status : Status) (words : List (List ℕ)) (heard : List Answer) (text : List ℕ) : Type 0 where
-  pub ended : tells_end heard ≡ true
-  pub due : IsDue status (length program_devices) words (given heard)
+-- the status of a run that came to its end, or to a refused line
+abbrev pub IsReporting : Status → Type 0
+IsReporting status.Done = Unit {0}
+IsReporting status.Script = Unit {0}
+IsReporting result = ⊥
+
+-- the input was given up to its end, where the command reads it; this status is due; and the text is what the words' command writes of a right report
+pub record Reports (result : Status) (words : List (List ℕ)) (heard : List Answer) (before after : List Act) (text : List ℕ) : Type 0 where
+  pub due : IsDue result (length program_devices) words (given heard)
   pub command : Command
   pub has_command : HasCommand command words
+  pub ended : reads command ≡ true → tells_end heard ≡ true
   pub policy : Policy
-  pub has_policy : HasPolicy policy (given heard)
-  pub is_text : IsRightText policy command (given heard) text
+  pub has_policy : HasPolicy policy (texts_of command (given heard))
+  pub end : ServeEnd
+  pub result_is : result ≡ status_of end
+  pub refused_at : EndsAtRefused end (refused command (length program_devices) (texts_of command (given heard)))
+  pub report : List ℕ
+  pub right : IsRight command end policy (texts_of command (given heard)) before after report
+  pub text_is : text ≡ kept_of command report ++ last_of command end report
 
--- the text is the line of this status: of a policy that is refused, where all of the input was given, up to its end
-abbrev pub IsLine : Status → List (List ℕ) → List Answer → List ℕ → Type 0
-IsLine status words heard text = IsText (tells_end heard ≡ true) (fails heard ≡ true) status words (given heard) text
+-- ---- a run
 
--- all of an input was given, up to its end, and the text is the report of its run as far as it came, and the line of a worn hall
-abbrev pub ReportsWorn : List (List ℕ) → List Answer → List ℕ → Type 0
-ReportsWorn words heard text = (tells_end heard ≡ true) × (after : List Meaning) × IsShort ends.Worn words (given heard) program_devices after text
-
--- what a run that ended so was given, and what it wrote
-abbrev pub HasRun : Status → List (List ℕ) → List Answer → List ℕ → Type 0
-HasRun Done words heard text = Reports Done words heard text
-HasRun Script words heard text = Reports Script words heard text
-HasRun Usage words heard text = IsLine Usage words heard text
-HasRun PolicyRefused words heard text = IsLine PolicyRefused words heard text
-HasRun ReadFault words heard text = IsLine ReadFault words heard text
-HasRun TooLong words heard text = IsLine TooLong words heard text
-HasRun WriteFault words heard text = IsCut ends.WriteFault (tells_end heard ≡ true) (fails heard ≡ true) words (given heard) program_devices text
-HasRun NoMemory words heard text = IsCut ends.NoMemory (tells_end heard ≡ true) (fails heard ≡ true) words (given heard) program_devices text
-HasRun Worn words heard text = ReportsWorn words heard text
+-- what comes of a run of the program, by the bytes that were given and those that were taken
+abbrev pub ResultsIn : Status → List (List ℕ) → List Answer → BoardView → BoardView → List ℕ → Type 0
+ResultsIn result words heard before after text =
+    (devices : List Meaning)
+    × Results (tells_end heard ≡ true) (fails heard ≡ true) words (given heard) (switches program_devices before) (switches devices after) result text
 
 -- a run over the devices of the program, from any source to any sink
-pub record RunsOver (source left : SourceView) (old new : SinkView) (words : List (List ℕ)) (result : Status) : Type 0 where
+pub record RunsOver (source left : SourceView) (old new : SinkView) (before after : BoardView) (words : List (List ℕ)) (result : Status) : Type 0 where
   pub heard : List Answer
   pub were_heard : left.answers ≡ source.answers ++ heard
   pub text : List ℕ
   pub wrote : Wrote old new text
-  pub run : HasRun result words heard text
+  pub results : ResultsIn result words heard before after text
   pub exact : IsExact result (length program_devices) words (given heard)
+  pub reports : IsReporting result → Reports result words heard before.log after.log text
   pub reading : IsReading heard
-  pub unread : ¬ (AreWords words) → heard ≡ []
-  pub first : fails heard ≡ true → IsFront text (last_line ReadFault)
-  pub read_fault : result ≡ ReadFault → ReadFailed source left
-  pub write_fault : result ≡ WriteFault → WriteFailed old new
+  pub unread : ¬ (AreReading words) → heard ≡ []
+  pub first : fails heard ≡ true → IsFront text (last_line status.ReadFault)
+  pub read_fault : result ≡ status.ReadFault → ReadFailed source left
+  pub reads_spared : IsUnhindered result → NoReadFailed source left
+  pub write_fault : result ≡ status.WriteFault → WriteFailed old new
+  pub writes_spared : result ≢ status.WriteFault → NoWriteFailed old new
+  pub board_fault : result ≡ status.BoardFault → BoardFailed before after
+  pub board_spared : IsBoardSpared result → NoBoardFailed before after
+  pub board_aside : IsAside result → after ≡ before
+  pub unserved : ¬ (AreServing words) → after ≡ before

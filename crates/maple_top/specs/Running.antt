@@ -1,51 +1,70 @@
--- What a script is due that is run over devices, and what is told of it.
-use Rattle.std.specs.Prelude.{◌≡◌, ◌⊎◌, ℕ, List, ◌++◌, length, Option, Some, None}
-use Rattle.maple_io.specs.Fronts.{IsFront}
-use Rattle.maple_io.specs.Views.{SinkView}
-use Rattle.report_text.specs.declared.line.Line.TheVariants.{RefusedScript}
-use Rattle.report_text.specs.declared.line.ScriptRefusal.{ScriptRefusal}
-use Rattle.report_text.specs.Report.{spelled}
+-- What the parts of a run say of it.
+use Rattle.std.specs.Prelude.{◌≡◌, ℕ, ◌<◌, true, List, [], length, Result, Ok, Err}
+use Rattle.std.specs.declared.vec.Vec.{Vec}
+use Rattle.maple_io.specs.Boards.{BoardView}
+use Rattle.maple_io.specs.Answers.{ends as tells_end, fails, given, gives}
+use Rattle.maple_io.specs.declared.answer.Answer.{Answer}
+use Rattle.maple_io.specs.Views.{SinkView, Wrote}
+use Rattle.policy_lang.specs.declared.Policy.{Policy}
 use Rattle.device_port.specs.Devices.{Meaning}
-use Rattle.script_text.specs.Orders.{refused_from}
-use Rattle.sim_driver.specs.declared.drive.SimEnd.{SimEnd}
-use Rattle.sim_driver.specs.declared.drive.SimEnd.TheVariants as ends
-use Rattle.sim_driver.specs.Runs.{Given, HasEnded}
+use Rattle.report_text.specs.declared.line.Line.{Line}
+use Rattle.report_text.specs.Report.{spelled}
+use Rattle.serve_steps.specs.declared.end.ServeEnd.{ServeEnd}
+use Rattle.command_words.specs.declared.words.Command.{Command}
 use Rattle.maple_top.specs.declared.status.Status.{Status}
-use Rattle.maple_top.specs.declared.status.Status.TheVariants.{Done, Script, Worn}
-use Rattle.maple_top.specs.Ends.{EndsTelling}
-use Rattle.maple_top.specs.Statuses.{last_line}
+use Rattle.maple_top.specs.declared.status.Status.TheVariants as status
+use Rattle.maple_top.specs.declared.input.ReadStop.{ReadStop}
+use Rattle.maple_top.specs.declared.input.ReadStop.TheVariants as stops
+use Rattle.maple_top.specs.declared.texts.Texts.{Texts as LentTexts}
+use Rattle.maple_top.specs.declared.policies.PolicyStop.{PolicyStop}
+use Rattle.maple_top.specs.declared.policies.PolicyStop.TheVariants.{Refused, NoMemory}
+use Rattle.maple_top.specs.Due.{HasNone, HasPolicy, most_bytes}
+use Rattle.maple_top.specs.Ends.{Ends, IsOrCut, WroteSome, status_of}
+use Rattle.maple_top.specs.Outcomes.{Ran, Switches, kept_of, last_of, switches}
+use Rattle.maple_top.specs.Refusals.{IsRefusal}
+use Rattle.maple_top.specs.Texts.{Texts}
 
--- the first refused line of a script, and why it is refused
-abbrev pub refused_of : Given → Option (ℕ × ScriptRefusal)
-refused_of g = refused_from (length g.devices) g.first g.lines
+-- what is read of texts
+abbrev pub read_texts : LentTexts → Texts
+read_texts texts = record { policy = texts.policy.now; script = texts.script.now; first_line = texts.first_line }
 
--- the status that a script is due by it
-abbrev pub due_of : Option (ℕ × ScriptRefusal) → Status
-due_of None = Done
-due_of (Some r) = Script
+-- a command ended so under a policy, having written this text
+pub record RunsUnder (command : Command) (policy : Policy) (texts : Texts) (before after : Switches) (result : Status) (text : List ℕ) : Type 0 where
+  pub end : ServeEnd
+  pub report : List ℕ
+  pub ran : Ran command end policy texts before after report
+  pub written : IsOrCut (status_of end) result (kept_of command report) (last_of command end report) text
 
--- the last line behind its report: that of the refusal, or of a run that is done
-abbrev pub end_of : Option (ℕ × ScriptRefusal) → List ℕ
-end_of None = last_line Done
-end_of (Some r) = spelled (RefusedScript r.0 r.1)
+-- the same with what was written
+abbrev pub EndsPolicy : Command → Policy → Texts → Switches → Switches → SinkView → SinkView → Status → Type 0
+EndsPolicy command policy texts before after old new result = WroteSome old new (RunsUnder command policy texts before after result)
 
--- the text is the report of a run up to the end of the script or its first refused line, and the last line; the devices are so at the end
-abbrev pub IsTold : Given → List Meaning → List ℕ → Type 0
-IsTold g after text = (report : List ℕ) × HasEnded ends.Done g after report × (text ≡ report ++ end_of (refused_of g))
+-- of a command that makes no call of the board, whatever that is
+abbrev pub EndsOver : Command → Policy → Texts → List Meaning → List Meaning → SinkView → SinkView → Status → Type 0
+EndsOver command policy texts before after old new result =
+    (board : BoardView) → EndsPolicy command policy texts (switches before board) (switches after board) old new result
 
--- the text is the report of a run that ended so, and then a front of this line
-abbrev pub IsReportThen : SimEnd → Given → List Meaning → List ℕ → List ℕ → Type 0
-IsReportThen end g after line text = (report front : List ℕ) × HasEnded end g after report × IsFront front line × (text ≡ report ++ front)
+-- of one that makes no call of the devices, whatever they are
+abbrev pub EndsServing : Command → Policy → Texts → BoardView → BoardView → SinkView → SinkView → Status → Type 0
+EndsServing command policy texts before after old new result =
+    (devices : List Meaning) → EndsPolicy command policy texts (switches devices before) (switches devices after) old new result
 
--- the text is what a run wrote that ended so, or the report of one that was to go on with its last line, with a front of that line: it came to the end of the
--- script or its first refused line, or the hall was worn. Where a worn hall is the end, it is that report with the whole line. The devices are so at the end
-abbrev pub IsCutShort : SimEnd → Given → List Meaning → List ℕ → Type 0
-IsCutShort ends.Worn g after text = (report : List ℕ) × HasEnded ends.Worn g after report × (text ≡ report ++ last_line Worn)
-IsCutShort end g after text =
-    HasEnded end g after text
-    ⊎ (IsReportThen ends.Done g after (end_of (refused_of g)) text ⊎ IsReportThen ends.Worn g after (last_line Worn) text)
+-- a command's texts were run under their policy, have none, or found no memory
+pub data RunsTexts (command : Command) (texts : Texts) (before after : Switches) (old new : SinkView) (result : Status) : Type 0 where
+  ran : (policy : Policy) → HasPolicy policy texts → WroteSome old new (RunsUnder command policy texts before after result)
+      → RunsTexts command texts before after old new result
+  refused : after ≡ before → HasNone texts → (line : Line) → IsRefusal texts.policy line → Ends old new status.Policy (spelled line) result
+      → RunsTexts command texts before after old new result
+  lacked_memory : after ≡ before → result ≡ status.NoMemory → Wrote old new [] → RunsTexts command texts before after old new result
 
--- a script was run, and the devices are so at the end
-abbrev pub RunsScript : Given → List Meaning → SinkView → SinkView → Status → Type 0
-RunsScript g after old new result =
-    EndsTelling old new (due_of (refused_of g)) (IsTold g after) (λ end text. IsCutShort end g after text) result
+-- a text gives no policy: by the line that refuses it, or for want of memory
+abbrev pub IsPolicyStop : List ℕ → PolicyStop → Type 0
+IsPolicyStop text (Refused l) = IsRefusal text l
+IsPolicyStop text NoMemory = Unit {0}
+
+-- what the answers are where an input was read, by what that gave: all its bytes and its end, or why not
+abbrev pub ReadsBy : {Alloc : Type 0} → Result (Vec ℕ Alloc) ReadStop → List Answer → Type 0
+ReadsBy (Ok all) heard = (tells_end heard ≡ true) × (given heard ≡ all.items)
+ReadsBy (Err stops.Failed) heard = fails heard ≡ true
+ReadsBy (Err stops.TooLong) heard = (gives heard ≡ true) × (most_bytes < length (given heard))
+ReadsBy (Err stops.NoMemory) heard = gives heard ≡ true

@@ -39,6 +39,7 @@ fn last_line(status: Status) -> &'static [u8]
         Status::Usage => b"refused usage\n",
         Status::ReadFault => b"refused read\n",
         Status::TooLong => b"refused input\n",
+        Status::BoardFault => b"refused board\n",
         Status::Worn => b"refused worn\n",
         Status::Policy | Status::Script | Status::WriteFault | Status::NoMemory => b"",
     }

@@ -3,7 +3,7 @@ ghost use Rattle.std.specs.Prelude.{◌≡◌, ◌≢◌, ◌<◌, ◌≤◌, le
 ghost use Rattle.std.specs.Io.KnownBytes.{IsAtEnd};
 ghost use Rattle.maple_io.specs.Views.{Heard, NoReadFailed, ReadFailed};
 ghost use Rattle.maple_top.specs.Due.{IsFit, IsReading, ReadOver, ReadSome, most_bytes};
-ghost use Rattle.maple_top.specs.Runs.{ReadsBy};
+ghost use Rattle.maple_top.specs.Running.{ReadsBy};
 
 use maple_io::{Got, Source};
 use std::alloc::Global;

@@ -1,11 +1,11 @@
 // What is written of a policy alone.
-ghost use Rattle.std.specs.Prelude.{◌≡◌, ◌≢◌, IfErr, IfOk};
+ghost use Rattle.std.specs.Prelude.{◌≢◌, IfErr, IfOk};
 ghost use Rattle.maple_io.specs.Views.{NoWriteFailed};
 ghost use Rattle.policy_text.specs.Printed.{policy_text};
 ghost use Rattle.report_text.specs.Report.{spelled};
 ghost use Rattle.policy_text.specs.Texts.{IsTextOf};
 ghost use Rattle.maple_top.specs.Ends.{Ends};
-ghost use Rattle.maple_top.specs.Runs.{IsPolicyStop};
+ghost use Rattle.maple_top.specs.Running.{IsPolicyStop};
 
 use crate::finish::put_text;
 use crate::status::Status;

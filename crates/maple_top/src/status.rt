@@ -5,7 +5,7 @@ ghost use Rattle.maple_top.specs.Statuses.{status_number};
 /// How a run of the program ends.
 #[derive(Clone, Copy, Debug, PartialEq, Eq)]
 pub enum Status {
-    /// The input was read and run to its end.
+    /// The run came to its end.
     Done,
     /// The words aren't in the grammar.
     Usage,
@@ -22,12 +22,14 @@ pub enum Status {
     NoMemory,
     /// The input has more than 67,108,864 bytes.
     TooLong,
+    /// The board failed: it couldn't be started, or gave no further turn.
+    BoardFault,
     /// The hall of the machine has room for no further entry: its history has 2^62 of them.
-    Worn = 9,
+    Worn,
 }
 
 impl Status {
-    /// The exit status: 0 to 7 in the order of the variants, and 9.
+    /// The exit status: 0 to 9 in the order of the variants.
     pub fn number(self) -> u8
         ensures { result ≡ status_number self }
     {

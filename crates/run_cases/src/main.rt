@@ -7,6 +7,7 @@ mod examples;
 mod given;
 mod outcome;
 mod runs;
+mod summing;
 mod words;
 
 use checking::check_runs;

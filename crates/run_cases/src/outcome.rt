@@ -5,7 +5,7 @@ use crate::words::words_of;
 use case_text::push_text;
 use device_port::Device;
 use maple_base::NoMemory;
-use maple_io::{MemSink, MemSource};
+use maple_io::{MemBoard, MemSink, MemSource};
 use maple_top::{maple, program_device, push_idle};
 use packet_workers::Open;
 use std::alloc::{AllocError, Global};
@@ -49,6 +49,7 @@ pub fn outcome_of<R: Threads + Wait + Copy + Send + Sync>(
     let words = words_of(alloc, words)?;
     let mut source = source_of(alloc, given, input)?;
     let mut sink = MemSink::new(Vec::from_slice(alloc, &given.writes)?);
+    let mut board = no_turns(alloc)?;
     let mut boxes: Vec<Box<dyn Device + Send>> = Vec::new(alloc);
     for kind in given.kinds(alloc)? {
         match kind {
@@ -61,8 +62,23 @@ pub fn outcome_of<R: Threads + Wait + Copy + Send + Sync>(
             Kind::Failing(call) => push_idle(&mut boxes, Box::new(alloc, failing(alloc, call)?)?)?,
         }
     }
-    let status = maple(rt, alloc, &words, &mut source, &mut sink, &mut boxes, &Open).number();
+    let status = maple(
+        rt,
+        alloc,
+        &words,
+        &mut source,
+        &mut sink,
+        &mut boxes,
+        &Open,
+        &mut board,
+    )
+    .number();
     Ok(Outcome { status, sink })
+}
+
+// A board that ends at once.
+fn no_turns(alloc: Global) -> Result<MemBoard, NoMemory> {
+    MemBoard::new(Vec::new(alloc), Vec::new(alloc))
 }
 
 fn source_of(alloc: Global, given: &Given, input: &str) -> Result<MemSource, AllocError> {

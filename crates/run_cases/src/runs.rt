@@ -1,6 +1,7 @@
 // Runs of the top call.
 use crate::given::Given;
 use crate::outcome::{Outcome, outcome_of};
+use crate::summing::push_sums;
 use case_text::{CaseStop, Words};
 use maple_base::NoMemory;
 use std::alloc::Global;
@@ -43,6 +44,7 @@ impl<R: Threads + Wait + Copy + Send + Sync> Runs<R> {
             "check" => self.give("check", call, out),
             "both" => self.both(call, out),
             "form" => self.form(call, out),
+            "gen" => self.sums(call, out),
             word => {
                 self.set(word, call)?;
                 Ok(out.push_str("ok")?)
@@ -110,6 +112,20 @@ impl<R: Threads + Wait + Copy + Send + Sync> Runs<R> {
         if again.status != came.status || again.text() != came.text() {
             out.push_str(", and of that ")?;
             again.push(self.output.as_str(), out)?;
+        }
+        Ok(())
+    }
+
+    // Runs `gen` with these words, twice, and appends the sums of its summary.
+    fn sums(&self, call: Words<'_>, out: &mut String) -> Result<(), CaseStop> {
+        let mut words = String::from_str(self.alloc, "gen ")?;
+        words.push_str(call.rest())?;
+        let came = self.came(&words, "")?;
+        let again = self.came(&words, "")?;
+        push_sums(&came, out)?;
+        if came.status != again.status || came.text() != again.text() {
+            out.push_str(", and again ")?;
+            push_sums(&again, out)?;
         }
         Ok(())
     }

@@ -17,6 +17,8 @@ pub struct Given {
     pub turns: Vec<MemTurn>,
     /// The numbers of the board's calls that fail.
     pub calls: Vec<u64>,
+    /// The numbers of the reads that fail.
+    pub reads: Vec<u64>,
     /// The numbers of the writes that fail.
     pub writes: Vec<u64>,
     /// How often the board answers NotYet ahead of each send that takes bytes, and how many it takes then at most.
@@ -34,6 +36,7 @@ impl Given {
             settings: usual(),
             turns: Vec::new(alloc),
             calls: Vec::new(alloc),
+            reads: Vec::new(alloc),
             writes: Vec::new(alloc),
             slow: None,
         }
@@ -70,10 +73,11 @@ impl Given {
         Ok(())
     }
 
-    // A call of the board, or a write, that fails.
+    // A call of the board, a read, or a write, that fails.
     fn fault(&mut self, mut call: Words<'_>) -> Result<(), CaseStop> {
         match call.word() {
             "call" => self.calls.push(call.number()?)?,
+            "read" => self.reads.push(call.number()?)?,
             "write" => self.writes.push(call.number()?)?,
             _ => return Err(CaseStop::Unread),
         }

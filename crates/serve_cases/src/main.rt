@@ -1,7 +1,9 @@
 //! Cases of serving: whole runs over a board, with how each ends, what it writes, and what it sends.
 #![tactic(auto)]
 
+mod calls;
 mod checking;
+mod command;
 mod given;
 mod messages;
 mod outcome;

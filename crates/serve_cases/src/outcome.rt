@@ -1,29 +1,20 @@
 // What comes of a run.
+use crate::calls::{Entry, Finish, finish_of};
 use crate::given::Given;
-use crate::settings::tested;
 use crate::slow_board::SlowBoard;
 use crate::turns::board_of;
 use case_text::{CaseStop, push_hex, push_text};
 use maple_base::NoMemory;
 use maple_io::{MemBoard, MemSink};
-use packet_workers::Open;
-use policy_lang::Policy;
-use policy_text::{ReadError, read_policy};
-use serve_pump::run_serve;
 use serve_steps::ServeEnd;
 use std::alloc::{AllocError, Global};
 use std::sync::Wait;
 use std::thread::Threads;
 
-// The ports of the board: for switches, and for control text.
-const LISTEN: u16 = 6_633;
-
-const CONTROL: u16 = 6_634;
-
 /// How it ended, what was written, and the board behind it.
 #[derive(Drop)]
 pub struct Outcome {
-    end: ServeEnd,
+    finish: Finish,
     sink: MemSink,
     board: MemBoard,
     /// Of a slow board: the ports with which it was started, and how many sends were tried.
@@ -31,12 +22,14 @@ pub struct Outcome {
 }
 
 impl Outcome {
-    /// Appends the end. Where the text isn't as it is wanted, all of it.
-    pub fn push_end(&self, wanted: &str, out: &mut String) -> Result<(), AllocError> {
-        let end = self.end;
-        match end {
-            ServeEnd::Script { line, kind } => write!(out, "Script {line} {kind:?}")?,
-            end => write!(out, "{end:?}")?,
+    /// Appends how it ended. Where the text isn't as it is wanted, all of it.
+    pub fn push_finish(&self, wanted: &str, out: &mut String) -> Result<(), AllocError> {
+        match self.finish {
+            Finish::Served(ServeEnd::Script { line, kind }) => {
+                write!(out, "Script {line} {kind:?}")?
+            }
+            Finish::Served(end) => write!(out, "{end:?}")?,
+            Finish::Exited(status) => write!(out, "{status}")?,
         }
         if self.sink.bytes() != wanted.as_bytes() {
             out.push_str(" with ")?;
@@ -113,20 +106,21 @@ impl Outcome {
     }
 }
 
-/// A run. Where `singly` says so, each byte comes alone.
+/// A run of this call. Where `singly` says so, each byte comes alone.
 pub fn outcome_of<R: Threads + Wait + Copy + Send + Sync>(
     rt: &R,
     alloc: Global,
     given: &Given,
+    entry: Entry,
     singly: bool,
 ) -> Result<Outcome, CaseStop> {
     let board = board_of(alloc, &given.turns, &given.calls, singly)?;
     let sink = MemSink::new(Vec::from_slice(alloc, &given.writes)?);
     match given.slow {
-        None => over_memory(rt, alloc, given, board, sink),
+        None => over_memory(rt, alloc, given, entry, board, sink),
         Some((waits, most)) => {
             let board = SlowBoard::new(board, waits, most);
-            over_slow(rt, alloc, given, board, sink)
+            over_slow(rt, alloc, given, entry, board, sink)
         }
     }
 }
@@ -135,26 +129,13 @@ fn over_memory<R: Threads + Wait + Copy + Send + Sync>(
     rt: &R,
     alloc: Global,
     given: &Given,
+    entry: Entry,
     mut board: MemBoard,
     mut sink: MemSink,
 ) -> Result<Outcome, CaseStop> {
-    let policy = policy_of(alloc, given.policy.as_str())?;
-    let settings = tested(given.settings)?;
-    let end = run_serve(
-        rt,
-        alloc,
-        policy,
-        given.start.as_bytes(),
-        given.first_line,
-        settings,
-        LISTEN,
-        CONTROL,
-        &Open,
-        &mut sink,
-        &mut board,
-    );
+    let finish = finish_of(rt, alloc, given, entry, &mut board, &mut sink)?;
     Ok(Outcome {
-        end,
+        finish,
         sink,
         board,
         seen: None,
@@ -165,37 +146,16 @@ fn over_slow<R: Threads + Wait + Copy + Send + Sync>(
     rt: &R,
     alloc: Global,
     given: &Given,
+    entry: Entry,
     mut board: SlowBoard,
     mut sink: MemSink,
 ) -> Result<Outcome, CaseStop> {
-    let policy = policy_of(alloc, given.policy.as_str())?;
-    let settings = tested(given.settings)?;
-    let end = run_serve(
-        rt,
-        alloc,
-        policy,
-        given.start.as_bytes(),
-        given.first_line,
-        settings,
-        LISTEN,
-        CONTROL,
-        &Open,
-        &mut sink,
-        &mut board,
-    );
+    let finish = finish_of(rt, alloc, given, entry, &mut board, &mut sink)?;
     let seen = board.seen();
     Ok(Outcome {
-        end,
+        finish,
         sink,
         board: board.into_board(),
         seen: Some(seen),
     })
-}
-
-fn policy_of(alloc: Global, text: &str) -> Result<Policy, CaseStop> {
-    match read_policy(alloc, text.as_bytes()) {
-        Ok(policy) => Ok(policy),
-        Err(ReadError::NoMemory) => Err(CaseStop::NoMemory),
-        Err(ReadError::Refused { .. }) => Err(CaseStop::Unread),
-    }
 }

@@ -1,4 +1,5 @@
 // Runs of serving.
+use crate::calls::Entry;
 use crate::given::{Given, push_line};
 use crate::outcome::{Outcome, outcome_of};
 use case_text::{CaseStop, Words};
@@ -25,6 +26,7 @@ pub struct Runs<R: Threads + Wait + Copy + Send + Sync> {
     alloc: Global,
     given: Given,
     output: String,
+    last: String,
     sends: Vec<Wanted>,
     /// Of the bytes as they are given; behind it, if they were cut too, of these.
     came: Vec<Outcome>,
@@ -38,6 +40,7 @@ impl<R: Threads + Wait + Copy + Send + Sync> Runs<R> {
             alloc,
             given: Given::new(alloc),
             output: String::new(alloc),
+            last: String::new(alloc),
             sends: Vec::new(alloc),
             came: Vec::new(alloc),
         }
@@ -46,8 +49,10 @@ impl<R: Threads + Wait + Copy + Send + Sync> Runs<R> {
     /// Appends the answer to a call.
     pub fn answer(&mut self, mut call: Words<'_>, out: &mut String) -> Result<(), CaseStop> {
         match call.word() {
-            "run" => self.run(false, out),
-            "both" => self.run(true, out),
+            "run" => self.run(Entry::Serve, false, out),
+            "both" => self.run(Entry::Serve, true, out),
+            "top" => self.run(Entry::Top, false, out),
+            "top_both" => self.run(Entry::Top, true, out),
             "sent" => self.sent(call, out),
             "count" => self.count(call, out),
             "link" => self.link(call, out),
@@ -67,6 +72,7 @@ impl<R: Threads + Wait + Copy + Send + Sync> Runs<R> {
     fn set(&mut self, word: &str, mut call: Words<'_>) -> Result<(), CaseStop> {
         match word {
             "output" => push_line(&mut self.output, call),
+            "last" => push_line(&mut self.last, call),
             "sends" => {
                 let connection = call.number_u32()?;
                 self.want(connection, call)
@@ -107,20 +113,30 @@ impl<R: Threads + Wait + Copy + Send + Sync> Runs<R> {
     }
 
     // A run; where `cut` says so, another one, in which each byte comes alone.
-    fn run(&mut self, cut: bool, out: &mut String) -> Result<(), CaseStop> {
+    fn run(&mut self, entry: Entry, cut: bool, out: &mut String) -> Result<(), CaseStop> {
         self.came.clear();
-        let whole = outcome_of(&self.rt, self.alloc, &self.given, false)?;
+        let whole = outcome_of(&self.rt, self.alloc, &self.given, entry, false)?;
         self.came.push(whole)?;
         if cut {
-            let single = outcome_of(&self.rt, self.alloc, &self.given, true)?;
+            let single = outcome_of(&self.rt, self.alloc, &self.given, entry, true)?;
             self.came.push(single)?;
         }
+        let report = self.report(entry)?;
         for came in &self.came {
             let mut answer = String::new(self.alloc);
-            came.push_end(self.output.as_str(), &mut answer)?;
+            came.push_finish(report.as_str(), &mut answer)?;
             push_other(answer.as_str(), out)?;
         }
         Ok(())
+    }
+
+    // The report that is wanted: the top call writes the last line too.
+    fn report(&self, entry: Entry) -> Result<String, AllocError> {
+        let mut report = String::from_str(self.alloc, self.output.as_str())?;
+        if entry == Entry::Top {
+            report.push_str(self.last.as_str())?;
+        }
+        Ok(report)
     }
 
     // CONNECTION

@@ -1,8 +1,9 @@
 // Gates that hold packets up until others come.
-use crate::running::{boot, heard, quit, run};
-use maple_io::MemTurn;
+use crate::running::{board_of, boot, heard, quit, serve};
+use maple_base::NoMemory;
+use maple_io::{MemBoard, MemTurn};
+use maple_top::Status;
 use packet_workers::Gate;
-use serve_steps::ServeEnd;
 use std::alloc::{AllocError, Global};
 use std::sync::atomic::{AtomicBool, AtomicU32, Ordering};
 use std::test::Fail;
@@ -10,8 +11,6 @@ use std::thread;
 
 // How often a thread looks whether what it waits for is there.
 const TRIES: u32 = 500_000_000;
-
-const SSH: &str = "policy { if pkt.tp_dst is 22 { drop; } out 2; }\n";
 
 // Whether the first packet's work began, whether that of the second is over, and whether one of them waited in vain.
 #[derive(Drop)]
@@ -86,13 +85,13 @@ fn packet(alloc: Global, turns: &mut Vec<MemTurn>, tcp_port: u8) -> Result<(), A
     heard(alloc, turns, &bytes)
 }
 
-fn two_packets(alloc: Global) -> Result<Vec<MemTurn>, AllocError> {
+fn two_packets(alloc: Global) -> Result<Option<MemBoard>, NoMemory> {
     let mut turns = Vec::new(alloc);
     boot(alloc, &mut turns)?;
     packet(alloc, &mut turns, 80)?;
     packet(alloc, &mut turns, 22)?;
     quit(alloc, &mut turns)?;
-    Ok(turns)
+    board_of(alloc, turns)
 }
 
 // Two packets hold each other: no thread could work them one behind the other. What is sent: 108 bytes until the switch is
@@ -101,16 +100,20 @@ fn two_packets(alloc: Global) -> Result<Vec<MemTurn>, AllocError> {
 fn two_packets_that_hold_each_other(rt: HostRuntime) -> Result<(), Fail> {
     let alloc = rt.alloc();
     let wanted =
-        "open c1\nstate 1 pruned 0\nready c1 s1\nanswer s1 1 drop learned\nanswer s1 1 out 2 learned\n";
+        "open c1\nstate 1 pruned 0\nready c1 s1\nanswer s1 1 drop learned\nanswer s1 1 out 2 learned\nend\n";
+    let words = "serve --listen 6633 --control 6634 --workers 2";
     for turn in 0..200 {
         let gate = Crossed::new();
-        let Some(came) = run(&rt, alloc, SSH, 2, two_packets(alloc)?, &gate)? else {
-            return Err(Fail::from("a run"));
+        let Some(mut board) = two_packets(alloc)? else {
+            return Err(Fail::from("a board"));
         };
+        let came = serve(&rt, alloc, words, &gate, &mut board)?;
         assert!(rt; gate.met(), "run {turn}");
-        assert_eq!(&rt; came.end, ServeEnd::Done);
+        assert_eq!(&rt; came.status, Status::Done);
         assert_eq!(&rt; came.text(), wanted);
-        assert_eq!(&rt; came.sent(alloc)?.len(), 266);
+        let mut sent = Vec::new(alloc);
+        board.sent(1, &mut sent)?;
+        assert_eq!(&rt; sent.len(), 266);
     }
     Ok(())
 }
@@ -151,12 +154,16 @@ impl Gate for Counts {
 #[test]
 fn the_gate_is_told_of_each_packet(rt: HostRuntime) -> Result<(), Fail> {
     let alloc = rt.alloc();
-    for workers in [0, 3] {
+    for words in [
+        "serve --listen 6633 --control 6634",
+        "serve --workers 3 --control=6634 --listen=6633",
+    ] {
         let gate = Counts::new();
-        let Some(came) = run(&rt, alloc, SSH, workers, two_packets(alloc)?, &gate)? else {
-            return Err(Fail::from("a run"));
+        let Some(mut board) = two_packets(alloc)? else {
+            return Err(Fail::from("a board"));
         };
-        assert_eq!(&rt; came.end, ServeEnd::Done);
+        let came = serve(&rt, alloc, words, &gate, &mut board)?;
+        assert_eq!(&rt; came.status, Status::Done);
         assert!(&rt; gate.are(2));
     }
     Ok(())

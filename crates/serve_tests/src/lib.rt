@@ -5,3 +5,5 @@
 mod held;
 #[cfg(test)]
 mod running;
+#[cfg(test)]
+mod sockets;

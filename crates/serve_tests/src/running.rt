@@ -1,26 +1,22 @@
-// A run of `serve` over a board in memory, beside workers.
-ghost use Rattle.std.specs.Prelude.{◌≤◌, IfSome};
-ghost use Rattle.desk_jobs.specs.Crews.{most_workers};
-ghost use Rattle.machine_steps.specs.Sound.{AreInRange};
-
-use desk_jobs::MOST_WORKERS;
-use maple_base::{NoMemory, Settings};
+// A run of `serve` by the top call, and boards in memory.
+use device_port::Device;
+use maple_base::{Bytes, NoMemory, Words};
 use maple_io::mem_board::{are_pieces, open_once};
-use maple_io::{MemBoard, MemSink, MemTurn, Piece};
+use maple_io::{Board, MemBoard, MemSink, MemSource, MemTurn, Piece};
+use maple_top::{Status, maple};
 use packet_workers::Gate;
-use policy_text::read_policy;
-use serve_pump::run_serve;
-use serve_steps::ServeEnd;
 use std::alloc::{AllocError, Global};
 use std::sync::Wait;
 use std::thread::Threads;
 
-/// How a run ended, what it wrote, and the board behind it.
+// The policy; there is no start script.
+const INPUT: &[u8] = b"policy { if pkt.tp_dst is 22 { drop; } out 2; }\n";
+
+/// How a run ended, and what it wrote.
 #[derive(Drop)]
 pub(crate) struct Outcome {
-    pub(crate) end: ServeEnd,
+    pub(crate) status: Status,
     sink: MemSink,
-    board: MemBoard,
 }
 
 impl Outcome {
@@ -28,56 +24,48 @@ impl Outcome {
     pub(crate) fn text(&self) -> &str {
         str::from_utf8(self.sink.bytes()).unwrap_or("")
     }
-
-    /// What was sent to the first connection.
-    pub(crate) fn sent(&self, alloc: Global) -> Result<Vec<u8>, NoMemory> {
-        let mut sent = Vec::new(alloc);
-        self.board.sent(1, &mut sent)?;
-        Ok(sent)
-    }
 }
 
-/// Serves a board of these turns beside so many workers; none where the policy, the turns or the workers are none that a run
-/// may have.
-pub(crate) fn run<R: Threads + Wait + Copy + Send + Sync, G: Gate + Sync>(
+/// Runs these words over a board.
+pub(crate) fn serve<R: Threads + Wait + Copy + Send + Sync, G: Gate + Sync, B: Board>(
     rt: &R,
     alloc: Global,
-    policy: &str,
-    workers: u32,
-    turns: Vec<MemTurn>,
+    words: &str,
     gate: &G,
-) -> Result<Option<Outcome>, NoMemory> {
-    let Ok(policy) = read_policy(alloc, policy.as_bytes()) else {
-        return Ok(None);
-    };
-    let Some(settings) = settings(workers) else {
-        return Ok(None);
-    };
-    if !are_pieces(&turns) || !open_once(&turns) {
-        return Ok(None);
-    }
-    let mut board = MemBoard::new(turns, Vec::new(alloc))?;
+    board: &mut B,
+) -> Result<Outcome, NoMemory> {
+    let words = words_of(alloc, words)?;
+    let mut source = MemSource::new(Vec::from_slice(alloc, INPUT)?, Vec::new(alloc));
     let mut sink = MemSink::new(Vec::new(alloc));
-    let end = run_serve(
-        rt, alloc, policy, b"", 1, settings, 6_633, 6_634, gate, &mut sink, &mut board,
+    let mut devices: Vec<Box<dyn Device + Send>> = Vec::new(alloc);
+    let status = maple(
+        rt,
+        alloc,
+        &words,
+        &mut source,
+        &mut sink,
+        &mut devices,
+        gate,
+        board,
     );
-    Ok(Some(Outcome { end, sink, board }))
+    Ok(Outcome { status, sink })
 }
 
-// Those of the program, with so many workers.
-fn settings(workers: u32) -> Option<Settings>
-    ensures ranges { IfSome result (λ settings. AreInRange settings) }
-    ensures workers { IfSome result (λ settings. settings.workers ≤ most_workers) }
-{
-    if workers <= MOST_WORKERS {
-        Some(Settings {
-            capacity: 1_024,
-            levels: 32_768,
-            budget: 4_096,
-            workers,
-        })
+// The words of a text, with a blank between them.
+fn words_of(alloc: Global, text: &str) -> Result<Words, NoMemory> {
+    let mut words = Vec::new(alloc);
+    for word in text.split(' ') {
+        words.push(Bytes::new(Vec::from_slice(alloc, word.as_bytes())?))?;
+    }
+    Ok(Words::new(words))
+}
+
+/// A board of these turns; none where they are none that a board may have.
+pub(crate) fn board_of(alloc: Global, turns: Vec<MemTurn>) -> Result<Option<MemBoard>, NoMemory> {
+    if are_pieces(&turns) && open_once(&turns) {
+        Ok(Some(MemBoard::new(turns, Vec::new(alloc))?))
     } else {
-        None
+        Ok(None)
     }
 }
 

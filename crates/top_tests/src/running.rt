@@ -4,7 +4,7 @@ ghost use Rattle.model_switch.specs.Meanings.{of_orderly};
 
 use device_port::Device;
 use maple_base::{Bytes, NoMemory, Words};
-use maple_io::{MemSink, MemSource};
+use maple_io::{MemBoard, MemSink, MemSource};
 use maple_top::{PORTS, Status, maple, push_idle};
 use model_switch::Orderly;
 use packet_workers::Gate;
@@ -47,6 +47,7 @@ pub(crate) fn run<R: Threads + Wait + Copy + Send + Sync, G: Gate + Sync>(
     let mut sink = MemSink::new(Vec::from_slice(alloc, fails)?);
     let mut devices: Vec<Box<dyn Device + Send>> = Vec::new(alloc);
     push_idle(&mut devices, Box::new(alloc, device(alloc))?)?;
+    let mut board = no_turns(alloc)?;
     let status = maple(
         rt,
         alloc,
@@ -55,8 +56,14 @@ pub(crate) fn run<R: Threads + Wait + Copy + Send + Sync, G: Gate + Sync>(
         &mut sink,
         &mut devices,
         gate,
+        &mut board,
     );
     Ok(Outcome { status, sink })
+}
+
+/// A board that ends at once.
+pub(crate) fn no_turns(alloc: Global) -> Result<MemBoard, NoMemory> {
+    MemBoard::new(Vec::new(alloc), Vec::new(alloc))
 }
 
 // Switch 1, with room for 1,024 rules.

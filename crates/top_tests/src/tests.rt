@@ -1,4 +1,5 @@
 // An input without an end, and a script whose numbers begin elsewhere.
+use crate::running::no_turns;
 use device_port::Device;
 use maple_base::{Bytes, NoMemory, Settings, Words};
 use maple_io::{MemSink, ReadSource, WriteSink};
@@ -30,7 +31,8 @@ fn stops_at_an_endless_input(rt: HostRuntime) -> Result<(), Fail> {
     let mut bytes = Vec::new(alloc);
     let mut input = ReadSource::new(Endless);
     let mut output = WriteSink::new(&mut bytes);
-    let status = run_program(&rt, alloc, &words, &mut input, &mut output);
+    let mut board = no_turns(alloc)?;
+    let status = run_program(&rt, alloc, &words, &mut input, &mut output, &mut board);
     assert_eq!(&rt; status, Status::TooLong);
     assert_eq!(&rt; bytes.as_slice(), b"refused input\n".as_slice());
     Ok(())

@@ -1,6 +1,6 @@
 use Rattle.std.proofs.Common.{inl, inr}
 use Rattle.maple_io.proofs.Reading.{end_told, read_failed}
-use Rattle.maple_top.proofs.Hearing.{heard_so, reading_of}
+use Rattle.maple_top.proofs.Results.{heard_so, reading_of}
 use Rattle.maple_top.proofs.Known.{some_more}
 use Rattle.maple_top.proofs.input.read_all.Goals as goal
 

@@ -10,25 +10,20 @@ maple-requires-clause-idle g c = λ κs lives. subst AllIdle (sym (devices_are _
 pub returns-clause-ran : goal.returns-clause-ran
 returns-clause-ran g c =
     let made = devices_are _ c.loop-place.place c.loop-place.invariant.made (omega arith) in
-    runs_over (g.I.Source.tells c.args.from.now) (g.I.Source.tells c.maple.new.input) (g.O.Sink.tells c.args.to.now) (g.O.Sink.tells c.maple.new.output) _ _ _ c.args.words.now
-    c.maple.result made (sym (length-map _ _) ∙ ap length made) (record {
-      whole = c.maple.ensures.read_whole;
-      done = c.maple.ensures.done;
-      script = c.maple.ensures.script;
-      policy = c.maple.ensures.policy;
-      policy_text = c.maple.ensures.policy_text;
-      too_long = c.maple.ensures.too_long;
-      too_long_text = c.maple.ensures.too_long_text;
-      usage = c.maple.ensures.usage;
-      usage_text = c.maple.ensures.usage_text;
-      usage_exact = c.maple.ensures.usage_exact;
-      read_fault = c.maple.ensures.read_fault;
-      read_text = c.maple.ensures.read_text;
-      told = c.maple.ensures.told;
-      cut = c.maple.ensures.cut;
+    runs_over (g.I.Source.tells c.args.from.now) (g.I.Source.tells c.maple.new.input) (g.O.Sink.tells c.args.to.now) (g.O.Sink.tells c.maple.new.output)
+    (g.B.Board.tells c.args.board.now) (g.B.Board.tells c.maple.new.board) _ _ _ c.args.words.now c.maple.result made (sym (length-map _ _) ∙ ap length made) (record {
+      results = c.maple.ensures.results;
+      due = c.maple.ensures.due;
       exact = c.maple.ensures.exact;
       reading = c.maple.ensures.read_last;
       failed = c.maple.ensures.read_failed;
       unread = c.maple.ensures.unread;
+      read_fault = c.maple.ensures.read_fault;
+      reads_spared = c.maple.ensures.reads_spared;
       write_fault = c.maple.ensures.write_fault;
+      writes_spared = c.maple.ensures.writes_spared;
+      board_fault = c.maple.ensures.board_fault;
+      board_spared = c.maple.ensures.board_spared;
+      board_aside = c.maple.ensures.board_aside;
+      unserved = c.maple.ensures.unserved;
     })

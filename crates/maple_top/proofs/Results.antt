@@ -1,0 +1,249 @@
+-- What comes of a run, from what its parts say.
+use Rattle.std.proofs.Common.{◌≡◌, ◌⊎◌, ℕ, ◌+◌, ◌<◌, ◌≤◌, true, List, [], ◌∷◌, length, Option, Some, None, refl, sym, subst, inl, inr, append-nil}
+use Rattle.std.specs.Prelude.{IfSome}
+use Rattle.std.specs.Io.KnownBytes.{IsAtEnd}
+use Rattle.maple_io.specs.Answers.{ends as tells_end, fails, given, gives}
+use Rattle.maple_io.specs.declared.answer.Answer.{Answer}
+use Rattle.maple_io.specs.declared.answer.Answer.TheVariants as answers
+use Rattle.maple_io.specs.Views.{Heard, SinkView, SourceView, Wrote}
+use Rattle.maple_io.proofs.Pieces.{wrote_nothing}
+use Rattle.policy_lang.specs.declared.Policy.{Policy}
+use Rattle.report_text.specs.Report.{spelled}
+use Rattle.serve_steps.specs.declared.end.ServeEnd.{ServeEnd}
+use Rattle.serve_steps.specs.declared.end.ServeEnd.TheVariants as ends
+use Rattle.command_words.specs.declared.words.Command.{Command}
+use Rattle.maple_top.specs.declared.status.Status.{Status}
+use Rattle.maple_top.specs.declared.status.Status.TheVariants as status
+use Rattle.maple_top.specs.Due.{AreReading, AreWords, HasCommand, IsReading, OfInput, most_bytes, most_piece}
+use Rattle.maple_top.specs.Ends.{Ends, IsAside, IsCutting, IsGiven, IsOrCut, WroteSome, status_of}
+use Rattle.maple_top.specs.Outcomes.{Comes, IsRead, IsText, Results, RunsPolicy, Switches, kept_of, last_of}
+use Rattle.maple_top.specs.Running.{RunsTexts, ran, refused, lacked_memory}
+use Rattle.maple_top.specs.Statuses.{last_line}
+use Rattle.maple_top.specs.Texts.{Texts, texts_of}
+use Rattle.maple_top.proofs.Endings.{ends_written}
+
+-- ---- of an input, as far as it is known
+
+-- what follows of any input follows of this one
+of_told : (left : Option (List ℕ)) (P Q : List ℕ → Type 0) → ((bytes : List ℕ) → P bytes → Q bytes) → IfSome left P → IfSome left Q
+of_told None P Q f h = tt
+of_told (Some bytes) P Q f h = f bytes h
+
+of_none : (left : Option (List ℕ)) (Q : List ℕ → Type 0) → ((bytes : List ℕ) → Q bytes) → IfSome left Q
+of_none None Q f = tt
+of_none (Some bytes) Q f = f bytes
+
+pub of_input : {source left : SourceView} {P : Type 0 → List ℕ → Type 0} → (Q : Type 0 → List ℕ → Type 0) → ((ended : Type 0) (bytes : List ℕ) → P ended bytes → Q ended bytes)
+    → OfInput source left P → OfInput source left Q
+of_input {source} {left} {P} Q f h =
+    let (heard, is, of) = h.heard in
+    record {
+      told = of_told source.left (P (IsAtEnd left.left)) (Q (IsAtEnd left.left)) (f (IsAtEnd left.left)) h.told;
+      heard = (heard, is, f (tells_end heard ≡ true) (given heard) of);
+    }
+
+-- what holds of any input holds of this one
+pub of_any : (source left : SourceView) (Q : Type 0 → List ℕ → Type 0) (Are : List Answer → Type 0) → ((ended : Type 0) (bytes : List ℕ) → Q ended bytes) → Heard source left Are
+    → OfInput source left Q
+of_any source left Q Are f (heard, is, are) = record {
+  told = of_none source.left (Q (IsAtEnd left.left)) (f (IsAtEnd left.left));
+  heard = (heard, is, f (tells_end heard ≡ true) (given heard));
+}
+
+-- what holds of an input that is too long holds of this one
+pub of_long : (source left : SourceView) (Q : Type 0 → List ℕ → Type 0) → ((ended : Type 0) (bytes : List ℕ) → most_bytes < length bytes → Q ended bytes)
+    → IfSome source.left (λ bytes. most_bytes < length bytes) → Heard source left (λ heard. (gives heard ≡ true) × (most_bytes < length (given heard))) → OfInput source left Q
+of_long source left Q f long (heard, is, h) = record {
+  told = of_told source.left (λ bytes. most_bytes < length bytes) (Q (IsAtEnd left.left)) (f (IsAtEnd left.left)) long;
+  heard = (heard, is, f (tells_end heard ≡ true) (given heard) h.1);
+}
+
+-- what holds of the bytes that were read to the end holds of this one
+whole_told : (left : Option (List ℕ)) (ended : Type 0) (input : List ℕ) (Q : Type 0 → List ℕ → Type 0) → (ended → Q ended input) → IfSome left (λ bytes. input ≡ bytes)
+    → IfSome left (λ _. ended) → IfSome left (λ bytes. Q ended bytes)
+whole_told None ended input Q f is end = tt
+whole_told (Some bytes) ended input Q f is end = subst (Q ended) is (f end)
+
+pub of_whole : (source left : SourceView) (Q : Type 0 → List ℕ → Type 0) (input : List ℕ) → ((ended : Type 0) → ended → Q ended input) → IfSome source.left (λ bytes. input ≡ bytes)
+    → IfSome source.left (λ _. IsAtEnd left.left) → Heard source left (λ heard. (tells_end heard ≡ true) × (given heard ≡ input)) → OfInput source left Q
+of_whole source left Q input f is end (heard, grew, h) = record {
+  told = whole_told source.left (IsAtEnd left.left) input Q (f (IsAtEnd left.left)) is end;
+  heard = (heard, grew, subst (Q (tells_end heard ≡ true)) (sym h.1) (f (tells_end heard ≡ true) h.0));
+}
+
+-- ---- what was heard
+
+-- nothing was read
+pub unheard : (source : SourceView) (Are : List Answer → Type 0) → Are [] → Heard source source Are
+unheard source Are h = ([], sym (append-nil source.answers), h)
+
+pub heard_so : (source left : SourceView) {P : List Answer → Type 0} → (Q : List Answer → Type 0) → ((heard : List Answer) → P heard → Q heard) → Heard source left P
+    → Heard source left Q
+heard_so source left Q f (heard, is, h) = (heard, is, f heard h)
+
+-- what was given is as long as these bytes, and only the last answer may have been another
+pub reading_of : (heard : List Answer) (bytes : List ℕ) → length bytes ≤ most_bytes + most_piece → given heard ≡ bytes
+    → (gives heard ≡ true) ⊎ ((tells_end heard ≡ true) ⊎ (fails heard ≡ true)) → IsReading heard
+reading_of heard bytes within e kind = (subst (λ (b : List ℕ). length b ≤ most_bytes + most_piece) (sym e) within, kind)
+
+-- no answer ends and fails
+pub ended_unfailed : (heard : List Answer) → tells_end heard ≡ true → fails heard ≡ true → ⊥
+ended_unfailed [] e f = let no = e in cc
+ended_unfailed (answers.Gave b ∷ heard) e f = ended_unfailed heard e f
+ended_unfailed (answers.Ended ∷ []) e f = let no = f in cc
+ended_unfailed (answers.Ended ∷ a ∷ heard) e f = let no = e in cc
+ended_unfailed (answers.Failed ∷ []) e f = let no = e in cc
+ended_unfailed (answers.Failed ∷ a ∷ heard) e f = let no = e in cc
+
+pub given_unfailed : (heard : List Answer) → gives heard ≡ true → fails heard ≡ true → ⊥
+given_unfailed [] g f = let no = f in cc
+given_unfailed (answers.Gave b ∷ heard) g f = given_unfailed heard g f
+given_unfailed (answers.Ended ∷ heard) g f = let no = g in cc
+given_unfailed (answers.Failed ∷ heard) g f = let no = g in cc
+
+-- ---- what comes of it
+
+-- a status that a run under a policy comes to
+abbrev IsOfEnd : Status → Type 0
+IsOfEnd status.Usage = ⊥
+IsOfEnd status.Policy = ⊥
+IsOfEnd status.ReadFault = ⊥
+IsOfEnd status.TooLong = ⊥
+IsOfEnd due = Unit {0}
+
+pub of_end : (end : ServeEnd) → IsOfEnd (status_of end)
+of_end ends.Done = tt
+of_end (ends.Script line kind) = tt
+of_end ends.WriteFault = tt
+of_end ends.BoardFault = tt
+of_end ends.Worn = tt
+of_end ends.NoMemory = tt
+
+-- it comes to that status
+runs : (ended unread : Type 0) (words : List (List ℕ)) (input : List ℕ) (before after : Switches) (due : Status) (kept last : List ℕ)
+    → RunsPolicy ended words input before after due kept last → Comes ended unread words input before after due kept last
+runs ended unread words input before after due kept last h = by due (subst IsOfEnd (sym h.status_is) (of_end h.end)) h
+  where
+    by : (s : Status) → IsOfEnd s → RunsPolicy ended words input before after s kept last → Comes ended unread words input before after s kept last
+    by status.Done o h = h
+    by status.Usage o h = absurd o
+    by status.Policy o h = absurd o
+    by status.Script o h = h
+    by status.ReadFault o h = absurd o
+    by status.WriteFault o h = h
+    by status.NoMemory o h = inr h
+    by status.TooLong o h = absurd o
+    by status.BoardFault o h = h
+    by status.Worn o h = h
+
+module _ (ended unread : Type 0) (words : List (List ℕ)) (input : List ℕ) (before : Switches) (old new : SinkView) (result : Status) where
+  abbrev pub Came : Switches → Type 0
+  Came after = WroteSome old new (Results ended unread words input before after result)
+
+  -- a line alone
+  came : (due : Status) → IsGiven due → (line : List ℕ) → Comes ended unread words input before before due [] line → Ends old new due line result → Came before
+  came due given line comes e =
+      let (text, written, w) = ends_written old old new [] (wrote_nothing old) line due result given e in
+      (text, record { came_to = due; kept = []; last = line; comes = comes; written = written }, w)
+
+  text_alone : (text : List ℕ) → IsText before before text [] text
+  text_alone text = record { same = refl; nothing = refl; text_is = refl }
+
+  pub refused_words : ¬ (AreWords words) → Ends old new status.Usage (last_line status.Usage) result → Came before
+  refused_words none e = came status.Usage tt (last_line status.Usage) (none, text_alone (last_line status.Usage)) e
+
+  pub failed_read : AreReading words → unread → Ends old new status.ReadFault (last_line status.ReadFault) result → Came before
+  failed_read are fault e = came status.ReadFault tt (last_line status.ReadFault) (are, fault, text_alone (last_line status.ReadFault)) e
+
+  pub read_too_long : AreReading words → most_bytes < length input → Ends old new status.TooLong (last_line status.TooLong) result → Came before
+  read_too_long are long e = came status.TooLong tt (last_line status.TooLong) (are, long, text_alone (last_line status.TooLong)) e
+
+  pub lacks_memory : result ≡ status.NoMemory → Wrote old new [] → Came before
+  lacks_memory is w = ([], record { came_to = status.NoMemory; kept = []; last = []; comes = inl (text_alone []); written = inl (is, refl) }, w)
+
+  module _ (command : Command) (has : HasCommand command words) (read : IsRead ended command input) (texts : Texts) (texts_are : texts ≡ texts_of command input) where
+    pub texts_ran : (after : Switches) → RunsTexts command texts before after old new result → Came after
+    texts_ran after (ran policy has_policy (text, under, w)) = (
+      text,
+      record {
+        came_to = status_of under.end;
+        kept = kept_of command under.report;
+        last = last_of command under.end under.report;
+        comes = runs ended unread words input before after (status_of under.end) (kept_of command under.report) (last_of command under.end under.report) (record {
+          command = command;
+          has_command = has;
+          read = read;
+          policy = policy;
+          has_policy = rw texts_are at has_policy;
+          end = under.end;
+          report = under.report;
+          ran = rw texts_are at under.ran;
+          status_is = refl;
+          kept_is = refl;
+          last_is = refl;
+        });
+        written = under.written;
+      },
+      w,
+    )
+    texts_ran after (refused same none line refusal e) =
+        subst Came (sym same)
+        (came status.Policy tt (spelled line) (record {
+          command = command;
+          has_command = has;
+          read = read;
+          none = rw texts_are at none;
+          line = line;
+          refusal = rw texts_are at refusal;
+          is_text = text_alone (spelled line);
+        }) e)
+    texts_ran after (lacked_memory same is w) = subst Came (sym same) (lacks_memory is w)
+
+-- ---- a run that leaves all as it was
+
+ends_aside : (old new : SinkView) (due : Status) (text : List ℕ) (result : Status) → Ends old new due text result → IsAside result → result ≡ due
+ends_aside old new due text status.Done e a = absurd a
+ends_aside old new due text status.Usage e a = e.0
+ends_aside old new due text status.Policy e a = e.0
+ends_aside old new due text status.Script e a = absurd a
+ends_aside old new due text status.ReadFault e a = e.0
+ends_aside old new due text status.WriteFault e a = absurd a
+ends_aside old new due text status.NoMemory e a = absurd a
+ends_aside old new due text status.TooLong e a = e.0
+ends_aside old new due text status.BoardFault e a = absurd a
+ends_aside old new due text status.Worn e a = absurd a
+
+not_end : (s : Status) → IsOfEnd s → IsAside s → ⊥
+not_end status.Done o a = a
+not_end status.Usage o a = o
+not_end status.Policy o a = o
+not_end status.Script o a = a
+not_end status.ReadFault o a = o
+not_end status.WriteFault o a = a
+not_end status.NoMemory o a = a
+not_end status.TooLong o a = o
+not_end status.BoardFault o a = a
+not_end status.Worn o a = a
+
+not_cut : (s : Status) → IsCutting s → IsAside s → ⊥
+not_cut status.Done cut a = cut
+not_cut status.Usage cut a = cut
+not_cut status.Policy cut a = cut
+not_cut status.Script cut a = cut
+not_cut status.ReadFault cut a = cut
+not_cut status.WriteFault cut a = a
+not_cut status.NoMemory cut a = a
+not_cut status.TooLong cut a = cut
+not_cut status.BoardFault cut a = cut
+not_cut status.Worn cut a = cut
+
+-- refuses the policy
+pub texts_aside : (command : Command) (texts : Texts) (before after : Switches) (old new : SinkView) (result : Status) → RunsTexts command texts before after old new result
+    → IsAside result → result ≡ status.Policy
+texts_aside command texts before after old new result (ran policy has (text, under, w)) a = absurd (by under.written)
+  where
+    by : IsOrCut (status_of under.end) result (kept_of command under.report) (last_of command under.end under.report) text → ⊥
+    by (inl (is, t)) = not_end (status_of under.end) (of_end under.end) (subst IsAside is a)
+    by (inr (given, cut, front, is_front, t)) = not_cut result cut a
+texts_aside command texts before after old new result (refused same none line refusal e) a = ends_aside old new status.Policy (spelled line) result e a
+texts_aside command texts before after old new result (lacked_memory same is w) a = absurd (subst IsAside is a)
