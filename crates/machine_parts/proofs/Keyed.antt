@@ -41,6 +41,14 @@ module _ {X : Type 0} (key : X → ℕ) where
       (λ (ne : k ≢ i). put_off xs i k t d at here ne (λ e. elsewhere xs i k d apart at here ne (e ∙ sym is ∙ ap key (get_or_default xs i t d at))))
       (cases_eq k i))
 
+  -- the element at a place is found by its key
+  pub found_by_key : (c : ℕ) (xs : List X) (i : ℕ) (d : X) → i < length xs → Apart xs → key (get_or xs i d) ≡ c → find (λ u. eqb (key u) c) xs ≡ Some (get_or xs i d)
+  found_by_key c [] i d at apart is = absurd (omega arith)
+  found_by_key c (x ∷ xs) zero d at apart is = ap (λ b. cond b (Some x) (find (λ u. eqb (key u) c) xs)) (eq-eqb _ _ is)
+  found_by_key c (x ∷ xs) (suc i) d at apart is =
+      ap (λ b. cond b (Some x) (find (λ u. eqb (key u) c) xs)) (ne_eqb _ _ (λ e. apart 0 (suc i) d (omega arith) at (e ∙ sym is)))
+      ∙ found_by_key c xs i d (omega arith) (λ j k e lt in'. apart (suc j) (suc k) e (omega arith) (omega arith)) is
+
   -- where no element has the key all are kept
   kept : (c : ℕ) (xs : List X) → ((k : ℕ) (d : X) → k < length xs → key (get_or xs k d) ≢ c) → filter (λ u. not (eqb (key u) c)) xs ≡ xs
   kept c [] none = refl

@@ -1,12 +1,12 @@
 -- The session at the place of a connection: where it stands, what a change or its removal makes of the state, and of the lines that are due.
 use Rattle.std.proofs.Common.{◌≡◌, ℕ, suc, ◌+◌, ◌*◌, ◌<◌, ◌≤◌, Bool, true, false, cond, eqb, List, [], ◌∷◌, ◌++◌, length, get_or, set, take, drop, map, Option, Some, None, refl, sym, ap, ◌∙◌, subst, arith}
-use Rattle.std.specs.Option.{MatchOption}
+use Rattle.std.specs.Option.{MatchOption, option_map}
 use Rattle.std.specs.List.{AllPairs, position, remove, slice_get, sum_by}
 use Rattle.std.proofs.lemmas.Bool.{and_parts, eqb-true, false≢true}
 use Rattle.std.proofs.lemmas.List.{get_or-map, length-map, map-append, map-set, take-map, drop-map}
 use Rattle.std.proofs.lemmas.List.Recursion.{is_sum_by}
 use Rattle.std.proofs.lemmas.List.Sums.{sum_by-set, sum_by-remove, sum_by_push}
-use Rattle.std.proofs.lemmas.Option.{get_or_from_slice_get, slice_get_within}
+use Rattle.std.proofs.lemmas.Option.{get_or_from_slice_get, slice_get-map, slice_get_within}
 use Rattle.machine_parts.specs.declared.connection.Connection.{Connection}
 use Rattle.machine_steps.specs.Machine.{Session, State, is_open, is_of, session_at, with_session, without_session}
 use Rattle.machine_parts.specs.Finding.{IsKeptAt, is_kept}
@@ -14,7 +14,7 @@ use Rattle.machine_steps.specs.Places.{IsAt}
 use Rattle.machine_parts.specs.Sessions.{session_of, due, due_all}
 use Rattle.machine_steps.specs.Sound.{AreOthers}
 use Rattle.machine_steps.specs.Steps.{kept_at}
-use Rattle.machine_parts.proofs.Keyed.{Apart, set_by_key, remove_by_key, first_there, position_of_map, find_passes}
+use Rattle.machine_parts.proofs.Keyed.{Apart, found_by_key, set_by_key, remove_by_key, first_there, position_of_map, find_passes}
 
 -- ---- lines that are due
 
@@ -136,3 +136,15 @@ kept_place_is xs m are c =
 
 pub stands_kept : (m : State) (c at : ℕ) (is : IsKeptAt c at m) → StandsAt m c at is.session
 stands_kept m c at is = record { there = is.there; of = eqb-true _ _ (find_passes (is_kept c) m.sessions is.session is.found) }
+
+-- a connection of this number stands at this place, and no other has it
+pub kept_there : (xs : List Connection) (m : State) (are : map session_of xs ≡ m.sessions) → AllPairs AreOthers m.sessions → (c at : ℕ) (k : Connection) → slice_get xs at ≡ Some k → (session_of k).connection ≡ c → IsKeptAt c at m
+kept_there xs m are others c at k at_place of =
+    let there = sym (ap (λ ss. slice_get ss at) are) ∙ slice_get-map session_of xs at ∙ ap (option_map session_of) at_place in
+    let s = session_of k in
+    let is = get_or_from_slice_get m.sessions at s s there in
+    record {
+      session = s;
+      there = there;
+      found = found_by_key (λ (u : Session). u.connection) c m.sessions at s (slice_get_within m.sessions at s there) (apart m.sessions others) (ap (λ (u : Session). u.connection) is ∙ of) ∙ ap (λ u. Some u) is;
+    }

@@ -1,5 +1,5 @@
 // The session of a connection: where it stands, and what it hears.
-ghost use Rattle.std.specs.Prelude.{◌≡◌, ◌<◌, length, filter, map, position, remove, vec_len, IfSome};
+ghost use Rattle.std.specs.Prelude.{◌≡◌, ◌<◌, length, filter, map, position, remove, vec_len, IfSome, Some};
 ghost use Rattle.std.specs.List.{AllByRecursion, list_any, slice_get};
 ghost use Rattle.switch_session.specs.Calls.{CanBeHeard};
 ghost use Rattle.machine_parts.specs.declared.connection.Connection.{Connection as ConnectionData};
@@ -42,6 +42,24 @@ pub fn kept_place(sessions: &[Connection], connection: u32) -> Option<usize>
     sessions
         .iter()
         .position(|c| c.session.connection() == connection)
+}
+
+/// A place of a session of a connection. Where the numbers increase and this one is among them it is found, from the place that
+/// it has if none of the numbers between is missing.
+pub fn likely_place(sessions: &[Connection], connection: u32) -> Option<usize>
+    ensures { IfSome result (λ at. (c : ConnectionData) × (slice_get sessions.now at ≡ Some c) × ((session_of c).connection ≡ connection)) }
+{
+    let first = sessions.first()?.session.connection();
+    let ahead = connection.checked_sub(first)? as usize;
+    let up_to = sessions.get(..=ahead).unwrap_or(sessions);
+    let at = up_to
+        .iter()
+        .rposition(|c| c.session.connection() <= connection)?;
+    let there = sessions.get(at)?;
+    if there.session.connection() == connection {
+        return Some(at);
+    }
+    None
 }
 
 /// Drops the session at a place.

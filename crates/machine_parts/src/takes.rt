@@ -7,7 +7,7 @@ ghost use Rattle.machine_parts.specs.Finding.{IsKeptAt};
 ghost use Rattle.machine_steps.specs.Sound.{IsSound};
 ghost use Rattle.machine_steps.specs.Steps.{Lacks, TakesMessages, kept_at};
 
-use crate::finding::{is_open, kept_place, remove};
+use crate::finding::{is_open, kept_place, likely_place, remove};
 use crate::parts::Parts;
 use crate::text::written;
 use machine_steps::Reply;
@@ -41,11 +41,16 @@ fn try_take_out(parts: &mut Parts, connection: u32) -> Result<Reply, NoMemory>
     Ok(Reply::Out(bytes))
 }
 
-// The place of the session of a connection, also of one that ended.
+// The place of the session of a connection, also of one that ended. Connections mostly come by increasing numbers: so it is
+// looked for from the place that it would have if no number were missing, and only else among all.
 fn kept_index(parts: &Parts, connection: u32) -> Option<usize>
+    requires sound { IsSound parts.now }
     ensures { MatchOption result (kept_at connection parts.now ≡ None) (λ at. IsKeptAt connection at parts.now) }
 {
-    kept_place(&parts.sessions, connection)
+    match likely_place(&parts.sessions, connection) {
+        Some(at) => Some(at),
+        None => kept_place(&parts.sessions, connection),
+    }
 }
 
 /// Takes the lines of the report.
