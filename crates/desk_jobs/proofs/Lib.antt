@@ -1,4 +1,5 @@
 pub mod HadMemory
+pub mod Lists
 pub mod Meanwhile
 pub mod Parting
 pub mod Rounding

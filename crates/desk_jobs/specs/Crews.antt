@@ -1,7 +1,10 @@
 -- Who works beside a driver.
-use Rattle.std.specs.Prelude.{◌≡◌, ℕ, false, Option, Some, None, IfSome, is_some}
+use Rattle.std.specs.Prelude.{◌≡◌, ℕ, Bool, true, false, Option, Some, None, IfSome, is_some, Ok, Err}
 use Rattle.machine_steps.specs.Machine.{State}
+use Rattle.worker_crew.specs.declared.gave_up.GaveUp.{GaveUp}
+use Rattle.worker_crew.specs.declared.gave_up.GaveUp.TheVariants.{NoMemory}
 use Rattle.worker_crew.specs.Takers.{IsTakerOf, places, shares}
+use Rattle.worker_crew.specs.Tasks.{Worked as Told}
 use Rattle.machine_desk.specs.Desks.{DeskView}
 use Rattle.desk_jobs.specs.declared.crew.Crew.{Crew}
 use Rattle.desk_jobs.specs.Tending.{Sight, at}
@@ -42,3 +45,15 @@ BySights R a b c d = Unit {0}
 -- what a driver beside a crew knows
 abbrev pub sight : DeskView → Crew → Sight
 sight desk crew = at desk crew.taker.now
+
+-- ---- ends
+
+-- how a run ends by what was told of the work done for it: where it came to its end, but somebody gave up, by that
+abbrev pub ended_with : {E : Type 0} → (GaveUp → E) → Bool → E → Told → E
+ended_with given_up true end (Err cause) = given_up cause
+ended_with given_up to_end end told = end
+
+-- what a driver tells of its own calls, by whether memory sufficed for them
+abbrev pub told_memory : Bool → Told
+told_memory true = Ok tt
+told_memory false = Err NoMemory
