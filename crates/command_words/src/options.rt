@@ -1,6 +1,7 @@
 // The options of a command line.
 ghost use Rattle.std.specs.Prelude.{◌≡◌};
-ghost use Rattle.command_words.specs.Options.{name_of, number_in, once, options, setting_among, setting_given, setting_named, settings_of, value_of, with_setting, within, most_port, port_of};
+ghost use Rattle.command_words.specs.Options.{most_port, name_of, number_in, once, options, port_of, setting_among, setting_given};
+ghost use Rattle.command_words.specs.Options.{setting_named, settings_of, value_of, with_setting, within};
 ghost use Rattle.command_words.specs.WordViews.{given_of};
 
 use desk_jobs::MOST_WORKERS;

@@ -10,10 +10,10 @@ use Rattle.script_text.specs.Laws.{ReadsLines}
 use Rattle.gen_script.specs.declared.line.ScriptLine.{ScriptLine}
 use Rattle.gen_script.specs.declared.line.ScriptLine.TheVariants.{Settle, Quit}
 use Rattle.gen_script.specs.Draws.{seeded, round}
+use Rattle.gen_script.specs.Laws.{RoundsAreInRange}
 use Rattle.gen_script.specs.Lines.{spelled}
 use Rattle.gen_script.specs.Script.{plugs, links, hosts, opening, rounds, script_of}
 use Rattle.gen_laws.specs.Laws.{PlacesDecide}
-use Rattle.gen_script.proofs.Drawn.{small_round}
 use Rattle.gen_laws.proofs.Draws.{drawn_reads}
 use Rattle.gen_laws.proofs.Lines.{reads, NoneRefused, none_ahead, none_of_lines}
 
@@ -26,28 +26,28 @@ opening_goes places some =
     let four : nat_le 4 places ≡ true = le-leb 4 places some in
     rw (one, two, three, four) refl
 
-none_of_rounds : ReadsLines → (places count : ℕ) (g : Lcg) (more : List ScriptLine) → 4 ≤ places → NoneRefused places (flat_map spelled more)
+none_of_rounds : ReadsLines → RoundsAreInRange → (places count : ℕ) (g : Lcg) (more : List ScriptLine) → 4 ≤ places → NoneRefused places (flat_map spelled more)
     → NoneRefused places (flat_map spelled (rounds count g ++ more))
 unfolding rounds
-none_of_rounds read places zero g more some none = none
-none_of_rounds read places (suc count) g more some none =
-    none_ahead places (spelled (round g).0) (flat_map spelled (rounds count (round g).1 ++ more)) (drawn_reads read places some (round g).0 (small_round g)) (none_of_rounds read places count (round g).1 more some none)
+none_of_rounds read drawn places zero g more some none = none
+none_of_rounds read drawn places (suc count) g more some none =
+    none_ahead places (spelled (round g).0) (flat_map spelled (rounds count (round g).1 ++ more)) (drawn_reads read places some (round g).0 (drawn g)) (none_of_rounds read drawn places count (round g).1 more some none)
 
 none_at_end : (places : ℕ) → NoneRefused places (flat_map spelled (Settle ∷ Quit ∷ []))
 none_at_end places n = refl
 
-none_refused : ReadsLines → (n places : ℕ) → 4 ≤ places → NoneRefused places (script_of n)
+none_refused : ReadsLines → RoundsAreInRange → (n places : ℕ) → 4 ≤ places → NoneRefused places (script_of n)
 unfolding script_of opening plugs links hosts
-none_refused read n places some =
+none_refused read drawn n places some =
     none_of_lines places opening (rounds 4000 (seeded n) ++ Settle ∷ Quit ∷ []) (opening_goes places some)
-    (none_of_rounds read places 4000 (seeded n) (Settle ∷ Quit ∷ []) some (none_at_end places))
+    (none_of_rounds read drawn places 4000 (seeded n) (Settle ∷ Quit ∷ []) some (none_at_end places))
 
-pub places_decide : ReadsLines → PlacesDecide
+pub places_decide : ReadsLines → RoundsAreInRange → PlacesDecide
 unfolding script_of opening plugs digits
-places_decide read n zero = refl
-places_decide read n (suc zero) = refl
-places_decide read n (suc (suc zero)) = refl
-places_decide read n (suc (suc (suc zero))) = refl
-places_decide read n (suc (suc (suc (suc more)))) =
+places_decide read drawn n zero = refl
+places_decide read drawn n (suc zero) = refl
+places_decide read drawn n (suc (suc zero)) = refl
+places_decide read drawn n (suc (suc (suc zero))) = refl
+places_decide read drawn n (suc (suc (suc (suc more)))) =
     let places = suc (suc (suc (suc more))) in
-    none_refused read n places (omega arith) 1 ∙ sym (ap (λ t. cond t None (Some (places + 1, Switch))) (le-leb 4 places (omega arith)))
+    none_refused read drawn n places (omega arith) 1 ∙ sym (ap (λ t. cond t None (Some (places + 1, Switch))) (le-leb 4 places (omega arith)))

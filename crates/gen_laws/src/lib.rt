@@ -3,6 +3,7 @@
 
 ghost use Rattle.gen_laws.specs.Laws.{IsPolicy, PlacesDecide};
 
+use gen_script::round_law;
 use script_text::grammar_laws;
 
 /// The policy under which a script runs is one.
@@ -15,4 +16,5 @@ pub fn script_law()
     ensures { PlacesDecide }
 {
     grammar_laws();
+    round_law();
 }

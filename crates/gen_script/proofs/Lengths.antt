@@ -8,26 +8,26 @@ use Rattle.rand_pcg.specs.Lcg.{Lcg}
 use Rattle.gen_script.specs.declared.line.ScriptLine.{ScriptLine}
 use Rattle.gen_script.specs.declared.line.ScriptLine.TheVariants.{Plug, Settle, Link, Host, Block, Unblock, Packet, Quit}
 use Rattle.gen_script.specs.Draws.{seeded, round}
-use Rattle.gen_script.specs.Laws.{AreShort}
+use Rattle.gen_script.specs.Laws.{AreShort, IsInRange}
 use Rattle.gen_script.specs.Lines.{spelled}
 use Rattle.gen_script.specs.Script.{plugs, links, hosts, opening, rounds, script_of}
-use Rattle.gen_script.proofs.Drawn.{IsSmall, small_round}
+use Rattle.gen_script.proofs.Drawn.{rounds_in_range}
 
 two_digits : (n : ℕ) → n < 100 → length (decimal n) ≤ 2
 two_digits n h = length-decimal-le 2 n (omega arith) (omega arith) (omega arith)
 
-short_line : (l : ScriptLine) → IsSmall l → length (spelled l) ≤ 100
+short_line : (l : ScriptLine) → IsInRange l → length (spelled l) ≤ 100
 short_line Settle small = omega arith
 short_line (Host h s) small =
-    let switch = two_digits s (omega (arith, small.1)) in
-    let port = two_digits (10 + h) (omega (arith, small.0)) in
+    let switch = two_digits s (omega (arith, small.1.1)) in
+    let port = two_digits (10 + h) (omega (arith, small.0.1)) in
     simp length-append (omega (arith, switch, port))
 short_line (Block a) small = let source = two_digits a (omega arith) in simp length-append (omega (arith, source))
 short_line (Unblock a) small = let source = two_digits a (omega arith) in simp length-append (omega (arith, source))
 short_line (Packet c p h a) small =
-    let device = two_digits c (omega (arith, small.1)) in
-    let port = two_digits p (omega (arith, small.2)) in
-    let source = two_digits a (omega (arith, small.4)) in
+    let device = two_digits c (omega (arith, small.0.1)) in
+    let port = two_digits p (omega (arith, small.1.1)) in
+    let source = two_digits a (omega (arith, small.3)) in
     simp length-append (omega (arith, device, port, source))
 short_line (Plug c) small = absurd small
 short_line (Link s p t q) small = absurd small
@@ -37,7 +37,7 @@ short_rounds : (count : ℕ) (g : Lcg) → length (flat_map spelled (rounds coun
 unfolding rounds
 short_rounds zero g = omega arith
 short_rounds (suc count) g =
-    let first = short_line (round g).0 (small_round g) in
+    let first = short_line (round g).0 (rounds_in_range g) in
     let rest = short_rounds count (round g).1 in
     omega (arith, first, rest, length-append (spelled (round g).0) (flat_map spelled (rounds count (round g).1)))
 

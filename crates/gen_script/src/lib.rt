@@ -10,7 +10,7 @@ mod script;
 mod summing;
 mod tally;
 
-pub use laws::length_law;
+pub use laws::{length_law, round_law};
 pub use policy::policy_text;
 pub use script::make_script;
 pub use summing::summary;

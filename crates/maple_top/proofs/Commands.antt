@@ -37,24 +37,16 @@ at_refused : (end : SimEnd) (places first : ℕ) (script : List ℕ) → (end �
     → EndsAtRefused (end_of end) (refused_line places first script)
 at_refused sims.Done places first script none at = none refl
 at_refused (sims.Script line kind) places first script none at = at
-at_refused sims.WriteFault places first script none at = tt
-at_refused sims.NoMemory places first script none at = tt
-at_refused sims.Worn places first script none at = tt
+at_refused end places first script none at = tt
 
 -- it ends by a failed write just where the script did, and never by the board
 pub write_end : (end : SimEnd) → end_of end ≡ ends.WriteFault → end ≡ sims.WriteFault
-write_end sims.Done e = absurd (cc)
-write_end (sims.Script line kind) e = absurd (cc)
 write_end sims.WriteFault e = refl
-write_end sims.NoMemory e = absurd (cc)
-write_end sims.Worn e = absurd (cc)
+write_end end e = absurd (cc)
 
 pub no_board_end : (end : SimEnd) → end_of end ≡ ends.BoardFault → ⊥
-no_board_end sims.Done e = cc
 no_board_end (sims.Script line kind) e = cc
-no_board_end sims.WriteFault e = cc
-no_board_end sims.NoMemory e = cc
-no_board_end sims.Worn e = cc
+no_board_end end e = cc
 
 -- what a sink took that had taken nothing is the report
 pub took_report : (end : SimEnd) (g : SimGiven) (after : List Meaning) (old new : SinkView) → old.took ≡ [] → SimEnds end g after old new → HasSimEnded end g after new.took
@@ -108,10 +100,7 @@ module _ (policy : Policy) (settings : Settings) (texts : Texts) (before after :
       where
         by : (e : SimEnd) → (e ≡ sims.Done → ⊥) → closing (end_of e) ≡ last_of (Gen number settings) (end_of e) report
         by sims.Done other = absurd (other refl)
-        by (sims.Script line kind) other = refl
-        by sims.WriteFault other = refl
-        by sims.NoMemory other = refl
-        by sims.Worn other = refl
+        by e other = refl
 
     pub unsummed : (number : ℕ) (result : Status) (report : List ℕ) → Ended report → (end ≡ sims.Done → ⊥) → ClosesBy (end_of end) old new result
         → EndsOver (Gen number settings) policy texts before after old new result
@@ -138,10 +127,7 @@ served_at : (end : ServeEnd) (g : ServeGiven) (before after : List Act) (text : 
     → EndsAtRefused end (first_refused (script_asks g.first_line g.script))
 served_at ends.Done g before after text h = none_refused g h.run.first h.run.parts h.run.ends.all
 served_at (ends.Script line kind) g before after text h = h.run.ends.refused
-served_at ends.WriteFault g before after text h = tt
-served_at ends.BoardFault g before after text h = tt
-served_at ends.Worn g before after text h = tt
-served_at ends.NoMemory g before after text h = tt
+served_at end g before after text h = tt
 
 pub served : (policy : Policy) (settings : Settings) (listen control : ℕ) (texts : Texts) (before after : BoardView) (old mid new : SinkView) (end : ServeEnd) (result : Status)
     → HasServed end (serve_given policy settings texts.script texts.first_line listen control) before after old mid

@@ -7,20 +7,19 @@ use Rattle.serve_steps.specs.declared.end.ServeEnd.TheVariants as ends
 use Rattle.serve_steps.specs.Runs.{spares_board}
 use Rattle.maple_top.specs.declared.status.Status.{Status}
 use Rattle.maple_top.specs.declared.status.Status.TheVariants as status
-use Rattle.maple_top.specs.Ends.{ClosesBy, Ends, IsBoardSpared, IsGiven, IsOrCut, WroteFront, WroteSome, closing, status_of}
+use Rattle.maple_top.specs.Ends.{ClosesBy, Ends, IsBoardSpared, IsCutting, IsGiven, IsOrCut, WroteFront, WroteSome, closing, status_of}
+
+-- what holds of a failed write and of want of memory holds of each status by which a run is cut short
+pub of_cutting : (P : Status → Type 0) → P status.WriteFault → P status.NoMemory → (s : Status) → IsCutting s → P s
+of_cutting P w n status.WriteFault cut = w
+of_cutting P w n status.NoMemory cut = n
+of_cutting P w n s cut = absurd (cut tt)
 
 module _ (old new : SinkView) (text : List ℕ) where
   pub given_ends : (result : Status) → IsGiven result → Wrote old new text → Ends old new result text result
-  given_ends status.Done h a = (refl, a)
-  given_ends status.Usage h a = (refl, a)
-  given_ends status.Policy h a = (refl, a)
-  given_ends status.Script h a = (refl, a)
-  given_ends status.ReadFault h a = (refl, a)
   given_ends status.WriteFault h a = absurd h
   given_ends status.NoMemory h a = absurd h
-  given_ends status.TooLong h a = (refl, a)
-  given_ends status.BoardFault h a = (refl, a)
-  given_ends status.Worn h a = (refl, a)
+  given_ends result h a = (refl, a)
 
   -- a whole text is a front of itself
   wrote_front : Wrote old new text → WroteFront old new text
@@ -28,16 +27,9 @@ module _ (old new : SinkView) (text : List ℕ) where
 
   -- however a part ends, it wrote a front of its text
   pub ends_front : (due result : Status) → Ends old new due text result → WroteFront old new text
-  ends_front due status.Done e = wrote_front e.1
-  ends_front due status.Usage e = wrote_front e.1
-  ends_front due status.Policy e = wrote_front e.1
-  ends_front due status.Script e = wrote_front e.1
-  ends_front due status.ReadFault e = wrote_front e.1
   ends_front due status.WriteFault e = e.1
   ends_front due status.NoMemory e = e
-  ends_front due status.TooLong e = wrote_front e.1
-  ends_front due status.BoardFault e = wrote_front e.1
-  ends_front due status.Worn e = wrote_front e.1
+  ends_front due result e = wrote_front e.1
 
   pub ends_failed : (due result : Status) → Ends old new due text result → result ≡ status.WriteFault → WriteFailed old new
   ends_failed due result e is = (rw is at e).0
@@ -54,16 +46,9 @@ module _ (first old new : SinkView) (kept : List ℕ) (wrote : Wrote first old k
   whole due result is w = (kept ++ last, inl (is, refl), wrote_then first old new kept last wrote w)
 
   pub ends_written : (due result : Status) → IsGiven due → Ends old new due last result → WroteSome first new (IsOrCut due result kept last)
-  ends_written due status.Done given e = whole due status.Done e.0 e.1
-  ends_written due status.Usage given e = whole due status.Usage e.0 e.1
-  ends_written due status.Policy given e = whole due status.Policy e.0 e.1
-  ends_written due status.Script given e = whole due status.Script e.0 e.1
-  ends_written due status.ReadFault given e = whole due status.ReadFault e.0 e.1
-  ends_written due status.WriteFault given (failed, (front, is, w)) = (kept ++ front, inr (given, tt, front, is, refl), wrote_then first old new kept front wrote w)
-  ends_written due status.NoMemory given (front, is, w) = (kept ++ front, inr (given, tt, front, is, refl), wrote_then first old new kept front wrote w)
-  ends_written due status.TooLong given e = whole due status.TooLong e.0 e.1
-  ends_written due status.BoardFault given e = whole due status.BoardFault e.0 e.1
-  ends_written due status.Worn given e = whole due status.Worn e.0 e.1
+  ends_written due status.WriteFault given (failed, (front, is, w)) = (kept ++ front, inr (given, (λ g. g), front, is, refl), wrote_then first old new kept front wrote w)
+  ends_written due status.NoMemory given (front, is, w) = (kept ++ front, inr (given, (λ g. g), front, is, refl), wrote_then first old new kept front wrote w)
+  ends_written due result given e = whole due result e.0 e.1
 
 -- ---- closed by how it ended
 
@@ -114,16 +99,9 @@ closes_board old new ends.NoMemory result e is = absurd (let no = e.0 in cc)
 -- a status that comes only where no call of the board failed, behind a run in which none did
 module _ (old new : SinkView) (text : List ℕ) where
   pub unspared : (due result : Status) → Ends old new due text result → IsBoardSpared result → IsBoardSpared due
-  unspared due status.Done e s = subst IsBoardSpared e.0 tt
-  unspared due status.Usage e s = subst IsBoardSpared e.0 tt
-  unspared due status.Policy e s = subst IsBoardSpared e.0 tt
-  unspared due status.Script e s = subst IsBoardSpared e.0 tt
-  unspared due status.ReadFault e s = subst IsBoardSpared e.0 tt
   unspared due status.WriteFault e s = absurd s
   unspared due status.NoMemory e s = absurd s
-  unspared due status.TooLong e s = subst IsBoardSpared e.0 tt
-  unspared due status.BoardFault e s = absurd s
-  unspared due status.Worn e s = absurd s
+  unspared due result e s = subst IsBoardSpared e.0 s
 
 pub closes_spared : (old new : SinkView) (end : ServeEnd) (result : Status) → ClosesBy end old new result → IsBoardSpared result → spares_board end ≡ true
 closes_spared old new ends.Done result e s = refl

@@ -1,3 +1,4 @@
+pub mod Answered
 pub mod Commands
 pub mod Endings
 pub mod Faults

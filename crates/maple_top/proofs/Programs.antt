@@ -1,13 +1,13 @@
 -- A run over the devices of the program.
-use Rattle.std.proofs.Common.{◌≡◌, ◌≢◌, ℕ, zero, suc, true, List, [], ◌∷◌, ◌++◌, length, map, refl, sym, ap, ◌∙◌, subst, inl, inr, append-nil, arith}
+use Rattle.std.proofs.Common.{◌≡◌, ℕ, zero, suc, true, List, [], ◌∷◌, ◌++◌, length, map, refl, sym, ap, ◌∙◌, subst, inl, inr, append-nil, arith}
 use Rattle.std.specs.List.{AllByRecursion}
 use Rattle.std.proofs.lemmas.List.{append_cancel_left}
 use Rattle.maple_io.specs.Answers.{ends as tells_end, fails, given}
 use Rattle.maple_io.specs.declared.act.Act.{Act}
 use Rattle.maple_io.specs.declared.answer.Answer.{Answer}
-use Rattle.maple_io.specs.Boards.{BoardFailed, BoardView, NoBoardFailed}
+use Rattle.maple_io.specs.Boards.{BoardView}
 use Rattle.maple_io.specs.Fronts.{IsFront}
-use Rattle.maple_io.specs.Views.{Heard, NoReadFailed, NoWriteFailed, SinkView, SourceView, WriteFailed, Wrote}
+use Rattle.maple_io.specs.Views.{Heard, SinkView, SourceView, Wrote}
 use Rattle.maple_io.proofs.Pieces.{wrote_nothing}
 use Rattle.policy_lang.specs.declared.Policy.{Policy}
 use Rattle.device_port.specs.Devices.{Meaning}
@@ -22,12 +22,14 @@ use Rattle.command_words.specs.declared.words.Command.{Command}
 use Rattle.command_words.specs.declared.words.Command.TheVariants.{Sim, Check, Gen, Serve}
 use Rattle.maple_top.specs.declared.status.Status.{Status}
 use Rattle.maple_top.specs.declared.status.Status.TheVariants as status
-use Rattle.maple_top.specs.Due.{AreReading, AreServing, IsDue, IsDueBy, IsExact, IsExactBy, IsFault, IsReading, IsUnread, OfInput}
-use Rattle.maple_top.specs.Ends.{IsAside, IsBoardSpared, IsCutting, IsOrCut, IsUnhindered, StopsAtFailure, WroteFront, status_of}
+use Rattle.maple_top.specs.Due.{AreReading, IsDue, IsDueBy, IsExact, IsExactBy, IsFault, IsReading, IsUnread, OfInput}
+use Rattle.maple_top.specs.Ends.{IsCutting, IsOrCut, StopsAtFailure, WroteFront, status_of}
 use Rattle.maple_top.specs.Outcomes.{Comes, Did, Results, ResultsBy, RunsPolicy, Switches, end_of, kept_of, switches}
-use Rattle.maple_top.specs.Program.{IsReporting, IsRight, IsRightReport, Reports, ResultsIn, RunsOver, device_at, devices_to, program_devices}
+use Rattle.maple_top.specs.Program.{IsReporting, IsRight, IsRightReport, Reports, ResultsIn, RunsOver, Spares, device_at, devices_to, program_devices}
 use Rattle.maple_top.specs.Statuses.{last_line}
 use Rattle.maple_top.specs.Texts.{Texts, texts_of}
+use Rattle.maple_top.proofs.Answered.{at_heard}
+use Rattle.maple_top.proofs.Endings.{of_cutting}
 
 -- ---- the devices
 
@@ -68,9 +70,6 @@ map_one f xs x place next n e k =
 
 -- ---- what was heard
 
-at_heard : (source left : SourceView) {Are : List Answer → Type 0} → Heard source left Are → (heard : List Answer) → left.answers ≡ source.answers ++ heard → Are heard
-at_heard source left {Are} (other, was, are) heard is = subst Are (append_cancel_left source.answers other heard (sym was ∙ is)) are
-
 at_input : {source left : SourceView} {Of : Type 0 → List ℕ → Type 0} → OfInput source left Of → (heard : List Answer) → left.answers ≡ source.answers ++ heard
     → Of (tells_end heard ≡ true) (given heard)
 at_input {source} {left} h heard is = at_heard source left h.heard heard is
@@ -84,13 +83,7 @@ pub record Promises (source left : SourceView) (old new : SinkView) (before afte
   pub failed : StopsAtFailure source left old new
   pub unread : ¬ (AreReading words) → left ≡ source
   pub read_fault : s ≡ status.ReadFault → IsUnread source left
-  pub reads_spared : IsUnhindered s → NoReadFailed source left
-  pub write_fault : s ≡ status.WriteFault → WriteFailed old new
-  pub writes_spared : s ≢ status.WriteFault → NoWriteFailed old new
-  pub board_fault : s ≡ status.BoardFault → BoardFailed before after
-  pub board_spared : IsBoardSpared s → NoBoardFailed before after
-  pub board_aside : IsAside s → after ≡ before
-  pub unserved : ¬ (AreServing words) → after ≡ before
+  pub spares : Spares source left old new before after words s
 
 -- ---- what is right
 
@@ -103,10 +96,7 @@ IsToEnd end = ⊥
 to_end : (end : ServeEnd) → IsReporting (status_of end) → IsToEnd end
 to_end ends.Done h = tt
 to_end (ends.Script line kind) h = tt
-to_end ends.WriteFault h = h
-to_end ends.BoardFault h = h
-to_end ends.Worn h = h
-to_end ends.NoMemory h = h
+to_end end h = h
 
 right_report : (end : SimEnd) (g : SimGiven) (after : List Meaning) (history : List Turn) (report : List ℕ) → AllKeep g.devices → IsToEnd (end_of end) → EndsBy end g after history report
     → IsRightReport g report
@@ -114,9 +104,7 @@ right_report sims.Done g after history report keep to e =
     record { after = after; history = history; followed = e.ends; memory = e.memory tt; world = e.ends.run.world keep }
 right_report (sims.Script line kind) g after history report keep to e =
     record { after = after; history = history; followed = e.ends; memory = e.memory tt; world = e.ends.run.world keep }
-right_report sims.WriteFault g after history report keep to e = absurd to
-right_report sims.NoMemory g after history report keep to e = absurd to
-right_report sims.Worn g after history report keep to e = absurd to
+right_report end g after history report keep to e = absurd to
 
 right_of : (command : Command) (end : ServeEnd) (policy : Policy) (texts : Texts) (board : BoardView) (after : Switches) (report : List ℕ) → IsToEnd end
     → Did command end policy texts (switches program_devices board) after report → IsRight command end policy texts board.log after.board.log report
@@ -132,16 +120,8 @@ right_of (Serve listen control settings) end policy texts board after report to 
 -- a read that failed is told by what was heard
 comes_heard : (ended unread fails : Type 0) (words : List (List ℕ)) (input : List ℕ) (before after : Switches) (due : Status) (kept last : List ℕ) → (unread → fails)
     → Comes ended unread words input before after due kept last → Comes ended fails words input before after due kept last
-comes_heard ended unread fails words input before after status.Done kept last f h = h
-comes_heard ended unread fails words input before after status.Usage kept last f h = h
-comes_heard ended unread fails words input before after status.Policy kept last f h = h
-comes_heard ended unread fails words input before after status.Script kept last f h = h
 comes_heard ended unread fails words input before after status.ReadFault kept last f h = (h.0, f h.1, h.2)
-comes_heard ended unread fails words input before after status.WriteFault kept last f h = h
-comes_heard ended unread fails words input before after status.NoMemory kept last f h = h
-comes_heard ended unread fails words input before after status.TooLong kept last f h = h
-comes_heard ended unread fails words input before after status.BoardFault kept last f h = h
-comes_heard ended unread fails words input before after status.Worn kept last f h = h
+comes_heard ended unread fails words input before after due kept last f h = h
 
 module _ (words : List (List ℕ)) (heard : List Answer) (board : BoardView) (after : Switches) (text : List ℕ) where
   ran_reports : (s : Status) (kept last : List ℕ) → IsReporting s → IsDue s (length program_devices) words (given heard)
@@ -174,31 +154,12 @@ module _ (words : List (List ℕ)) (heard : List Answer) (board : BoardView) (af
         → Reports s words heard board.log after.board.log text
     came_reports status.Done kept last o d h is = ran_reports status.Done kept last tt (d (λ f. f)) h is
     came_reports status.Script kept last o d h is = ran_reports status.Script kept last tt (d (λ f. f)) h is
-    came_reports status.Usage kept last o d h is = absurd o
-    came_reports status.Policy kept last o d h is = absurd o
-    came_reports status.ReadFault kept last o d h is = absurd o
-    came_reports status.WriteFault kept last o d h is = absurd o
-    came_reports status.NoMemory kept last o d h is = absurd o
-    came_reports status.TooLong kept last o d h is = absurd o
-    came_reports status.BoardFault kept last o d h is = absurd o
-    came_reports status.Worn kept last o d h is = absurd o
-
-    not_cutting : (s : Status) → IsReporting s → IsCutting s → ⊥
-    not_cutting status.Done o cut = cut
-    not_cutting status.Script o cut = cut
-    not_cutting status.Usage o cut = cut
-    not_cutting status.Policy o cut = cut
-    not_cutting status.ReadFault o cut = cut
-    not_cutting status.WriteFault o cut = o
-    not_cutting status.NoMemory o cut = o
-    not_cutting status.TooLong o cut = cut
-    not_cutting status.BoardFault o cut = cut
-    not_cutting status.Worn o cut = cut
+    came_reports s kept last o d h is = absurd o
 
     reports : (s : Status) → IsReporting s → (¬ (IsFault s) → IsDue s (length program_devices) words (given heard))
         → Results (tells_end heard ≡ true) unread words (given heard) (switches program_devices board) after s text → Reports s words heard board.log after.board.log text
     reports s reporting due r =
-        let (is, text_is) = uncut s r.came_to r.kept r.last (not_cutting s reporting) r.written in
+        let (is, text_is) = uncut s r.came_to r.kept r.last (λ cut. of_cutting (λ (t : Status). ¬ (IsReporting t)) (λ o. o) (λ o. o) s cut reporting) r.written in
         came_reports s r.kept r.last reporting due (subst (λ (d : Status). Came d r.kept r.last) (sym is) r.comes) text_is
 
 -- ---- a run
@@ -236,13 +197,7 @@ module _ (source left : SourceView) (old new : SinkView) (before after : BoardVi
         unread = λ n. none_heard (p.unread n);
         first = λ f. front_of text wrote (at_heard source left p.failed heard is f);
         read_fault = λ e. (p.read_fault e).0;
-        reads_spared = p.reads_spared;
-        write_fault = p.write_fault;
-        writes_spared = p.writes_spared;
-        board_fault = p.board_fault;
-        board_spared = p.board_spared;
-        board_aside = p.board_aside;
-        unserved = p.unserved;
+        spares = p.spares;
       }
 
 pub runs_over : (source left : SourceView) (old new : SinkView) (before after : BoardView) (first last : List Meaning) (places : ℕ) (words : List (List ℕ)) (s : Status)
@@ -274,17 +229,19 @@ never_run source old board words = record {
   );
   exact = λ due is_due. inr tt;
   reports = λ o. absurd o;
-  reading = (omega arith, inl refl);
+  reading = (omega arith, omega arith, inl refl);
   unread = λ n. refl;
   first = λ f. absurd (let no = f in cc);
   read_fault = λ e. absurd (let no = e in cc);
-  reads_spared = λ u. absurd u;
-  write_fault = λ e. absurd (let no = e in cc);
-  writes_spared = λ other. refl;
-  board_fault = λ e. absurd (let no = e in cc);
-  board_spared = λ b. absurd b;
-  board_aside = λ a. absurd a;
-  unserved = λ n. refl;
+  spares = record {
+    reads_spared = λ u. absurd u;
+    write_fault = λ e. absurd (let no = e in cc);
+    writes_spared = λ other. refl;
+    board_fault = λ e. absurd (let no = e in cc);
+    board_spared = λ b. absurd b;
+    board_aside = λ a. absurd a;
+    unserved = λ n. refl;
+  };
 }
 
 -- the same, where nothing was done

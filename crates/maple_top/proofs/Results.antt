@@ -1,5 +1,5 @@
 -- What comes of a run, from what its parts say.
-use Rattle.std.proofs.Common.{◌≡◌, ◌⊎◌, ℕ, ◌+◌, ◌<◌, ◌≤◌, true, List, [], ◌∷◌, length, Option, Some, None, refl, sym, subst, inl, inr, append-nil}
+use Rattle.std.proofs.Common.{◌≡◌, ℕ, ◌<◌, true, List, [], ◌∷◌, length, Option, Some, None, refl, sym, subst, inl, inr}
 use Rattle.std.specs.Prelude.{IfSome}
 use Rattle.std.specs.Io.KnownBytes.{IsAtEnd}
 use Rattle.maple_io.specs.Answers.{ends as tells_end, fails, given, gives}
@@ -7,20 +7,19 @@ use Rattle.maple_io.specs.declared.answer.Answer.{Answer}
 use Rattle.maple_io.specs.declared.answer.Answer.TheVariants as answers
 use Rattle.maple_io.specs.Views.{Heard, SinkView, SourceView, Wrote}
 use Rattle.maple_io.proofs.Pieces.{wrote_nothing}
-use Rattle.policy_lang.specs.declared.Policy.{Policy}
 use Rattle.report_text.specs.Report.{spelled}
 use Rattle.serve_steps.specs.declared.end.ServeEnd.{ServeEnd}
 use Rattle.serve_steps.specs.declared.end.ServeEnd.TheVariants as ends
 use Rattle.command_words.specs.declared.words.Command.{Command}
 use Rattle.maple_top.specs.declared.status.Status.{Status}
 use Rattle.maple_top.specs.declared.status.Status.TheVariants as status
-use Rattle.maple_top.specs.Due.{AreReading, AreWords, HasCommand, IsReading, OfInput, most_bytes, most_piece}
-use Rattle.maple_top.specs.Ends.{Ends, IsAside, IsCutting, IsGiven, IsOrCut, WroteSome, status_of}
+use Rattle.maple_top.specs.Due.{AreReading, AreWords, HasCommand, OfInput, most_bytes}
+use Rattle.maple_top.specs.Ends.{Ends, IsAside, IsGiven, IsOrCut, WroteSome, status_of}
 use Rattle.maple_top.specs.Outcomes.{Comes, IsRead, IsText, Results, RunsPolicy, Switches, kept_of, last_of}
 use Rattle.maple_top.specs.Running.{RunsTexts, ran, refused, lacked_memory}
 use Rattle.maple_top.specs.Statuses.{last_line}
 use Rattle.maple_top.specs.Texts.{Texts, texts_of}
-use Rattle.maple_top.proofs.Endings.{ends_written}
+use Rattle.maple_top.proofs.Endings.{ends_written, of_cutting}
 
 -- ---- of an input, as far as it is known
 
@@ -73,19 +72,6 @@ of_whole source left Q input f is end (heard, grew, h) = record {
 
 -- ---- what was heard
 
--- nothing was read
-pub unheard : (source : SourceView) (Are : List Answer → Type 0) → Are [] → Heard source source Are
-unheard source Are h = ([], sym (append-nil source.answers), h)
-
-pub heard_so : (source left : SourceView) {P : List Answer → Type 0} → (Q : List Answer → Type 0) → ((heard : List Answer) → P heard → Q heard) → Heard source left P
-    → Heard source left Q
-heard_so source left Q f (heard, is, h) = (heard, is, f heard h)
-
--- what was given is as long as these bytes, and only the last answer may have been another
-pub reading_of : (heard : List Answer) (bytes : List ℕ) → length bytes ≤ most_bytes + most_piece → given heard ≡ bytes
-    → (gives heard ≡ true) ⊎ ((tells_end heard ≡ true) ⊎ (fails heard ≡ true)) → IsReading heard
-reading_of heard bytes within e kind = (subst (λ (b : List ℕ). length b ≤ most_bytes + most_piece) (sym e) within, kind)
-
 -- no answer ends and fails
 pub ended_unfailed : (heard : List Answer) → tells_end heard ≡ true → fails heard ≡ true → ⊥
 ended_unfailed [] e f = let no = e in cc
@@ -103,38 +89,23 @@ given_unfailed (answers.Failed ∷ heard) g f = let no = g in cc
 
 -- ---- what comes of it
 
--- a status that a run under a policy comes to
-abbrev IsOfEnd : Status → Type 0
-IsOfEnd status.Usage = ⊥
-IsOfEnd status.Policy = ⊥
-IsOfEnd status.ReadFault = ⊥
-IsOfEnd status.TooLong = ⊥
-IsOfEnd due = Unit {0}
-
-pub of_end : (end : ServeEnd) → IsOfEnd (status_of end)
-of_end ends.Done = tt
-of_end (ends.Script line kind) = tt
-of_end ends.WriteFault = tt
-of_end ends.BoardFault = tt
-of_end ends.Worn = tt
-of_end ends.NoMemory = tt
+-- no run under a policy leaves all as it was
+of_end : (end : ServeEnd) → ¬ (IsAside (status_of end))
+of_end (ends.Script line kind) a = a
+of_end end a = a
 
 -- it comes to that status
 runs : (ended unread : Type 0) (words : List (List ℕ)) (input : List ℕ) (before after : Switches) (due : Status) (kept last : List ℕ)
     → RunsPolicy ended words input before after due kept last → Comes ended unread words input before after due kept last
-runs ended unread words input before after due kept last h = by due (subst IsOfEnd (sym h.status_is) (of_end h.end)) h
+runs ended unread words input before after due kept last h = by due (λ a. of_end h.end (subst IsAside h.status_is a)) h
   where
-    by : (s : Status) → IsOfEnd s → RunsPolicy ended words input before after s kept last → Comes ended unread words input before after s kept last
-    by status.Done o h = h
-    by status.Usage o h = absurd o
-    by status.Policy o h = absurd o
-    by status.Script o h = h
-    by status.ReadFault o h = absurd o
-    by status.WriteFault o h = h
+    by : (s : Status) → ¬ (IsAside s) → RunsPolicy ended words input before after s kept last → Comes ended unread words input before after s kept last
+    by status.Usage o h = absurd (o tt)
+    by status.Policy o h = absurd (o tt)
+    by status.ReadFault o h = absurd (o tt)
     by status.NoMemory o h = inr h
-    by status.TooLong o h = absurd o
-    by status.BoardFault o h = h
-    by status.Worn o h = h
+    by status.TooLong o h = absurd (o tt)
+    by due o h = h
 
 module _ (ended unread : Type 0) (words : List (List ℕ)) (input : List ℕ) (before : Switches) (old new : SinkView) (result : Status) where
   abbrev pub Came : Switches → Type 0
@@ -202,40 +173,9 @@ module _ (ended unread : Type 0) (words : List (List ℕ)) (input : List ℕ) (b
 -- ---- a run that leaves all as it was
 
 ends_aside : (old new : SinkView) (due : Status) (text : List ℕ) (result : Status) → Ends old new due text result → IsAside result → result ≡ due
-ends_aside old new due text status.Done e a = absurd a
-ends_aside old new due text status.Usage e a = e.0
-ends_aside old new due text status.Policy e a = e.0
-ends_aside old new due text status.Script e a = absurd a
-ends_aside old new due text status.ReadFault e a = e.0
 ends_aside old new due text status.WriteFault e a = absurd a
 ends_aside old new due text status.NoMemory e a = absurd a
-ends_aside old new due text status.TooLong e a = e.0
-ends_aside old new due text status.BoardFault e a = absurd a
-ends_aside old new due text status.Worn e a = absurd a
-
-not_end : (s : Status) → IsOfEnd s → IsAside s → ⊥
-not_end status.Done o a = a
-not_end status.Usage o a = o
-not_end status.Policy o a = o
-not_end status.Script o a = a
-not_end status.ReadFault o a = o
-not_end status.WriteFault o a = a
-not_end status.NoMemory o a = a
-not_end status.TooLong o a = o
-not_end status.BoardFault o a = a
-not_end status.Worn o a = a
-
-not_cut : (s : Status) → IsCutting s → IsAside s → ⊥
-not_cut status.Done cut a = cut
-not_cut status.Usage cut a = cut
-not_cut status.Policy cut a = cut
-not_cut status.Script cut a = cut
-not_cut status.ReadFault cut a = cut
-not_cut status.WriteFault cut a = a
-not_cut status.NoMemory cut a = a
-not_cut status.TooLong cut a = cut
-not_cut status.BoardFault cut a = cut
-not_cut status.Worn cut a = cut
+ends_aside old new due text result e a = e.0
 
 -- refuses the policy
 pub texts_aside : (command : Command) (texts : Texts) (before after : Switches) (old new : SinkView) (result : Status) → RunsTexts command texts before after old new result
@@ -243,7 +183,7 @@ pub texts_aside : (command : Command) (texts : Texts) (before after : Switches) 
 texts_aside command texts before after old new result (ran policy has (text, under, w)) a = absurd (by under.written)
   where
     by : IsOrCut (status_of under.end) result (kept_of command under.report) (last_of command under.end under.report) text → ⊥
-    by (inl (is, t)) = not_end (status_of under.end) (of_end under.end) (subst IsAside is a)
-    by (inr (given, cut, front, is_front, t)) = not_cut result cut a
+    by (inl (is, t)) = of_end under.end (subst IsAside is a)
+    by (inr (given, cut, front, is_front, t)) = of_cutting (λ (s : Status). ¬ (IsAside s)) (λ a. a) (λ a. a) result cut a
 texts_aside command texts before after old new result (refused same none line refusal e) a = ends_aside old new status.Policy (spelled line) result e a
 texts_aside command texts before after old new result (lacked_memory same is w) a = absurd (subst IsAside is a)

@@ -10,6 +10,7 @@ use Rattle.maple_top.specs.Due.{AreReading, AreWords, HasCommand, HasPolicy, IsD
 use Rattle.maple_top.specs.Ends.{IsAside, IsCutting, IsGiven, IsOrCut, status_of}
 use Rattle.maple_top.specs.Outcomes.{Comes, EndsAtRefused, Results, RunsPolicy, Switches}
 use Rattle.maple_top.specs.Texts.{reads, texts_of}
+use Rattle.maple_top.proofs.Endings.{of_cutting}
 
 -- ---- words and an input are due one status
 
@@ -31,20 +32,10 @@ module _ (places : ℕ) (words : List (List ℕ)) (input : List ℕ) where
   one_due c status.Policy status.Done d e = absurd (d e.0.0 e.0.1)
   one_due c status.Policy status.Script d e = absurd (d e.0.0 e.0.1)
   one_due c status.Policy status.Policy d e = refl
-  one_due c status.Usage t d e = absurd d
-  one_due c status.ReadFault t d e = absurd d
-  one_due c status.WriteFault t d e = absurd d
-  one_due c status.NoMemory t d e = absurd d
-  one_due c status.TooLong t d e = absurd d
-  one_due c status.BoardFault t d e = absurd d
-  one_due c status.Worn t d e = absurd d
-  one_due c s status.Usage d e = absurd e
-  one_due c s status.ReadFault d e = absurd e
-  one_due c s status.WriteFault d e = absurd e
-  one_due c s status.NoMemory d e = absurd e
-  one_due c s status.TooLong d e = absurd e
-  one_due c s status.BoardFault d e = absurd e
-  one_due c s status.Worn d e = absurd e
+  one_due c status.Done t d e = absurd e
+  one_due c status.Script t d e = absurd e
+  one_due c status.Policy t d e = absurd e
+  one_due c s t d e = absurd d
 
   both_due : (s t : Status) → IsDueAs s → IsDueAs t → s ≡ t
   both_due s t (c, has, fit, d) (k, with, also, e) =
@@ -59,16 +50,9 @@ module _ (places : ℕ) (words : List (List ℕ)) (input : List ℕ) where
   Due s = ((s ≡ status.Usage) × ¬ (AreWords words)) ⊎ (((s ≡ status.TooLong) × AreReading words × (most_bytes < length input)) ⊎ IsDueAs s)
 
   due_for : (s : Status) → IsDue s places words input → Due s
-  due_for status.Done d = inr (inr d)
   due_for status.Usage d = inl (refl, d)
-  due_for status.Policy d = inr (inr d)
-  due_for status.Script d = inr (inr d)
-  due_for status.ReadFault d = inr (inr d)
-  due_for status.WriteFault d = inr (inr d)
-  due_for status.NoMemory d = inr (inr d)
   due_for status.TooLong d = inr (inl (refl, d.0, d.1))
-  due_for status.BoardFault d = inr (inr d)
-  due_for status.Worn d = inr (inr d)
+  due_for s d = inr (inr d)
 
   pub due_once : (s t : Status) → IsDue s places words input → IsDue t places words input → s ≡ t
   due_once s t d e = by (due_for s d) (due_for t e)
@@ -87,29 +71,17 @@ module _ (places : ℕ) (words : List (List ℕ)) (input : List ℕ) where
 -- ---- what comes is due
 
 is_fault : (s : Status) → IsFault s ⊎ ¬ (IsFault s)
-is_fault status.Done = inr (λ f. f)
-is_fault status.Usage = inr (λ f. f)
-is_fault status.Policy = inr (λ f. f)
-is_fault status.Script = inr (λ f. f)
 is_fault status.ReadFault = inl tt
 is_fault status.WriteFault = inl tt
 is_fault status.NoMemory = inl tt
-is_fault status.TooLong = inr (λ f. f)
 is_fault status.BoardFault = inl tt
 is_fault status.Worn = inl tt
+is_fault s = inr (λ f. f)
 
 -- a run that is cut short meets a fault
 cut_by : (s : Status) → IsCutting s → IsFault s × ¬ (IsAside s) × ((s ≡ status.WriteFault) ⊎ (s ≡ status.NoMemory))
-cut_by status.WriteFault cut = (tt, (λ a. a), inl refl)
-cut_by status.NoMemory cut = (tt, (λ a. a), inr refl)
-cut_by status.Done cut = absurd cut
-cut_by status.Usage cut = absurd cut
-cut_by status.Policy cut = absurd cut
-cut_by status.Script cut = absurd cut
-cut_by status.ReadFault cut = absurd cut
-cut_by status.TooLong cut = absurd cut
-cut_by status.BoardFault cut = absurd cut
-cut_by status.Worn cut = absurd cut
+cut_by =
+    of_cutting (λ (s : Status). IsFault s × ¬ (IsAside s) × ((s ≡ status.WriteFault) ⊎ (s ≡ status.NoMemory))) (tt, (λ a. a), inl refl) (tt, (λ a. a), inr refl)
 
 module _ (ended unread : Type 0) (words : List (List ℕ)) (input : List ℕ) (before after : Switches) (kept last : List ℕ) where
   abbrev Came : Status → Type 0
@@ -123,10 +95,7 @@ module _ (ended unread : Type 0) (words : List (List ℕ)) (input : List ℕ) (b
       → ¬ (IsFault (status_of end)) → IsDueOf (status_of end) (length before.devices) command (texts_of command input)
   end_due command ends.Done at has free = (has, at)
   end_due command (ends.Script line kind) at has free = (has, ((line, kind), at))
-  end_due command ends.WriteFault at has free = absurd (free tt)
-  end_due command ends.BoardFault at has free = absurd (free tt)
-  end_due command ends.Worn at has free = absurd (free tt)
-  end_due command ends.NoMemory at has free = absurd (free tt)
+  end_due command end at has free = absurd (free tt)
 
   ran_due : (due : Status) → Ran due → ¬ (IsFault due) → IsDueAs (length before.devices) words input due
   ran_due due h free = (
@@ -142,37 +111,23 @@ module _ (ended unread : Type 0) (words : List (List ℕ)) (input : List ℕ) (b
   comes_due status.Usage h free = h.0
   comes_due status.Policy h free = (h.command, h.has_command, (λ reading. (h.read reading).1), h.none)
   comes_due status.Script h free = ran_due status.Script h free
-  comes_due status.ReadFault h free = absurd (free tt)
-  comes_due status.WriteFault h free = absurd (free tt)
-  comes_due status.NoMemory h free = absurd (free tt)
   comes_due status.TooLong h free = (h.0, h.1)
-  comes_due status.BoardFault h free = absurd (free tt)
-  comes_due status.Worn h free = absurd (free tt)
+  comes_due due h free = absurd (free tt)
 
   -- all but the refusal of words, and want of memory, come of words in the grammar
   comes_words : (due : Status) → Came due → (due ≡ status.Usage) ⊎ ((due ≡ status.NoMemory) ⊎ AreWords words)
-  comes_words status.Done h = inr (inr (h.command, h.has_command))
   comes_words status.Usage h = inl refl
-  comes_words status.Policy h = inr (inr (h.command, h.has_command))
-  comes_words status.Script h = inr (inr (h.command, h.has_command))
   comes_words status.ReadFault h = let (c, has, r) = h.0 in inr (inr (c, has))
-  comes_words status.WriteFault h = inr (inr (h.command, h.has_command))
   comes_words status.NoMemory h = inr (inl refl)
   comes_words status.TooLong h = let (c, has, r) = h.0 in inr (inr (c, has))
-  comes_words status.BoardFault h = inr (inr (h.command, h.has_command))
-  comes_words status.Worn h = inr (inr (h.command, h.has_command))
+  comes_words due h = inr (inr (h.command, h.has_command))
 
   comes_aside : (due : Status) → Came due → IsAside due → after ≡ before
-  comes_aside status.Done h a = absurd a
   comes_aside status.Usage h a = h.1.same
   comes_aside status.Policy h a = h.is_text.same
-  comes_aside status.Script h a = absurd a
   comes_aside status.ReadFault h a = h.2.same
-  comes_aside status.WriteFault h a = absurd a
-  comes_aside status.NoMemory h a = absurd a
   comes_aside status.TooLong h a = h.2.same
-  comes_aside status.BoardFault h a = absurd a
-  comes_aside status.Worn h a = absurd a
+  comes_aside due h a = absurd a
 
 -- ---- what follows
 
@@ -222,7 +177,7 @@ module _ (ended unread : Type 0) (words : List (List ℕ)) (input : List ℕ) (b
       by : IsCut → unread
       by (inl (same, t)) =
           let comes = subst (λ (s : Status). Comes ended unread words input before after s r.kept r.last) (sym same ∙ is) r.comes in comes.1
-      by (inr (given, cut, front, is_front, t)) = absurd (subst IsCutting is cut)
+      by (inr (given, cut, front, is_front, t)) = absurd (subst IsCutting is cut tt)
 
 -- the same where there are so many devices
 pub due_at : (places : ℕ) {before : Switches} → length before.devices ≡ places → (ended unread : Type 0) (words : List (List ℕ)) (input : List ℕ) (after : Switches) (result : Status) (text : List ℕ)

@@ -1,5 +1,5 @@
 -- Which status a run of the program is due.
-use Rattle.std.specs.Prelude.{◌≡◌, ◌⊎◌, ℕ, ◌<◌, ◌≤◌, ◌+◌, true, List, length, Option, Some, None, IfSome}
+use Rattle.std.specs.Prelude.{◌≡◌, ◌⊎◌, ℕ, ◌<◌, ◌≤◌, ◌+◌, ◌-◌, true, List, length, take, Option, Some, None, IfSome}
 use Rattle.std.specs.Io.KnownBytes.{IsAtEnd}
 use Rattle.maple_io.specs.Answers.{ends as tells_end, fails, given, gives}
 use Rattle.maple_io.specs.declared.answer.Answer.{Answer}
@@ -67,9 +67,16 @@ ReadOver before after = (bytes : List ℕ) × (most_bytes < length bytes) × Gav
 abbrev pub IsUnread : SourceView → SourceView → Type 0
 IsUnread source left = ReadFailed source left × Heard source left (λ heard. fails heard ≡ true)
 
--- bytes were given, few more than an input may have, and nothing was read behind the end or a failure
+-- the answers ahead of the last one
+abbrev pub but_last : List Answer → List Answer
+but_last heard = take (length heard - 1) heard
+
+-- no more bytes than an input may have were given ahead of the last answer, and few more with it; nothing was read behind the end or a failure
 abbrev pub IsReading : List Answer → Type 0
-IsReading heard = (length (given heard) ≤ most_bytes + most_piece) × ((gives heard ≡ true) ⊎ ((tells_end heard ≡ true) ⊎ (fails heard ≡ true)))
+IsReading heard =
+    (length (given (but_last heard)) ≤ most_bytes)
+    × (length (given heard) ≤ most_bytes + most_piece)
+    × ((gives heard ≡ true) ⊎ ((tells_end heard ≡ true) ⊎ (fails heard ≡ true)))
 
 -- of the input it is so, as far as it is known: by the bytes that the source told to be left, where it told them, and by those that it gave. `ended` says that
 -- the input has no more

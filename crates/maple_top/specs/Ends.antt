@@ -39,9 +39,7 @@ IsGiven result = Unit {0}
 
 -- the status by which a run ends that is cut short as it writes
 abbrev pub IsCutting : Status → Type 0
-IsCutting status.WriteFault = Unit {0}
-IsCutting status.NoMemory = Unit {0}
-IsCutting result = ⊥
+IsCutting result = ¬ (IsGiven result)
 
 -- a run that comes to this status has written one text as it went, and has another one to write last. It ends so, having written both, or it is cut short,
 -- having written the first and a front of the other
@@ -58,9 +56,7 @@ Ends old new due text result = (result ≡ due) × Wrote old new text
 -- a status of a run that met no fault of a stream and had memory enough
 abbrev pub IsUnhindered : Status → Type 0
 IsUnhindered status.ReadFault = ⊥
-IsUnhindered status.WriteFault = ⊥
-IsUnhindered status.NoMemory = ⊥
-IsUnhindered result = Unit {0}
+IsUnhindered result = IsGiven result
 
 -- a status of a run that leaves the devices and the board as they were
 abbrev pub IsAside : Status → Type 0
@@ -73,10 +69,8 @@ IsAside result = ⊥
 -- a status of a run in which no call of the board failed. Behind one that failed the report is still written, and that may fail, or memory may run out
 abbrev pub IsBoardSpared : Status → Type 0
 IsBoardSpared status.BoardFault = ⊥
-IsBoardSpared status.WriteFault = ⊥
-IsBoardSpared status.NoMemory = ⊥
 IsBoardSpared status.Worn = ⊥
-IsBoardSpared result = Unit {0}
+IsBoardSpared result = IsGiven result
 
 -- ---- ends of a script, or of serving
 

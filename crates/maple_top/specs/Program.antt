@@ -91,6 +91,17 @@ ResultsIn result words heard before after text =
     (devices : List Meaning)
     × Results (tells_end heard ≡ true) (fails heard ≡ true) words (given heard) (switches program_devices before) (switches devices after) result text
 
+-- which failed calls were counted, by the status: those of the sink and of the board that it tells; none of the sink that it doesn't tell; none of the source
+-- or the board with a status that can't stand behind one. The board is called by `serve` alone
+pub record Spares (source left : SourceView) (old new : SinkView) (before after : BoardView) (words : List (List ℕ)) (result : Status) : Type 0 where
+  pub reads_spared : IsUnhindered result → NoReadFailed source left
+  pub write_fault : result ≡ status.WriteFault → WriteFailed old new
+  pub writes_spared : result ≢ status.WriteFault → NoWriteFailed old new
+  pub board_fault : result ≡ status.BoardFault → BoardFailed before after
+  pub board_spared : IsBoardSpared result → NoBoardFailed before after
+  pub board_aside : IsAside result → after ≡ before
+  pub unserved : ¬ (AreServing words) → after ≡ before
+
 -- a run over the devices of the program, from any source to any sink
 pub record RunsOver (source left : SourceView) (old new : SinkView) (before after : BoardView) (words : List (List ℕ)) (result : Status) : Type 0 where
   pub heard : List Answer
@@ -104,10 +115,4 @@ pub record RunsOver (source left : SourceView) (old new : SinkView) (before afte
   pub unread : ¬ (AreReading words) → heard ≡ []
   pub first : fails heard ≡ true → IsFront text (last_line status.ReadFault)
   pub read_fault : result ≡ status.ReadFault → ReadFailed source left
-  pub reads_spared : IsUnhindered result → NoReadFailed source left
-  pub write_fault : result ≡ status.WriteFault → WriteFailed old new
-  pub writes_spared : result ≢ status.WriteFault → NoWriteFailed old new
-  pub board_fault : result ≡ status.BoardFault → BoardFailed before after
-  pub board_spared : IsBoardSpared result → NoBoardFailed before after
-  pub board_aside : IsAside result → after ≡ before
-  pub unserved : ¬ (AreServing words) → after ≡ before
+  pub spares : Spares source left old new before after words result

@@ -1,8 +1,8 @@
 // The devices of the program.
-ghost use Rattle.std.specs.Prelude.{◌≡◌, ◌++◌, [], ◌∷◌, None, OnOk, map};
+ghost use Rattle.std.specs.Prelude.{◌≡◌, ◌++◌, [], ◌∷◌, OnOk, map};
 ghost use Rattle.model_switch.specs.Meanings.{of_shuffled};
-ghost use Rattle.model_switch.specs.States.{meaning_of, opened};
 ghost use Rattle.sim_steps.specs.Showing.{AllIdle};
+ghost use Rattle.maple_top.specs.Program.{device_at};
 
 use device_port::Device;
 use model_switch::Shuffled;
@@ -31,7 +31,7 @@ pub fn push_idle<D: Device>(all: &mut Vec<D>, device: D) -> Result<(), AllocErro
 /// The device of the program at a place, from 1 to `DEVICES`: its datapath id and its seed are the
 /// place. No message waits in it.
 pub fn program_device(alloc: Global, place: u64) -> Shuffled
-    ensures meaning { of_shuffled result ≡ meaning_of 0 None (opened place 48 65535) }
+    ensures meaning { of_shuffled result ≡ device_at place }
     ensures idle { (of_shuffled result).pending ≡ [] }
 {
     Shuffled::new(alloc, place, PORTS, MOST_RULES, place)

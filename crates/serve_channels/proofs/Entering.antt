@@ -1,5 +1,5 @@
 -- An entry of the server: behind what others did, one turn of the machine. What it leaves of connections that it isn't about, and where it stands in a stretch.
-use Rattle.std.proofs.Common.{◌≡◌, ◌⊎◌, ℕ, true, false, not, ◌&&◌, List, [], ◌∷◌, ◌++◌, Option, Some, None, append-nil, refl, sym, ap, ◌∙◌, subst, ⊎_elim}
+use Rattle.std.proofs.Common.{◌≡◌, ℕ, true, false, not, ◌&&◌, List, [], ◌∷◌, ◌++◌, Option, Some, None, append-nil, refl, sym, ap, ◌∙◌, subst, ⊎_elim}
 use Rattle.std.specs.Prelude.{is_some}
 use Rattle.std.proofs.lemmas.Bool.{cases_Bool, eq-eqb}
 use Rattle.maple_io.specs.declared.act.Act.{Act}
@@ -21,11 +21,11 @@ use Rattle.serve_channels.specs.declared.server.Server.{Server}
 use Rattle.serve_channels.specs.Keeping.{IsKept, Went}
 use Rattle.serve_channels.specs.Servers.{IsSame, IsUnknown, WorksAlone}
 use Rattle.serve_channels.specs.Serving.{ServingLaws}
-use Rattle.serve_channels.specs.Stretches.{IsAside}
+use Rattle.serve_channels.specs.Stretches.{IsAside, Owes}
 use Rattle.serve_channels.proofs.Alike.{Spares, alike_turn, aside_turn, is_about, spares_another}
 use Rattle.serve_channels.proofs.Kept.{IsKeptBut, IsLeft, IsSessionStill, IsTold, kept_but, kept_whole, same_crew}
 use Rattle.serve_channels.proofs.Others.{DidBeside, IsLawful, entered_ahead, leads_then, meanwhile_others, others_aside, others_kept, others_lawful, others_owe}
-use Rattle.serve_channels.proofs.Stretching.{Owes, all_is_told, aside_nothing, owes_nothing}
+use Rattle.serve_channels.proofs.Stretching.{aside_nothing, nothing_done}
 use Rattle.serve_channels.proofs.Told.{taken_others}
 
 -- ---- behind what others did
@@ -146,7 +146,7 @@ pub record IsUnderWay (g : Given) (before : List Act) (past : Past) (to : Option
 
 pub begins : {g : Given} {before : List Act} {past : Past} {log : List Act} {s : Server} → IsKept g before past log s → IsLawful s.desk
     → IsUnderWay g before past None [] [] log s
-begins {g} {before} {past} kept law = record { owes = owes_nothing past; kept = kept_but kept; law = law; aside = λ c unknown. aside_nothing c; unread = refl }
+begins {g} {before} {past} kept law = record { owes = nothing_done past; kept = kept_but kept; law = law; aside = λ c unknown. aside_nothing c; unread = refl }
 
 -- and then the call is over
 pub is_over_now : {g : Given} {before : List Act} {past : Past} {own : List Entry} {done : Past} {log : List Act} {s : Server} (So : List Entry → Past → Type 0)
@@ -154,7 +154,7 @@ pub is_over_now : {g : Given} {before : List Act} {past : Past} {own : List Entr
 is_over_now {past = past} {own = own} {done = done} So h so jobs = record {
   done = done;
   own = own;
-  stretch = all_is_told own done past h.owes;
+  stretch = h.owes;
   so = so;
   kept = kept_whole h.kept jobs;
   aside = h.aside;

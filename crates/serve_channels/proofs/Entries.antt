@@ -20,13 +20,13 @@ use Rattle.serve_channels.specs.declared.server.Server.{Server}
 use Rattle.serve_channels.specs.Keeping.{Agrees}
 use Rattle.serve_channels.specs.Servers.{IsGap, IsSame, IsUnknown, WorksAlone, number_of}
 use Rattle.serve_channels.specs.Serving.{ServingLaws}
+use Rattle.serve_channels.specs.Stretches.{Owes}
 use Rattle.serve_channels.proofs.Alike.{Spares, is_about, spares_another}
 use Rattle.serve_channels.proofs.Entering.{EntersNext, IsUnderWay, ahead, at_desk, beside_at, enters_next, goes_beside, goes_next, meanwhile_ahead, next_another, next_spared, next_told, owes_next}
 use Rattle.serve_channels.proofs.Kept.{IsKeptBut, IsLeft, IsTold, alone_back, kept_at, kept_new, kept_same, set_unknown}
 use Rattle.serve_channels.proofs.Others.{DidBeside, IsLawful, meanwhile_none}
 use Rattle.serve_channels.proofs.Replies.{few_wait}
 use Rattle.serve_channels.proofs.Sorted.{inserted_number, inserted_unknown}
-use Rattle.serve_channels.proofs.Stretching.{Owes}
 
 -- ---- where it may stand
 

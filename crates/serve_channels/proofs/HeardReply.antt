@@ -18,7 +18,7 @@ use Rattle.machine_steps.specs.Messages.Makes.{PassesOver, RefusesVersion, Greet
 use Rattle.machine_steps.specs.Steps.{HearsOf, Steps}
 use Rattle.serve_steps.specs.Deeds.{tells_link_end}
 use Rattle.serve_steps.specs.Parts.{is_overload}
-use Rattle.serve_channels.specs.Passing.{brings_packet, is_packet}
+use Rattle.desk_jobs.specs.Arriving.{brings_packet, is_packet}
 
 -- ---- what a session makes of a message
 

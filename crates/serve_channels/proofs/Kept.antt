@@ -1,9 +1,9 @@
 -- What a server keeps, from before to behind: where nothing is done with any connection, with all but one, or with all but a new one.
-use Rattle.std.proofs.Common.{◌≡◌, ◌⊎◌, ℕ, zero, suc, true, false, List, [], ◌∷◌, ◌++◌, set, refl, sym, ap, ◌∙◌, subst, inl, inr, ⊎_elim}
+use Rattle.std.proofs.Common.{◌≡◌, ◌⊎◌, ℕ, true, false, List, [], ◌++◌, set, refl, sym, ap, ◌∙◌, subst, inl, inr, ⊎_elim}
 use Rattle.std.specs.Prelude.{IfSome, Option, Some, None, is_some}
 use Rattle.std.specs.List.{insert, slice_get}
 use Rattle.std.proofs.lemmas.Bool.{cases_Bool, cases_eq}
-use Rattle.std.proofs.lemmas.Option.{none-some, same_Some}
+use Rattle.std.proofs.lemmas.Option.{same_Some}
 use Rattle.maple_base.specs.declared.decision.Settings.{Settings}
 use Rattle.maple_io.specs.declared.act.Act.{Act}
 use Rattle.maple_io.specs.Boards.{was_opened}
@@ -12,46 +12,27 @@ use Rattle.machine_steps.specs.Machine.{was_opened as was_session}
 use Rattle.machine_desk.specs.Desks.{Footing}
 use Rattle.machine_desk.specs.Hearing.{IsStaged}
 use Rattle.machine_desk.specs.declared.inbound.Inbound.{Inbound}
+use Rattle.core_machine.proofs.Hearing.{set_there}
 use Rattle.desk_jobs.specs.declared.crew.Crew.{Crew}
 use Rattle.desk_jobs.specs.Crews.{IsCrew, MayHave, SameCrew}
+use Rattle.desk_jobs.proofs.Lists.{set_beside}
 use Rattle.serve_steps.specs.Deeds.{Past, acts_of, bytes_of, turns_of}
 use Rattle.serve_steps.specs.Parts.{Given}
 use Rattle.serve_channels.specs.declared.connection.Connection.{Connection}
 use Rattle.serve_channels.specs.declared.server.Server.{Server}
-use Rattle.serve_channels.specs.Keeping.{Agrees, IsForgotten, IsKept, IsUnused}
-use Rattle.serve_channels.specs.Servers.{AreSessions, AreSorted, IsAt, IsGap, IsKnown, IsSame, IsUnknown, WorksAlone, number_of}
+use Rattle.serve_channels.specs.Keeping.{Agrees, IsForgotten, IsKept, IsUnused, Keeps}
+use Rattle.serve_channels.specs.Servers.{AreSorted, IsAt, IsGap, IsKnown, IsSame, IsUnknown, WorksAlone, number_of}
 use Rattle.serve_channels.proofs.Alike.{IsAlike, agrees_alike, forgotten_alike, unused_alike}
 use Rattle.serve_channels.proofs.Sorted.{apart, at_there, inserted_from, inserted_number, inserted_unknown, none_at, sorted_insert}
 
--- ---- all but that no packet waits
+-- ---- whatever is known of packets that wait
 
-pub record IsKeptBut (g : Given) (before : List Act) (past : Past) (log : List Act) (s : Server) : Type 0 where
-  pub start : s.desk.footing.start ≡ opening g.policy g.settings
-  pub turns : s.desk.past ≡ turns_of past
-  pub acts : log ≡ before ++ acts_of past
-  pub sorted : AreSorted s.connections.items
-  pub agree : (at : ℕ) (k : Connection) → slice_get s.connections.items at ≡ Some k → Agrees past k
-  pub forgotten : (c : ℕ) → IsUnknown c s.connections.items → IsForgotten c past
-  pub unused : (c : ℕ) → was_opened c (acts_of past) ≡ false → IsUnused c past × (was_session c s.desk.now ≡ false)
-  pub sessions : AreSessions s.connections.items s.desk.now
-  pub crew : MayHave s.crew s.desk.footing.parts s.desk.now
+abbrev pub IsKeptBut : Given → List Act → Past → List Act → Server → Type 0
+IsKeptBut g before past log s = Keeps g before past log s (Unit {0})
 
-pub kept_but : {g : Given} {before : List Act} {past : Past} {log : List Act} {s : Server} → IsKept g before past log s → IsKeptBut g before past log s
-kept_but h = record {
-  start = h.start;
-  turns = h.turns;
-  acts = h.acts;
-  sorted = h.sorted;
-  agree = h.agree;
-  forgotten = h.forgotten;
-  unused = h.unused;
-  sessions = h.sessions;
-  crew = h.crew;
-}
-
-pub kept_whole : {g : Given} {before : List Act} {past : Past} {log : List Act} {s : Server} → IsKeptBut g before past log s → (WorksAlone s → s.desk.now.jobs ≡ [])
-    → IsKept g before past log s
-kept_whole h jobs = record {
+pub kept_with : {g : Given} {before : List Act} {past : Past} {log : List Act} {s : Server} {Jobs Others : Type 0} → Keeps g before past log s Jobs → Others
+    → Keeps g before past log s Others
+kept_with h jobs = record {
   start = h.start;
   turns = h.turns;
   acts = h.acts;
@@ -63,6 +44,13 @@ kept_whole h jobs = record {
   crew = h.crew;
   jobs = jobs;
 }
+
+pub kept_but : {g : Given} {before : List Act} {past : Past} {log : List Act} {s : Server} → IsKept g before past log s → IsKeptBut g before past log s
+kept_but h = kept_with h tt
+
+pub kept_whole : {g : Given} {before : List Act} {past : Past} {log : List Act} {s : Server} → IsKeptBut g before past log s → (WorksAlone s → s.desk.now.jobs ≡ [])
+    → IsKept g before past log s
+kept_whole h jobs = kept_with h jobs
 
 -- ---- the same server
 
@@ -130,20 +118,6 @@ number_there at c k ks there is = ap number_of (same_Some k is.connection (sym t
 -- an unknown number isn't that of one that is there
 pub not_there : (at c : ℕ) (k : Connection) (ks : List Connection) → slice_get ks at ≡ Some k → IsUnknown c ks → number_of k ≡ c → ⊥
 not_there at c k ks there unknown e = unknown (at, record { connection = k; there = there; number = e })
-
--- ---- lists
-
-pub set_there : {X : Type 0} (xs : List X) (at : ℕ) (x y : X) → slice_get xs at ≡ Some x → slice_get (set xs at y) at ≡ Some y
-set_there [] at x y e = absurd (none-some x e)
-set_there (z ∷ zs) zero x y e = refl
-set_there (z ∷ zs) (suc n) x y e = set_there zs n x y e
-
-pub set_beside : {X : Type 0} (xs : List X) (at n : ℕ) (y : X) → (n ≡ at → ⊥) → slice_get (set xs at y) n ≡ slice_get xs n
-set_beside [] at n y other = refl
-set_beside (z ∷ zs) zero zero y other = absurd (other refl)
-set_beside (z ∷ zs) zero (suc n) y other = refl
-set_beside (z ∷ zs) (suc at) zero y other = refl
-set_beside (z ∷ zs) (suc at) (suc n) y other = set_beside zs at n y (λ e. other (ap suc e))
 
 swapped : {A B : Type 0} → A ⊎ B → B ⊎ A
 swapped (inl a) = inr a
@@ -246,6 +220,7 @@ module _ {g : Given} {before : List Act} {past after : Past} {old_log log : List
       alone = λ c unknown. alone_left c (left c) (subst (IsUnknown c) e unknown);
     };
     crew = crew_on a b told.same told.settings kept.crew;
+    jobs = tt;
   }
 
   -- ---- nothing was done with any but one, which became another
@@ -293,6 +268,7 @@ module _ {g : Given} {before : List Act} {past after : Past} {old_log log : List
         alone = λ c unknown. alone_left c (others c (gone c unknown).1) (gone c unknown).0;
       };
       crew = crew_on a b told.same told.settings kept.crew;
+      jobs = tt;
     }
 
   -- ---- a new one is there, with which nothing was done before
@@ -331,4 +307,5 @@ module _ {g : Given} {before : List Act} {past after : Past} {old_log log : List
         alone = λ c none. alone_left c (others c (not_new c none)) (was_unknown c none);
       };
       crew = crew_on a b told.same told.settings kept.crew;
+      jobs = tt;
     }

@@ -27,10 +27,9 @@ use Rattle.serve_steps.specs.Parts.{AreFree, Given, all_told, due, ends_due, ent
 use Rattle.serve_channels.specs.declared.server.Server.{Server}
 use Rattle.serve_channels.specs.Servers.{IsSame, WorksAlone}
 use Rattle.serve_channels.specs.Serving.{ServingLaws}
-use Rattle.serve_channels.specs.Stretches.{IsAside}
+use Rattle.serve_channels.specs.Stretches.{IsAside, Owes}
 use Rattle.serve_channels.proofs.Alike.{IsAlike, alike_same, alike_then, alike_turn, aside_turn, is_about, spares_another}
 use Rattle.serve_channels.proofs.Kept.{IsKeptBut, alone_back, IsLeft, IsSessionStill, IsTold, kept_same}
-use Rattle.serve_channels.proofs.Stretching.{Owes}
 
 -- ---- entries of others
 

@@ -21,6 +21,7 @@ use Rattle.machine_desk.specs.declared.hearing.Heard.{Heard}
 use Rattle.machine_desk.specs.declared.inbound.Inbound.{Inbound}
 use Rattle.world_steps.specs.Worlds.{lacks_memory}
 use Rattle.sim_steps.specs.Agreeing.{AreCut}
+use Rattle.core_machine.proofs.Hearing.{set_there}
 use Rattle.serve_steps.specs.Deeds.{Past, bytes_of, inputs_of, is_open, is_over, tells_end}
 use Rattle.serve_steps.specs.Deeds.Deed.{Enters}
 use Rattle.serve_steps.specs.Laws.{entered}
@@ -39,7 +40,7 @@ use Rattle.serve_channels.proofs.Attended.{alike_beside, beside_none, beside_of,
 use Rattle.serve_channels.proofs.Entering.{IsUnderWay, begins, goes_beside, is_over_now}
 use Rattle.serve_channels.proofs.Entries.{ahead_now, between, goes_with_one, others_ahead, own_turn}
 use Rattle.serve_channels.proofs.HeardReply.{Tells, tells_so}
-use Rattle.serve_channels.proofs.Kept.{alone_back, set_there, some_crew}
+use Rattle.serve_channels.proofs.Kept.{alone_back, some_crew}
 use Rattle.serve_channels.proofs.OneHeard.{HeardBy, comes_live, cut_now, fewer_now, inputs_are, one_agrees, over_now, was_open, with_inbound}
 use Rattle.serve_channels.proofs.Others.{DidBeside, IsLawful, meanwhile_others, others_jobs}
 use Rattle.serve_channels.proofs.Replies.{had_memory}

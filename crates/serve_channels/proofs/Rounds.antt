@@ -18,6 +18,7 @@ use Rattle.board_lines.specs.Deliveries.{OnlySends, SendsAll, is_failed_reach, i
 use Rattle.board_lines.specs.Queues.{QueueView}
 use Rattle.machine_steps.specs.declared.entry.Entry.{Entry}
 use Rattle.machine_desk.specs.Hearing.{is_live}
+use Rattle.desk_jobs.proofs.Lists.{set_beside}
 use Rattle.serve_steps.specs.Deeds.{Past, last_answer, takes_out}
 use Rattle.serve_steps.specs.Deeds.Deed.{Does}
 use Rattle.serve_steps.specs.Parts.{is_quiet}
@@ -27,7 +28,6 @@ use Rattle.serve_channels.specs.Delivering.{Empties, EmptiesAll, FewerUnfailed, 
 use Rattle.serve_channels.specs.Keeping.{Goes, IsServing}
 use Rattle.serve_channels.specs.Servers.{IsAt, SameNumbers, number_of}
 use Rattle.serve_channels.specs.Stretches.{IsAside, IsQuietly}
-use Rattle.serve_channels.proofs.Kept.{set_beside}
 use Rattle.serve_channels.proofs.Numbered.{stay_known}
 use Rattle.serve_channels.proofs.Stretching.{answer_then, goes_so, goes_then, went_nowhere}
 use Rattle.serve_channels.proofs.Sorted.{at_there}

@@ -25,18 +25,17 @@ use Rattle.serve_channels.specs.declared.connection.Connection.{Connection}
 use Rattle.serve_channels.specs.declared.server.Server.{Server}
 use Rattle.serve_channels.specs.Keeping.{Agrees}
 use Rattle.serve_channels.specs.Servers.{IsUnknown, number_of}
-use Rattle.serve_channels.specs.Stretches.{IsAside, Stretch}
+use Rattle.serve_channels.specs.Stretches.{IsAside, Owes, Stretch}
 use Rattle.serve_channels.proofs.Acts.{acts_did, agrees_on, alike_of, did, did_last, did_on, is_quiet_act, stays_did, stays_one, stays_then, turns_did, unread_did}
 use Rattle.serve_channels.proofs.Alike.{IsAlike, alike_same, alike_then}
 use Rattle.serve_channels.proofs.Entering.{IsUnderWay}
 use Rattle.serve_channels.proofs.Kept.{IsKeptBut, kept_at, same_crew, set_unknown}
 use Rattle.serve_channels.proofs.Others.{IsLawful}
-use Rattle.serve_channels.proofs.Stretching.{Owes, all_is_told, owes_none}
 
 -- ---- one act in a stretch
 
 pub owes_act : (to : Option ℕ) (own : List Entry) (done past : Past) (act : Act) → is_quiet_act act ≡ true → due_by (Does act) None ≡ to → SendsNext (Does act) (done ++ past)
-    → Owes None own done past → Owes to own (Does act ∷ done) past
+    → Stretch own done past → Owes to own (Does act ∷ done) past
 owes_act to own done past act quiet due_is next h = record {
   quiet = ap (λ (b : Bool). b && list_all is_quiet done) quiet ∙ h.quiet;
   own_is = append-nil (own_of done) ∙ h.own_is;
@@ -47,10 +46,6 @@ owes_act to own done past act quiet due_is next h = record {
   free = (refl, h.free);
   in_order = (next, h.in_order);
 }
-
-pub stretch_act : (own : List Entry) (done past : Past) (act : Act) → is_quiet_act act ≡ true → due_by (Does act) None ≡ None → SendsNext (Does act) (done ++ past)
-    → Stretch own done past → Stretch own (Does act ∷ done) past
-stretch_act own done past act quiet none next h = all_is_told own (Does act ∷ done) past (owes_act None own done past act quiet none next (owes_none own done past h))
 
 -- ---- sends
 
@@ -180,7 +175,7 @@ good_stretch c (a ∷ more) own done past rest h all unclosed stretch =
     good_stretch c more own (Does a ∷ done) past rest (rest_good c a more h)
     (ap (λ (bs : List ℕ). bs ++ (sent c more ++ rest)) (sent_one c a (done ++ past)) ∙ on ∙ sym (append-nil (taken_of c (done ++ past))))
     (closed_one c c a (done ++ past) good.is ∙ unclosed)
-    (stretch_act own done past a good.is.quiet good.none (good.is.next (done ++ past) (sent c more ++ rest, on) unclosed) stretch)
+    (owes_act None own done past a good.is.quiet good.none (good.is.next (done ++ past) (sent c more ++ rest, on) unclosed) stretch)
 
 -- ---- all that is left is sent
 
@@ -250,7 +245,7 @@ module _ {g : Given} {before : List Act} {past : Past} {own : List Entry} {done 
     goes_good =
         let on = did_on more done past in
         goes_requeued None (did more done)
-        (owes_none own (did more done) past (good_stretch (number_of k) more own done past l.rest good (all_is more log own_is) agreed.closed (all_is_told own done past u.owes)))
+        (good_stretch (number_of k) more own done past l.rest good (all_is more log own_is) agreed.closed u.owes)
         (ap turns_of on ∙ turns_did more so_far) (log_is more log own_is ∙ ap (λ (p : Past). before ++ acts_of p) (sym on))
         (λ d. ap (bytes_of d) on ∙ (stays_did d more so_far (are_quiet (number_of k) more good)).bytes)
         (λ d other. subst (λ (p : Past). IsAlike d so_far p) (sym on) (alike_good (number_of k) d more so_far good other))
@@ -296,13 +291,13 @@ module _ {g : Given} {before : List Act} {past : Past} {own : List Entry} {done 
         let on : (Does failing ∷ did more done) ++ past ≡ Does failing ∷ did more so_far = ap (λ (p : Past). Does failing ∷ p) (did_on more done past) in
         let all = more ++ failing ∷ [] in
         let stretch = good_stretch (number_of k) more own done past l.rest good
-        (ap (λ (bs : List ℕ). sent (number_of k) (acts_of so_far) ++ (bs ++ l.rest)) (sym sends_none) ∙ all_is all log own_is) agreed.closed (all_is_told own done past u.owes) in
+        (ap (λ (bs : List ℕ). sent (number_of k) (acts_of so_far) ++ (bs ++ l.rest)) (sym sends_none) ∙ all_is all log own_is) agreed.closed u.owes in
         let same : has_failed (number_of k) (Does failing ∷ did more so_far) ≡ true =
         ap (λ (b : Bool). b || has_failed (number_of k) (did more so_far)) (eq-eqb (number_of k) (number_of k) refl) in
         goes_requeued (Some (number_of k)) (Does failing ∷ did more done) (owes_act (Some (number_of k)) own (did more done) past failing refl refl
         (is_send.next (did more done ++ past) (subst (λ (p : Past). IsFront (sent (number_of k) (acts_of p) ++ sent_in (number_of k) failing) (taken_of (number_of k) p)) (sym (did_on more done past)) front)
         (subst (λ (p : Past). was_closed (number_of k) (acts_of p) ≡ false) (sym (did_on more done past)) (none_closed (number_of k) more so_far good ∙ agreed.closed)))
-        (owes_none own (did more done) past stretch)) (ap turns_of on ∙ append-nil (turns_of (did more so_far)) ∙ turns_did more so_far)
+        stretch) (ap turns_of on ∙ append-nil (turns_of (did more so_far)) ∙ turns_did more so_far)
         (log_is all log own_is ∙ ap (λ (p : Past). before ++ acts_of p) (last_is so_far ∙ sym on))
         (λ d. ap (bytes_of d) on ∙ (stays_did d more so_far (are_quiet (number_of k) more good)).bytes) (λ d other. subst (λ (p : Past). IsAlike d so_far p) (sym on)
         (alike_then d so_far (did more so_far) (Does failing ∷ did more so_far) (alike_good (number_of k) d more so_far good other)

@@ -20,6 +20,7 @@ use Rattle.machine_steps.specs.declared.entry.Entry.TheVariants as entries
 use Rattle.machine_steps.specs.Histories.{Turn}
 use Rattle.machine_desk.specs.Hearing.{is_live}
 use Rattle.machine_desk.specs.declared.inbound.Inbound.{Inbound}
+use Rattle.core_machine.proofs.Hearing.{set_there}
 use Rattle.serve_steps.specs.Deeds.{Deed, Past, last_answer, takes_out}
 use Rattle.serve_steps.specs.Deeds.Deed.{Enters, Does}
 use Rattle.serve_steps.specs.Laws.{entered}
@@ -34,7 +35,6 @@ use Rattle.serve_channels.specs.Stretches.{IsAside}
 use Rattle.serve_channels.proofs.Acts.{did, did_last}
 use Rattle.serve_channels.proofs.Alike.{aside_turn, spares_another}
 use Rattle.serve_channels.proofs.Entering.{IsUnderWay, ahead, is_over_now, meanwhile_ahead}
-use Rattle.serve_channels.proofs.Kept.{set_there}
 use Rattle.serve_channels.proofs.Leaving.{goes_gone, gone_jobs, gone_turn}
 use Rattle.serve_channels.proofs.Others.{AreOthers, IsLawful, meanwhile_others, others_aside}
 use Rattle.serve_channels.proofs.Sending.{AreGood, Requeues, aside_good, aside_one, goes_failed, goes_good, send_to}

@@ -1,7 +1,7 @@
 -- Connections whose sessions are over are closed, and forgotten.
-use Rattle.std.proofs.Common.{◌≡◌, ◌≢◌, ◌⊎◌, ℕ, ◌+◌, ◌<◌, ◌==◌, ◌||◌, Bool, true, false, not, List, [], ◌∷◌, ◌++◌, length, get_or, append-nil, append_assoc, refl, sym, ap, ◌∙◌, subst, ⊎_elim, arith, eq-eqb}
+use Rattle.std.proofs.Common.{◌≡◌, ◌≢◌, ℕ, ◌+◌, ◌<◌, ◌==◌, ◌||◌, Bool, true, false, not, List, [], ◌∷◌, ◌++◌, length, get_or, append-nil, append_assoc, refl, sym, ap, ◌∙◌, subst, ⊎_elim, arith, eq-eqb}
 use Rattle.std.proofs.Math.Bool.{or-true}
-use Rattle.std.specs.Prelude.{Option, Some, is_some, unwrap_or}
+use Rattle.std.specs.Prelude.{Option, Some, None, is_some, unwrap_or}
 use Rattle.std.specs.List.{remove, slice_get}
 use Rattle.std.proofs.lemmas.Bool.{cases_eq, ne_eqb, both_ways}
 use Rattle.std.proofs.lemmas.List.Folds.{list_any-append}
@@ -25,7 +25,7 @@ use Rattle.serve_channels.specs.Stretches.{IsAside, IsQuietly}
 use Rattle.serve_channels.proofs.Acts.{closing_alike, closing_own, closing_stays, open_same}
 use Rattle.serve_channels.proofs.Alike.{agrees_alike, forgotten_alike, unused_alike}
 use Rattle.serve_channels.proofs.Numbered.{there_at}
-use Rattle.serve_channels.proofs.Sending.{stretch_act}
+use Rattle.serve_channels.proofs.Sending.{owes_act}
 use Rattle.serve_channels.proofs.Sorted.{apart, came_from, left_there, not_left, sorted_left}
 use Rattle.serve_channels.proofs.Stretching.{aside_then}
 
@@ -135,7 +135,7 @@ shuts_on a log {at = at} c h g before past kept nothing =
     record {
       done = deed c.connection w.done;
       own = w.own;
-      stretch = stretch_act w.own w.done past (acts.Closes (number_of c.connection)) refl refl (w.kept.agree at c.connection c.there).closed w.stretch;
+      stretch = owes_act None w.own w.done past (acts.Closes (number_of c.connection)) refl refl (w.kept.agree at c.connection c.there).closed w.stretch;
       so = record { none = w.so.none; turns = append-nil (turns_of w.done) ∙ w.so.turns; aside = aside };
       kept = kept_closed w.kept c;
       aside = λ d unknown. aside d;

@@ -12,55 +12,16 @@ use Rattle.machine_steps.specs.declared.entry.Entry.{Entry}
 use Rattle.serve_steps.specs.Runs.{taken_in, taken_report}
 use Rattle.serve_steps.specs.Deeds.{Deed, Past, acts_of, act_in, answer_to, ends, fails, gathered, has_failed, is_asked, last_answer, out_in, taken_of}
 use Rattle.serve_steps.specs.Deeds.Deed.{Enters, Does}
-use Rattle.serve_steps.specs.Parts.{AreFree, EachBehind, Given, HearsOpen, IsFree, SendsNext, all_told, due, due_by, ends_due, entry_if, had_memory, is_quiet, keeps_due, own_in, own_of}
+use Rattle.serve_steps.specs.Parts.{EachBehind, Given, HearsOpen, IsFree, SendsNext, all_told, due, due_by, ends_due, entry_if, had_memory, is_quiet, keeps_due, own_in, own_of}
 use Rattle.serve_channels.specs.declared.server.Server.{Server}
 use Rattle.serve_channels.specs.Keeping.{Goes, GoesFrom, IsKept, Went}
 use Rattle.serve_channels.specs.Servers.{IsKnown}
 use Rattle.serve_channels.specs.Stretches.{IsAside, Stretch}
 
--- ---- a stretch, behind which a failed send to this connection isn't told of yet
-
-pub record Owes (to : Option ℕ) (own : List Entry) (done ahead : Past) : Type 0 where
-  pub quiet : list_all is_quiet done ≡ true
-  pub own_is : own_of done ≡ own
-  pub memory : list_all had_memory done ≡ true
-  pub while_open : EachBehind HearsOpen done ahead
-  pub told : all_told done ≡ true
-  pub due_is : due done ≡ to
-  pub free : AreFree done ahead
-  pub in_order : EachBehind SendsNext done ahead
-
-pub owes_none : (own : List Entry) (done ahead : Past) → Stretch own done ahead → Owes None own done ahead
-owes_none own done ahead h = record {
-  quiet = h.quiet;
-  own_is = h.own_is;
-  memory = h.memory;
-  while_open = h.while_open;
-  told = h.told;
-  due_is = h.none_due;
-  free = h.free;
-  in_order = h.in_order;
-}
-
-pub all_is_told : (own : List Entry) (done ahead : Past) → Owes None own done ahead → Stretch own done ahead
-all_is_told own done ahead h = record {
-  quiet = h.quiet;
-  own_is = h.own_is;
-  memory = h.memory;
-  while_open = h.while_open;
-  told = h.told;
-  none_due = h.due_is;
-  free = h.free;
-  in_order = h.in_order;
-}
-
 -- ---- the empty stretch
 
-pub owes_nothing : (ahead : Past) → Owes None [] [] ahead
-owes_nothing ahead = record { quiet = refl; own_is = refl; memory = refl; while_open = tt; told = refl; due_is = refl; free = tt; in_order = tt }
-
 pub nothing_done : (ahead : Past) → Stretch [] [] ahead
-nothing_done ahead = all_is_told [] [] ahead (owes_nothing ahead)
+nothing_done ahead = record { quiet = refl; own_is = refl; memory = refl; while_open = tt; told = refl; due_is = refl; free = tt; in_order = tt }
 
 pub aside_nothing : (c : ℕ) → IsAside c []
 aside_nothing c = record { taken = refl; unsent = refl; unanswered = refl; unfailed = refl; unended = refl }
@@ -93,9 +54,9 @@ told_then first (d ∷ more) none h k =
     (ap (λ (o : Option ℕ). keeps_due o d) (due_then first more none) ∙ (and_parts (keeps_due (due more) d) (all_told more) k).0)
     (told_then first more none h (and_parts (keeps_due (due more) d) (all_told more) k).1)
 
-pub owes_then : (to : Option ℕ) (ours theirs : List Entry) (first more ahead : Past) → Owes None ours first ahead → Owes to theirs more (first ++ ahead)
-    → Owes to (ours ++ theirs) (more ++ first) ahead
-owes_then to ours theirs first more ahead h k = record {
+pub stretch_then : (ours theirs : List Entry) (first more ahead : Past) → Stretch ours first ahead → Stretch theirs more (first ++ ahead)
+    → Stretch (ours ++ theirs) (more ++ first) ahead
+stretch_then ours theirs first more ahead h k = record {
   quiet = list_all-append is_quiet more first ∙ and_from (list_all is_quiet more) (list_all is_quiet first) k.quiet h.quiet;
   own_is = own_then first more h.due_is ∙ ap (λ (es : List Entry). es ++ own_of more) h.own_is ∙ ap (λ (es : List Entry). ours ++ es) k.own_is;
   memory = list_all-append had_memory more first ∙ and_from (list_all had_memory more) (list_all had_memory first) k.memory h.memory;
@@ -105,11 +66,6 @@ owes_then to ours theirs first more ahead h k = record {
   free = each_then IsFree first more ahead h.free k.free;
   in_order = each_then SendsNext first more ahead h.in_order k.in_order;
 }
-
-pub stretch_then : (ours theirs : List Entry) (first more ahead : Past) → Stretch ours first ahead → Stretch theirs more (first ++ ahead)
-    → Stretch (ours ++ theirs) (more ++ first) ahead
-stretch_then ours theirs first more ahead h k =
-    all_is_told (ours ++ theirs) (more ++ first) ahead (owes_then None ours theirs first more ahead (owes_none ours first ahead h) (owes_none theirs more (first ++ ahead) k))
 
 -- ---- nothing done with a connection
 

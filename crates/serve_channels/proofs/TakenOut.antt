@@ -13,6 +13,7 @@ use Rattle.machine_steps.specs.declared.reply.Reply.TheVariants as replies
 use Rattle.machine_steps.specs.Histories.{Turn}
 use Rattle.machine_desk.specs.Hearing.{IsStaged}
 use Rattle.machine_desk.specs.Desks.{Enters as EntersDesk, turn}
+use Rattle.core_machine.proofs.Hearing.{set_there}
 use Rattle.serve_steps.specs.Deeds.{Past, acts_of, inputs_of, taken_of, takes_out}
 use Rattle.serve_steps.specs.Deeds.Deed.{Enters}
 use Rattle.serve_steps.specs.Laws.{entered}
@@ -27,7 +28,7 @@ use Rattle.serve_channels.specs.Stretches.{IsAside}
 use Rattle.serve_channels.proofs.Alike.{aside_turn, spares_another, heard_same}
 use Rattle.serve_channels.proofs.Entering.{IsUnderWay, begins, next_session}
 use Rattle.serve_channels.proofs.Entries.{ahead_now, between, entry_jobs, goes_with_one, next_ahead, others_ahead, own_turn, unheard}
-use Rattle.serve_channels.proofs.Kept.{set_there, staged_still, same_but}
+use Rattle.serve_channels.proofs.Kept.{staged_still, same_but}
 use Rattle.serve_channels.proofs.Others.{IsLawful, meanwhile_others, others_aside}
 use Rattle.serve_channels.proofs.Stretching.{aside_nothing}
 

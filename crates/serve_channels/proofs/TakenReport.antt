@@ -26,7 +26,7 @@ use Rattle.serve_channels.proofs.Entering.{ahead, at_desk, begins, meanwhile_ahe
 use Rattle.serve_channels.proofs.Entries.{entry_jobs, kept_about_none, others_ahead, owes_now, own_turn, unheard}
 use Rattle.serve_channels.proofs.Kept.{kept_whole, same_desk}
 use Rattle.serve_channels.proofs.Others.{lawful, meanwhile_others, others_aside}
-use Rattle.serve_channels.proofs.Stretching.{all_is_told, aside_nothing}
+use Rattle.serve_channels.proofs.Stretching.{aside_nothing}
 use Rattle.serve_channels.proofs.Told.{taken_others}
 
 module _ (laws : ServingLaws) (a : Server) (d : DeskView) (old new : SinkView) (law : DeskLaw a.desk) (h : ReportsAtDesk a.desk d old new) where
@@ -54,7 +54,7 @@ module _ (laws : ServingLaws) (a : Server) (d : DeskView) (old new : SinkView) (
       let is = unheard a b h.enters None (others ++ past) refl refl refl refl in
       record {
         done = Enters this ∷ others;
-        stretch = all_is_told [] (Enters this ∷ others) past (owes_now laws u b h.enters same is);
+        stretch = owes_now laws u b h.enters same is;
         kept = kept_whole (kept_about_none laws u b h.enters same is refl (λ c. refl)) (entry_jobs a b h.enters laws (lawful law) same refl kept.jobs);
         aside = λ c.
             aside_turn c this others (spares_another c this refl)

@@ -68,8 +68,8 @@ IsBegun c past = IsUnused c past × (was_opened c (acts_of past) ≡ true) × (b
 
 -- ---- a server
 
--- what is kept, where these deeds were done so far, and the board's log had these acts before
-pub record IsKept (g : Given) (before : List Act) (past : Past) (log : List Act) (s : Server) : Type 0 where
+-- what is kept, where these deeds were done so far, and the board's log had these acts before; and this of the packets that wait
+pub record Keeps (g : Given) (before : List Act) (past : Past) (log : List Act) (s : Server) (Jobs : Type 0) : Type 0 where
   pub start : s.desk.footing.start ≡ opening g.policy g.settings
   pub turns : s.desk.past ≡ turns_of past
   pub acts : log ≡ before ++ acts_of past
@@ -79,7 +79,11 @@ pub record IsKept (g : Given) (before : List Act) (past : Past) (log : List Act)
   pub unused : (c : ℕ) → was_opened c (acts_of past) ≡ false → IsUnused c past × (was_session c s.desk.now ≡ false)
   pub sessions : AreSessions s.connections.items s.desk.now
   pub crew : MayHave s.crew s.desk.footing.parts s.desk.now
-  pub jobs : WorksAlone s → s.desk.now.jobs ≡ []
+  pub jobs : Jobs
+
+-- with nobody beside the server none waits
+abbrev pub IsKept : Given → List Act → Past → List Act → Server → Type 0
+IsKept g before past log s = Keeps g before past log s (WorksAlone s → s.desk.now.jobs ≡ [])
 
 -- so it is of some deeds
 pub record IsServing (log : List Act) (s : Server) : Type 0 where

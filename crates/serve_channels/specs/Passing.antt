@@ -1,14 +1,10 @@
 -- One message that is heard: room for the packet in it, the entry, and what is done about its reply.
-use Rattle.std.specs.Prelude.{◌≡◌, ◌⊎◌, ℕ, ◌<◌, Bool, true, false, List, [], ◌++◌, length, map, set, Option, Some, None, IfSome}
+use Rattle.std.specs.Prelude.{◌≡◌, ℕ, ◌<◌, true, false, List, [], ◌++◌, length, map, set, Option, Some, None, IfSome}
 use Rattle.std.specs.List.{slice_get}
 use Rattle.maple_io.specs.declared.act.Act.{Act}
-use Rattle.of10_codec.specs.declared.message.Body.{Body}
-use Rattle.of10_codec.specs.declared.message.Body.TheVariants as body
 use Rattle.machine_steps.specs.declared.entry.Entry.{Entry}
 use Rattle.machine_steps.specs.declared.entry.Entry.TheVariants as entries
 use Rattle.machine_steps.specs.declared.entry.Input.{Input}
-use Rattle.machine_steps.specs.declared.entry.Input.TheVariants.{Message as Whole, Bad}
-use Rattle.machine_steps.specs.Machine.{most_jobs}
 use Rattle.machine_steps.specs.Waiting.{Waiting}
 use Rattle.machine_desk.specs.Desks.{DeskView}
 use Rattle.machine_desk.specs.Hearing.{Hears as HearsAtDesk, IsStaged}
@@ -17,6 +13,7 @@ use Rattle.machine_desk.specs.declared.hearing.Heard.{Heard}
 use Rattle.machine_desk.specs.declared.hearing.Heard.TheVariants as heard
 use Rattle.machine_desk.specs.declared.inbound.Inbound.{Inbound}
 use Rattle.packet_workers.specs.declared.worked.Worked.{Worked}
+use Rattle.desk_jobs.specs.Arriving.{HasRoom, is_packet}
 use Rattle.desk_jobs.specs.Crews.{BySights, IsCrew}
 use Rattle.desk_jobs.specs.Laws.{Meanwhile}
 use Rattle.desk_jobs.specs.Tending.{HandsOver, IsInHand, IsWhole}
@@ -43,24 +40,15 @@ pub record Tends (old new : Server) : Type 0 where
   pub rest : new ≡ record old { desk = new.desk; crew = new.crew }
   pub same : IsSame old new
 
-abbrev pub brings_packet : Body → Bool
-brings_packet (body.PacketIn buffer total in_port reason bytes) = true
-brings_packet other = false
-
--- a packet comes with it
-abbrev pub is_packet : Input → Bool
-is_packet (Whole m) = brings_packet m.body
-is_packet (Bad place bad) = false
-
 -- there is room for a packet, whatever others do until it is heard
 pub record MakesRoom (old new : Server) : Type 0 where
   pub tends : Tends old new
-  pub room : (d : DeskView) → Meanwhile new.desk d → WorksAlone old ⊎ (length d.now.jobs < most_jobs)
+  pub room : HasRoom (WorksAlone old) new.desk
 
 -- the same where a packet came
 pub record MakesRoomFor (input : Input) (old new : Server) : Type 0 where
   pub tends : Tends old new
-  pub room : is_packet input ≡ true → (d : DeskView) → Meanwhile new.desk d → WorksAlone old ⊎ (length d.now.jobs < most_jobs)
+  pub room : is_packet input ≡ true → HasRoom (WorksAlone old) new.desk
 
 pub record IsWorked (item : Waiting) (a b : DeskView) : Type 0 where
   pub worked : Worked

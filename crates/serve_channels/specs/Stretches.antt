@@ -1,5 +1,5 @@
 -- Stretches of a part: some deeds, one behind the other, with what holds of each as of a whole part.
-use Rattle.std.specs.Prelude.{◌≡◌, ℕ, true, false, List, [], ◌++◌, None}
+use Rattle.std.specs.Prelude.{◌≡◌, ℕ, true, false, List, [], ◌++◌, Option, None}
 use Rattle.std.specs.List.{list_all, list_any}
 use Rattle.maple_io.specs.declared.act.Act.{Act}
 use Rattle.maple_io.specs.Boards.{sent}
@@ -8,16 +8,20 @@ use Rattle.serve_steps.specs.Deeds.{Past, acts_of, ends, last_answer, taken_of, 
 use Rattle.serve_steps.specs.Deeds.Deed.{Does}
 use Rattle.serve_steps.specs.Parts.{AreFree, EachBehind, HearsOpen, SendsNext, all_told, due, had_memory, is_quiet, own_of}
 
--- these deeds were done behind those ahead, and ask for these entries themselves; each failed send was told of
-pub record Stretch (own : List Entry) (done ahead : Past) : Type 0 where
+-- these deeds were done behind those ahead, and ask for these entries themselves; each failed send was told of, but for the last, to this connection, if any
+pub record Owes (to : Option ℕ) (own : List Entry) (done ahead : Past) : Type 0 where
   pub quiet : list_all is_quiet done ≡ true
   pub own_is : own_of done ≡ own
   pub memory : list_all had_memory done ≡ true
   pub while_open : EachBehind HearsOpen done ahead
   pub told : all_told done ≡ true
-  pub none_due : due done ≡ None
+  pub due_is : due done ≡ to
   pub free : AreFree done ahead
   pub in_order : EachBehind SendsNext done ahead
+
+-- each failed send was told of
+abbrev pub Stretch : List Entry → Past → Past → Type 0
+Stretch own done ahead = Owes None own done ahead
 
 -- nothing was done with this connection
 pub record IsAside (c : ℕ) (done : Past) : Type 0 where

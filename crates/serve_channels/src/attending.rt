@@ -1,14 +1,13 @@
 // Packets that wait, beside who works on them.
 ghost use Rattle.std.specs.Prelude.{◌≡◌, OnOk};
-ghost use Rattle.desk_jobs.specs.Tending.{IsWhole};
 ghost use Rattle.serve_channels.specs.Passing.{Attends, HasCrew, MakesRoom};
 ghost use Rattle.serve_channels.specs.Servers.{IsSame};
 
 use crate::Server;
 use crate::laws::serving_laws;
 use core_machine::JobItem;
-use desk_jobs::{Handed, Stopped, tending_laws};
-use packet_workers::{Gate, Worked};
+use desk_jobs::{Handed, Stopped, answered, tending_laws};
+use packet_workers::Gate;
 use std::sync::Wait;
 
 impl<'h> Server<'h> {
@@ -48,15 +47,5 @@ impl<'h> Server<'h> {
                 Handed::Worked(worked) => answered(worked),
             },
         }
-    }
-}
-
-// Whether the work on a packet came to its end.
-pub(crate) fn answered(worked: Worked) -> Result<(), Stopped>
-    ensures { OnOk result (IsWhole worked) }
-{
-    match worked {
-        Worked::NoMemory | Worked::Worn => Err(Stopped),
-        Worked::Answered | Worked::Spent | Worked::NotOpen => Ok(()),
     }
 }

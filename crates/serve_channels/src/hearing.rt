@@ -5,15 +5,14 @@ ghost use Rattle.machine_steps.specs.Admitting.{IsHeard};
 ghost use Rattle.serve_channels.specs.Hearing.{Hears};
 ghost use Rattle.serve_channels.specs.declared.hearing.Came.TheVariants.{Nothing};
 ghost use Rattle.serve_channels.specs.Keeping.{Goes, ServesSome};
-ghost use Rattle.serve_channels.specs.Passing.{Follows, HasCrew, HearsAt, HearsInput, MakesRoomFor, came_of, is_packet};
+ghost use Rattle.serve_channels.specs.Passing.{Follows, HasCrew, HearsAt, HearsInput, MakesRoomFor, came_of};
 ghost use Rattle.serve_channels.specs.Servers.{IsSame, SameNumbers};
 
 use crate::Server;
 use crate::laws::serving_laws;
 use core_machine::Input;
-use desk_jobs::Stopped;
+use desk_jobs::{Stopped, is_packet};
 use machine_desk::{Heard, working_laws};
-use of10_codec::{Body, Message};
 use packet_workers::Gate;
 use std::sync::Wait;
 
@@ -121,17 +120,4 @@ impl<'h> Server<'h> {
             Heard::State | Heard::Other => Ok(Came::Message),
         }
     }
-}
-
-// Whether a packet came.
-fn is_packet(input: &Input) -> bool
-    ensures { result ≡ is_packet input.now }
-{
-    matches!(
-        input,
-        Input::Message(Message {
-            body: Body::PacketIn { .. },
-            ..
-        })
-    )
 }

@@ -6,9 +6,8 @@ ghost use Rattle.serve_channels.specs.Passing.{HasCrew, Tends};
 ghost use Rattle.serve_channels.specs.Servers.{IsSame};
 
 use crate::Server;
-use crate::attending::answered;
 use crate::laws::serving_laws;
-use desk_jobs::{QUEUE_PLACES, Stopped, tending_laws};
+use desk_jobs::{QUEUE_PLACES, Stopped, answered, tending_laws};
 use packet_workers::Gate;
 use std::sync::Wait;
 

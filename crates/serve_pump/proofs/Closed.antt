@@ -5,7 +5,6 @@ use Rattle.std.specs.List.{flat_map}
 use Rattle.maple_io.specs.Boards.{BoardView}
 use Rattle.maple_io.specs.Views.{SinkView, Wrote}
 use Rattle.maple_io.proofs.Pieces.{wrote_nothing}
-use Rattle.report_text.specs.declared.line.ScriptRefusal.{ScriptRefusal}
 use Rattle.report_text.specs.Report.{spelled}
 use Rattle.history_lock.specs.Histories.{AreAllPositions, AreAllowed, HasSeenLegal, Replays, state_behind}
 use Rattle.history_lock.proofs.States.{replays_cut}
@@ -25,9 +24,9 @@ use Rattle.serve_steps.specs.Deeds.{Past, acts_of, turns_of}
 use Rattle.serve_steps.specs.Laws.{OthersGoOn, first_entered, parts_entered}
 use Rattle.serve_steps.specs.Parts.{AreCutAtTurns, AreOpenedOnce, Given, Part, deeds_of, has_ended, state_of}
 use Rattle.serve_steps.specs.Runs.{AllHadMemory, AreParts, ArePartsButLast, EndsWith, HasCause, HasRun, IsBrokenOff, IsLastAsked, IsWrittenButLast, most_entries, report, spares_board, taken_report}
-use Rattle.serve_pump.specs.Ending.{DroveBy, EndsSoFar, IsCaused, IsDoneSoFar, IsFailedSoFar, IsRefusedSoFar, joined}
+use Rattle.serve_pump.specs.Ending.{DroveBy, EndsSoFar, IsCaused, IsFailedSoFar, joined}
 use Rattle.serve_pump.specs.EndLaws.{EndingLaws}
-use Rattle.serve_pump.proofs.Reports.{written_behind}
+use Rattle.serve_pump.proofs.Reports.{done_broken, script_broken, written_by}
 
 -- ---- causes
 
@@ -44,14 +43,6 @@ cause_of end old_board new_board old new h = record {
 abbrev pub Opens : Given → State
 Opens g = opening g.policy g.settings
 
-but_last : (g : Given) (first : Past) (parts : List Part) → AreParts g first parts → ArePartsButLast g first parts
-but_last g first [] are = tt
-but_last g first (p ∷ ahead) are = are.1
-
--- where the whole report was written, that of the parts but the last was
-written_by : (first : Past) (parts : List Part) (text : List ℕ) → text ≡ report (deeds_of first parts) → IsWrittenButLast first parts text
-written_by first parts text is = written_behind first parts [] text (append-nil (report (deeds_of first parts)) ∙ sym is)
-
 -- it stays so with turns behind all that was done, and where more was written
 pub written_on : (ts : List Turn) (first : Past) (parts : List Part) (text : List ℕ) → IsWrittenButLast first parts text
     → IsWrittenButLast (first_entered ts first parts) (parts_entered ts parts) text
@@ -62,21 +53,6 @@ pub written_more : (first : Past) (parts : List Part) (text more : List ℕ) →
 written_more first [] text more h = tt
 written_more first (p ∷ ahead) text more h =
     (h.0 ++ more, sym (append_assoc (report (deeds_of first ahead)) h.0 more) ∙ ap (λ (xs : List ℕ). xs ++ more) h.1)
-
-done_broken : (g : Given) (first : Past) (parts : List Part) (text : List ℕ) → IsDoneSoFar g first parts text → IsBrokenOff g first parts text
-done_broken g first parts text h = record {
-  ahead = but_last g first parts h.all;
-  written = written_by first parts text h.text_is;
-  front = ([], append-nil text ∙ h.text_is);
-}
-
-script_broken : (line : ℕ) (kind : ScriptRefusal) (g : Given) (first : Past) (parts : List Part) (text : List ℕ) → IsRefusedSoFar line kind g first parts text
-    → IsBrokenOff g first parts text
-script_broken line kind g first parts text h = record {
-  ahead = subst (ArePartsButLast g first) (sym h.only.3) tt;
-  written = written_by first parts text h.text_is;
-  front = ([], append-nil text ∙ h.text_is);
-}
 
 module _ (laws : EndingLaws) (g : Given) where
   -- where all lines were taken it is all of the report

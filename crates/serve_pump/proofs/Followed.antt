@@ -125,6 +125,6 @@ followed t bytes r a b c log log2 h k g before past kept new =
     let v = k g before (w.done ++ past) w.kept in
     acted_then g before (Follows t bytes r past) past w.done v.done w.own v.own log2 c w.stretch v.stretch w.unread v.unread v.kept (
       entered_then past t bytes r w.own v.own w.done v.done w.so v.so.0,
-      λ n. both_ahead n b past w.done v.done (λ unknown. passed_ahead n w.done v.done past (w.aside n unknown)) (reached_ahead n w.done v.done past w.stretch.none_due)
+      λ n. both_ahead n b past w.done v.done (λ unknown. passed_ahead n w.done v.done past (w.aside n unknown)) (reached_ahead n w.done v.done past w.stretch.due_is)
           (v.so.1 n),
     )

@@ -32,10 +32,10 @@ use Rattle.serve_pump.specs.declared.pump.TurnStop.{TurnStop}
 use Rattle.serve_pump.specs.declared.pump.TurnStop.TheVariants as stops
 use Rattle.serve_pump.specs.declared.startup.Begun.TheVariants as begun
 use Rattle.serve_pump.specs.Beginning.{BeginLaws, BreaksAtFirst, FailsAtStart, HasBegun}
-use Rattle.serve_pump.specs.Ending.{DroveAt, EndsSoFar, IsCaused, IsUnderWay, RanAt, end_of, stopped_end, with_memory}
+use Rattle.serve_pump.specs.Ending.{DroveAt, EndsSoFar, IsCaused, IsUnderWay, RanAt, end_of, with_memory}
 use Rattle.serve_pump.specs.Opened.{IsOpenedAt}
 use Rattle.serve_pump.specs.Running.{AreMore, BreaksOff, FailsAtBoard, GoesOn, RunsOn}
-use Rattle.serve_pump.proofs.Reports.{written_behind}
+use Rattle.serve_pump.proofs.Reports.{but_last, done_broken, script_broken, written_behind}
 use Rattle.serve_pump.proofs.Whole.{legal, state_is}
 
 -- ---- the report
@@ -45,6 +45,15 @@ pub all_told : ReportIsTold → (g : Given) (before : List Act) (past : Past) (l
     → taken_report past ≡ report past
 all_told told g before past log s kept law none =
     sym (told g past s.desk.now (legal g before past log s kept law) ∙ ap (λ ls. taken_report past ++ flat_map spelled ls) none ∙ append-nil (taken_report past))
+
+-- ---- by why it stops
+
+by_stop : (Ends : ServeEnd → Type 0) (stop : TurnStop) (worn : Bool) → (stop ≡ stops.Board → Ends ends.BoardFault) → Ends ends.WriteFault
+    → (worn ≡ true → Ends ends.Worn) → Ends ends.NoMemory → Ends (end_of stop worn)
+by_stop Ends stops.Board worn failed write full short = failed refl
+by_stop Ends stops.Write worn failed write full short = write
+by_stop Ends stops.Stopped true failed write full short = full refl
+by_stop Ends stops.Stopped false failed write full short = short
 
 -- ---- turn after turn
 
@@ -90,16 +99,12 @@ module _ (g : Given) (before : List Act) (from to_old to_new : SinkView) (old_lo
 
   -- ---- it breaks off
 
-  parts_ahead : (parts : List Part) → AreParts g way.first parts → ArePartsButLast g way.first parts
-  parts_ahead [] are = tt
-  parts_ahead (p ∷ ahead) are = are.1
-
   last_asked : (parts : List Part) → AreParts g way.first parts → IsLastAsked g way.first parts
   last_asked [] are = (are.scripted, are.none_refused, are.free, inr are.started)
   last_asked (p ∷ ahead) are = (are.0.asked, are.0.free)
 
   ahead_of_more : (all : List Part) → AreMore all way.parts → ArePartsButLast g way.first all
-  ahead_of_more all (inl e) = subst (ArePartsButLast g way.first) (sym e) (parts_ahead way.parts way.goes_on.running.parts_are)
+  ahead_of_more all (inl e) = subst (ArePartsButLast g way.first) (sym e) (but_last g way.first way.parts way.goes_on.running.parts_are)
   ahead_of_more all (inr (last, e)) = subst (ArePartsButLast g way.first) (sym e) way.goes_on.running.parts_are
 
   pub failed_at : StatesAreTold → (old_board new_board : BoardView) → old_board.log ≡ old_log → new_board.log ≡ log → DeskLaw new.server.desk
@@ -119,7 +124,7 @@ module _ (g : Given) (before : List Act) (from to_old to_new : SinkView) (old_lo
         opened = run.opened;
         text = taken_report deeds;
         ends = record {
-          ahead = parts_ahead way.parts run.parts_are;
+          ahead = but_last g way.first way.parts run.parts_are;
           last = last_asked way.parts run.parts_are;
           not_ended = on.goes_on;
           told = ap (λ (m : State). m.lines) (state_is g before deeds log new.server run.kept law told) ∙ run.told;
@@ -162,13 +167,9 @@ module _ (g : Given) (before : List Act) (from to_old to_new : SinkView) (old_lo
 
     pub stopped_at : (stop : TurnStop) → (stop ≡ stops.Board → RanAt ends.BoardFault g before log new.server.desk from to_new)
         → RanAt (end_of stop new.server.desk.worn) g before log new.server.desk from to_new
-    stopped_at stops.Board failed = failed refl
-    stopped_at stops.Write failed = ran_off ends.WriteFault broken
-    stopped_at stops.Stopped failed = by_worn new.server.desk.worn refl
-      where
-        by_worn : (worn : Bool) → new.server.desk.worn ≡ worn → RanAt (stopped_end worn) g before log new.server.desk from to_new
-        by_worn true e = ran_off ends.Worn (broken, law_behind.full e)
-        by_worn false e = ran_off ends.NoMemory broken
+    stopped_at stop failed =
+        by_stop (λ end. RanAt end g before log new.server.desk from to_new) stop new.server.desk.worn failed (ran_off ends.WriteFault broken)
+        (λ worn. ran_off ends.Worn (broken, law_behind.full worn)) (ran_off ends.NoMemory broken)
 
 -- ---- how it began
 
@@ -260,13 +261,9 @@ module _ (laws : BeginLaws) (g : Given) (before log : List Act) (p : Pump) (law 
 
     pub stopped_begun : (stop : TurnStop) → (stop ≡ stops.Board → RanAt ends.BoardFault g before log p.server.desk old new)
         → RanAt (end_of stop p.server.desk.worn) g before log p.server.desk old new
-    stopped_begun stops.Board failed = failed refl
-    stopped_begun stops.Write failed = first_off ends.WriteFault first_broken
-    stopped_begun stops.Stopped failed = by_worn p.server.desk.worn refl
-      where
-        by_worn : (worn : Bool) → p.server.desk.worn ≡ worn → RanAt (stopped_end worn) g before log p.server.desk old new
-        by_worn true e = first_off ends.Worn (first_broken, law.full e)
-        by_worn false e = first_off ends.NoMemory first_broken
+    stopped_begun stop failed =
+        by_stop (λ end. RanAt end g before log p.server.desk old new) stop p.server.desk.worn failed (first_off ends.WriteFault first_broken)
+        (λ worn. first_off ends.Worn (first_broken, law.full worn)) (first_off ends.NoMemory first_broken)
 
 -- ---- causes
 
@@ -301,9 +298,10 @@ caused_behind end old_board mid_board new_board old mid new spared no_write h = 
 -- ---- by whether memory sufficed
 
 module _ (g : Given) (desk : DeskView) (old_board new_board : BoardView) (old new : SinkView) where
-  -- all of it was a front
-  done_broken : RanAt ends.Done g old_board.log new_board.log desk old new → RanAt ends.NoMemory g old_board.log new_board.log desk old new
-  done_broken ran = record {
+  -- the same run ended otherwise
+  ends_as : (end other : ServeEnd) → (ran : RanAt end g old_board.log new_board.log desk old new) → EndsSoFar other g desk.number ran.first ran.parts ran.text
+      → RanAt other g old_board.log new_board.log desk old new
+  ends_as end other ran is = record {
     first = ran.first;
     parts = ran.parts;
     turns = ran.turns;
@@ -311,32 +309,7 @@ module _ (g : Given) (desk : DeskView) (old_board new_board : BoardView) (old ne
     cut = ran.cut;
     opened = ran.opened;
     text = ran.text;
-    ends = record {
-      ahead = but_last ran.parts ran.ends.all;
-      written = written_behind ran.first ran.parts [] ran.text (append-nil (report (deeds_of ran.first ran.parts)) ∙ sym ran.ends.text_is);
-      front = ([], append-nil ran.text ∙ ran.ends.text_is);
-    };
-    wrote = ran.wrote;
-  }
-    where
-      but_last : (parts : List Part) → AreParts g ran.first parts → ArePartsButLast g ran.first parts
-      but_last [] are = tt
-      but_last (p ∷ ahead) are = are.1
-
-  script_broken : (line : ℕ) (kind : ScriptRefusal) → RanAt (ends.Script line kind) g old_board.log new_board.log desk old new → RanAt ends.NoMemory g old_board.log new_board.log desk old new
-  script_broken line kind ran = record {
-    first = ran.first;
-    parts = ran.parts;
-    turns = ran.turns;
-    acts = ran.acts;
-    cut = ran.cut;
-    opened = ran.opened;
-    text = ran.text;
-    ends = record {
-      ahead = subst (ArePartsButLast g ran.first) (sym ran.ends.only.3) tt;
-      written = written_behind ran.first ran.parts [] ran.text (append-nil (report (deeds_of ran.first ran.parts)) ∙ sym ran.ends.text_is);
-      front = ([], append-nil ran.text ∙ ran.ends.text_is);
-    };
+    ends = is;
     wrote = ran.wrote;
   }
 
@@ -347,13 +320,13 @@ module _ (g : Given) (desk : DeskView) (old_board new_board : BoardView) (old ne
       → (had ≡ true → HadMemory (calls_of desk.past) desk.own) → DroveAt (with_memory end had) g desk old_board new_board old new
   memory_drove ends.Done true ran caused had = record { ran = ran; memory = λ whole. had refl; caused = caused }
   memory_drove ends.Done false ran caused had = record {
-    ran = done_broken ran;
+    ran = ends_as ends.Done ends.NoMemory ran (done_broken g ran.first ran.parts ran.text ran.ends);
     memory = λ whole. absurd (cc);
     caused = short (caused.spared (λ e. absurd (cc))) (caused.no_write (λ e. absurd (cc)));
   }
   memory_drove (ends.Script line kind) true ran caused had = record { ran = ran; memory = λ whole. had refl; caused = caused }
   memory_drove (ends.Script line kind) false ran caused had = record {
-    ran = script_broken line kind ran;
+    ran = ends_as (ends.Script line kind) ends.NoMemory ran (script_broken line kind g ran.first ran.parts ran.text ran.ends);
     memory = λ whole. absurd (cc);
     caused = short (caused.spared (λ e. absurd (cc))) (caused.no_write (λ e. absurd (cc)));
   }

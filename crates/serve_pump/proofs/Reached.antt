@@ -168,7 +168,7 @@ delivered a b d log1 log2 log3 numbers serves closes g before past kept =
     let passes = closing_passes (w.done ++ past) v.own v.done d v.stretch v.so in
     acted_then g before (Delivers a past) past w.done v.done w.own v.own log3 d w.stretch v.stretch w.unread v.unread v.kept (
       none_then w.own v.own w.so.0 v.so.none,
-      λ c. behind_passing a c past w.done v.done w.stretch.none_due passes (each_delivered g before past log2 a b numbers w c),
+      λ c. behind_passing a c past w.done v.done w.stretch.due_is passes (each_delivered g before past log2 a b numbers w c),
     )
 
 -- ---- the connections that are left

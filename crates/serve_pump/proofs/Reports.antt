@@ -1,16 +1,18 @@
 -- The report of a run grows with its parts.
-use Rattle.std.proofs.Common.{◌≡◌, ℕ, List, [], ◌∷◌, ◌++◌, append-nil, append_assoc, sym, ap, ◌∙◌}
+use Rattle.std.proofs.Common.{◌≡◌, ℕ, List, [], ◌∷◌, ◌++◌, append-nil, append_assoc, sym, ap, ◌∙◌, subst}
 use Rattle.std.specs.List.{flat_map}
 use Rattle.std.proofs.lemmas.Grind.{flat_map-append}
 use Rattle.maple_io.specs.declared.act.Act.TheVariants as acts
 use Rattle.maple_io.specs.Fronts.{IsFront}
+use Rattle.report_text.specs.declared.line.ScriptRefusal.{ScriptRefusal}
 use Rattle.report_text.specs.Report.{spelled}
 use Rattle.machine_steps.specs.Histories.{Turn, report_of, said}
 use Rattle.serve_steps.specs.Deeds.{Past, turn_in, turns_of}
 use Rattle.serve_steps.specs.Deeds.Deed.{Does}
-use Rattle.serve_steps.specs.Parts.{Part, deeds_of}
-use Rattle.serve_steps.specs.Runs.{IsWrittenButLast, report}
+use Rattle.serve_steps.specs.Parts.{Given, Part, deeds_of}
+use Rattle.serve_steps.specs.Runs.{AreParts, ArePartsButLast, IsBrokenOff, IsWrittenButLast, report}
 use Rattle.serve_channels.proofs.Stretching.{gathered_then}
+use Rattle.serve_pump.specs.Ending.{IsDoneSoFar, IsRefusedSoFar}
 
 pub front_then : (a b c : List ℕ) → IsFront a b → IsFront b c → IsFront a c
 front_then a b c h k = (h.0 ++ k.0, sym (append_assoc a h.0 k.0) ∙ ap (λ (xs : List ℕ). xs ++ k.0) h.1 ∙ k.1)
@@ -36,3 +38,28 @@ pub written_behind : (first : Past) (parts : List Part) (more text : List ℕ) �
 written_behind first [] more text e = tt
 written_behind first (p ∷ ahead) more text e =
     front_then (report (deeds_of first ahead)) (report (deeds_of first (p ∷ ahead))) text (report_grows first ahead p) (more, e)
+
+-- where the whole report was written, that of the parts but the last was
+pub written_by : (first : Past) (parts : List Part) (text : List ℕ) → text ≡ report (deeds_of first parts) → IsWrittenButLast first parts text
+written_by first parts text is = written_behind first parts [] text (append-nil (report (deeds_of first parts)) ∙ sym is)
+
+-- ---- a run that came to its end, as one that broke off
+
+pub but_last : (g : Given) (first : Past) (parts : List Part) → AreParts g first parts → ArePartsButLast g first parts
+but_last g first [] are = tt
+but_last g first (p ∷ ahead) are = are.1
+
+pub done_broken : (g : Given) (first : Past) (parts : List Part) (text : List ℕ) → IsDoneSoFar g first parts text → IsBrokenOff g first parts text
+done_broken g first parts text h = record {
+  ahead = but_last g first parts h.all;
+  written = written_by first parts text h.text_is;
+  front = ([], append-nil text ∙ h.text_is);
+}
+
+pub script_broken : (line : ℕ) (kind : ScriptRefusal) (g : Given) (first : Past) (parts : List Part) (text : List ℕ) → IsRefusedSoFar line kind g first parts text
+    → IsBrokenOff g first parts text
+script_broken line kind g first parts text h = record {
+  ahead = subst (ArePartsButLast g first) (sym h.only.3) tt;
+  written = written_by first parts text h.text_is;
+  front = ([], append-nil text ∙ h.text_is);
+}

@@ -124,7 +124,7 @@ module _ (g : Given) (before : List Act) (first : Past) (parts : List Part) (old
       memory = stretch.memory;
       while_open = stretch.while_open;
       told = stretch.told;
-      none_due = stretch.none_due;
+      none_due = stretch.due_is;
     }
 
     -- ---- the sessions ahead
@@ -279,7 +279,7 @@ module _ (laws : TurnLaws) (g : Given) (before : List Act) (first : Past) (parts
       (sym (gathered_then taken_in w.done v.done ∙ ap (λ (text : List ℕ). text ++ taken_report v.done) w.unread)) v.wrote in
       runs_on_so g before first parts old_log p h t bytes (w.own ++ []) done log q.server stretch
       (entered_then came t bytes p.reader w.own [] w.done v.done w.so.0 refl)
-      (λ c. each_behind c came w.done v.done w.stretch.none_due passes (w.so.1 c))
+      (λ c. each_behind c came w.done v.done w.stretch.due_is passes (w.so.1 c))
       (subst (λ (x : Past). IsKept g before x log q.server) (sym (append_assoc v.done w.done came)) v.kept)
       (subst AllLive (sym rest) live) law once (lines_taken a.desk q.server.desk old new reports) laws.given laws.on laws.last laws.told laws.grow ended q old new refl
       reads still wrote

@@ -11,8 +11,10 @@ use Rattle.machine_sharing.specs.Legal.{turns_of as turns_along}
 use Rattle.machine_steps.specs.Histories.{Turn}
 use Rattle.machine_steps.specs.Machine.{State}
 use Rattle.packet_workers.specs.Adding.{PassView}
+use Rattle.worker_crew.specs.declared.gave_up.GaveUp.{GaveUp}
 use Rattle.worker_crew.specs.declared.gave_up.GaveUp.TheVariants as gave_up
 use Rattle.worker_crew.specs.Tasks.{Worked}
+use Rattle.desk_jobs.specs.Crews.{ended_with, told_memory}
 use Rattle.serve_steps.specs.declared.end.ServeEnd.{ServeEnd}
 use Rattle.serve_steps.specs.declared.end.ServeEnd.TheVariants as ends
 use Rattle.serve_steps.specs.declared.end.ServeEnd.TheVariants.{BoardFault, WriteFault}
@@ -128,19 +130,17 @@ end_of stops.Board worn = BoardFault
 end_of stops.Write worn = WriteFault
 end_of stops.Stopped worn = stopped_end worn
 
--- by whether memory sufficed for the calls of who drove it
-abbrev pub with_memory : ServeEnd → Bool → ServeEnd
-with_memory ends.Done false = ends.NoMemory
-with_memory (ends.Script line kind) false = ends.NoMemory
-with_memory end had = end
+abbrev pub gave_up_end : GaveUp → ServeEnd
+gave_up_end gave_up.NoMemory = ends.NoMemory
+gave_up_end gave_up.Worn = ends.Worn
 
 -- by how its workers ended: where it came to its end, as the first of them that gave up
 abbrev pub joined : ServeEnd → Worked → ServeEnd
-joined ends.Done (Err gave_up.NoMemory) = ends.NoMemory
-joined ends.Done (Err gave_up.Worn) = ends.Worn
-joined (ends.Script line kind) (Err gave_up.NoMemory) = ends.NoMemory
-joined (ends.Script line kind) (Err gave_up.Worn) = ends.Worn
-joined end outcome = end
+joined end outcome = ended_with gave_up_end (spares_board end) end outcome
+
+-- by whether memory sufficed for the calls of who drove it
+abbrev pub with_memory : ServeEnd → Bool → ServeEnd
+with_memory end had = joined end (told_memory had)
 
 -- by how the rest of the report was written, behind a fault of the board
 abbrev pub told_as : Result (Unit {0}) ReportStop → ServeEnd

@@ -16,7 +16,7 @@ use Rattle.machine_steps.specs.Machine.{Session, State, most_jobs}
 use Rattle.machine_steps.specs.Messages.{Makes}
 use Rattle.machine_steps.specs.Messages.Makes.{PassesOver, RefusesVersion, Greets, Echoes, IsNamed, BringsPacket, BringsPort, ComesEarly, LacksNumbers, Acknowledges, RefusesClearing, BreaksOff, IsRefused}
 use Rattle.machine_steps.specs.Steps.{Steps}
-use Rattle.sim_channels.specs.Passes.{brings_packet, is_packet}
+use Rattle.desk_jobs.specs.Arriving.{brings_packet, is_packet}
 
 abbrev is_packet_in : Heard → Bool
 is_packet_in (heard.PacketIn buffer in_port frame) = true

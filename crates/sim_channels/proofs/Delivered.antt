@@ -1,5 +1,5 @@
 -- A delivery at a place, put together, and one place after the other.
-use Rattle.std.proofs.Common.{◌≡◌, ℕ, ◌+◌, ◌<◌, ◌==◌, Bool, true, List, [], length, get_or, refl, sym, ap, ◌∙◌, subst, inl, inr, ⊎_elim, arith}
+use Rattle.std.proofs.Common.{◌≡◌, ℕ, ◌+◌, ◌<◌, ◌==◌, Bool, true, List, [], length, get_or, sym, ap, ◌∙◌, subst, inl, inr, ⊎_elim, arith}
 use Rattle.std.proofs.lemmas.Bool.{cases_eq, eqb-true}
 use Rattle.std.proofs.lemmas.List.{nil_from_length}
 use Rattle.std.proofs.lemmas.Option.{get_or_from_slice_get, slice_get_within}
@@ -46,11 +46,11 @@ went_on took at old new is h = subst (λ b. GoesOn b at old new) is h
 -- ---- other places
 
 module _ (Where : Type 0) (here : ℕ) (old new : Driver) (h : StaysBut Where here old new) (n : ℕ) (other : n ≡ here → ⊥) where
-  pub stays_so : (P : Channel → Type 0) → WhilePlugged P n old → WhilePlugged P n new
+  stays_so : (P : Channel → Type 0) → WhilePlugged P n old → WhilePlugged P n new
   stays_so P = while_still P n old new (h.channels n other)
 
-  pub taken_stays : DrivingLaws → (ds es : List Meaning) → Fits old ds → Fits new es → Where → IsTaken n old → IsTaken n new
-  taken_stays laws ds es f g holds = taken_still laws old new n f.kept g.kept (h.sessions holds (n + 1) (λ e. other (omega (arith, e)))) (h.channels n other)
+  taken_stays : DrivingLaws → (ds es : List Meaning) → Fits old ds → Fits new es → Where → IsTaken n old → IsTaken n new
+  taken_stays laws ds es f g holds = taken_still laws n old new f.kept g.kept (h.sessions holds (n + 1) (λ e. other (omega (arith, e))))
 
 -- ---- one place after the other
 

@@ -1,7 +1,6 @@
 -- The messages for a device are taken out of the machine.
 use Rattle.std.proofs.Common.{◌≡◌, ℕ, ◌+◌, true, List, [], ◌∷◌, ◌++◌, length, refl, sym, ap, ◌∙◌, subst}
-use Rattle.std.specs.Prelude.{Some}
-use Rattle.std.specs.List.{AllByRecursion, slice_get}
+use Rattle.std.specs.List.{AllByRecursion}
 use Rattle.of10_codec.specs.declared.message.Message.{Message}
 use Rattle.device_port.specs.Devices.{Meaning}
 use Rattle.message_blocks.specs.Spelling.{IsSpelled}

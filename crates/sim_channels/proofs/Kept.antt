@@ -23,7 +23,7 @@ use Rattle.machine_desk.specs.Hearing.{IsSameSession, IsStaged, is_live, was_beg
 use Rattle.sim_channels.specs.Channels.{Fits, IsFresh, IsKept, IsReached, IsSame}
 use Rattle.sim_channels.specs.Delivering.{Spares}
 use Rattle.sim_channels.specs.Driving.{DrivingLaws}
-use Rattle.sim_channels.specs.Waiting.{WhilePlugged}
+use Rattle.sim_channels.specs.Waiting.{IsLeft, WhilePlugged}
 use Rattle.sim_channels.proofs.Keeping.{IsAside, aside, bears_on, reached_on, session_same}
 use Rattle.sim_channels.proofs.Making.{may_make}
 use Rattle.sim_channels.proofs.Others.{IsPlaced, kept_all, kept_each, quiet_on, same_desk, same_then, still_placed}
@@ -93,7 +93,7 @@ staged_at driver at k kept there = ap (λ c. is_plugged c driver.desk.now) (sym 
 pub plugged_at : (driver : Driver) (at : ℕ) (k : Channel) → IsKept driver → slice_get driver.channels.items at ≡ Some k → k.inbound.stage ≡ Live → is_plugged (at + 1) driver.desk.now ≡ true
 plugged_at driver at k kept there plugged = staged_at driver at k kept there ∙ ap is_live plugged
 
-pub all_left : (P : Channel → Type 0) (at : ℕ) (driver : Driver) → ((k : Channel) → slice_get driver.channels.items at ≡ Some k → k.inbound.stage ≡ Over) → WhilePlugged P at driver
+pub all_left : (P : Channel → Type 0) (at : ℕ) (driver : Driver) → IsLeft at driver → WhilePlugged P at driver
 all_left P at driver left = λ k e plugged. (let other : Over ≡ Live = sym (left k e) ∙ plugged in absurd (cc))
 
 pub not_fresh : (k : Channel) → k.inbound.stage ≡ Live → k.inbound.stage ≡ Unopened → IsFresh k

@@ -1,12 +1,14 @@
 -- A frame comes to a device.
-use Rattle.std.proofs.Common.{◌≡◌, ℕ, ◌+◌, ◌<◌, Bool, List, [], length, set, get_or, length-set, map, refl, sym, ap, ◌∙◌, subst, arith}
-use Rattle.std.specs.Prelude.{Some}
+use Rattle.std.proofs.Common.{◌≡◌, ℕ, ◌+◌, ◌<◌, Bool, List, [], length, set, get_or, length-set, map, append-nil, refl, sym, ap, ◌∙◌, subst}
+use Rattle.std.specs.Prelude.{Option, Some, None}
 use Rattle.std.specs.List.{slice_get}
 use Rattle.std.specs.Option.{option_map}
 use Rattle.std.proofs.lemmas.List.{map-set}
 use Rattle.std.proofs.lemmas.Option.{slice_get-get_or, slice_get-map, same_Some}
 use Rattle.maple_base.specs.declared.device.Seen.{Seen}
 use Rattle.maple_base.specs.declared.device.Seen.TheVariants.{Failed}
+use Rattle.of10_codec.specs.declared.fault.Bad.{Bad}
+use Rattle.of10_stream.specs.Steps.{Stream, appended, fed}
 use Rattle.device_port.specs.Devices.{Meaning}
 use Rattle.device_port.specs.Devices.Call.{Looking}
 use Rattle.machine_steps.specs.declared.entry.Entry.{Entry}
@@ -14,25 +16,33 @@ use Rattle.machine_steps.specs.declared.entry.Entry.TheVariants as entries
 use Rattle.machine_steps.specs.declared.note.Note.TheVariants as notes
 use Rattle.machine_steps.specs.declared.reply.Reply.TheVariants.{Done}
 use Rattle.machine_steps.specs.Machine.{session_at}
-use Rattle.world_steps.specs.Worlds.{messages_for}
 use Rattle.sim_steps.specs.Benches.{MovesAt, Slot}
 use Rattle.sim_steps.specs.Deeds.{CallsSlot, has_failed}
+use Rattle.sim_steps.specs.Parts.{IsHeardOut}
 use Rattle.sim_channels.specs.declared.channel.Channel.{Channel}
 use Rattle.machine_desk.specs.declared.inbound.Stage.TheVariants.{Live}
 use Rattle.sim_channels.specs.declared.driver.Driver.{Driver}
 use Rattle.machine_desk.specs.Desks.{Enters}
-use Rattle.sim_channels.specs.Channels.{EntersNext, Fits, IsKept, IsSame, OthersDid, WorksAlone, bench, slots_of}
+use Rattle.sim_channels.specs.Channels.{EntersNext, Fits, IsKept, IsSame, OthersDid, slots_of}
 use Rattle.sim_channels.specs.Driving.{DrivingLaws}
-use Rattle.sim_channels.specs.Waiting.{IsAtRest, IsAtRestBut, IsOffered, IsTaken}
-use Rattle.sim_channels.proofs.Keeping.{messages_same, session_same}
+use Rattle.sim_channels.specs.Waiting.{IsAtRest, IsAtRestBut}
+use Rattle.sim_channels.proofs.Keeping.{session_same}
 use Rattle.sim_channels.proofs.Kept.{ChannelAt, is_as_long, is_beside, is_there, kept_channel, not_fresh, now_there, plugged_at, waiting_but, while_there}
 use Rattle.sim_channels.proofs.Slots.{set_beside, set_there, slots_move}
-use Rattle.sim_channels.proofs.Others.{ahead, alone_back, enters_next, kept_ahead, others_ahead, others_rest}
-use Rattle.sim_channels.specs.Looking.{Called, IsCalled, LooksUpBy, is_failure}
-use Rattle.sim_channels.proofs.Places.{by_index, taken_still, while_still}
+use Rattle.sim_channels.proofs.Others.{ahead, enters_next, kept_ahead, others_ahead, others_rest}
+use Rattle.sim_channels.specs.Looking.{IsCalled, LooksUpBy, is_failure}
+use Rattle.sim_channels.proofs.Places.{all_heard, but_here, done_beside, taken_still, while_still}
 use Rattle.sim_channels.proofs.Staged.{Stands}
 
 -- ---- the call
+
+-- of no bytes a stream stays as it is
+pub fed_nothing : (s : Stream) → fed [] s ≡ s
+fed_nothing s = go s.broken
+  where
+    go : (o : Option (ℕ × Bad)) → appended o [] s ≡ s
+    go None = λ i. record s { rest = append-nil s.rest i }
+    go (Some fault) = refl
 
 failing : (port : ℕ) (frame : List ℕ) (seen : Seen) (bytes : List ℕ) → has_failed (Looking port frame seen bytes) ≡ is_failure seen
 failing port frame Failed bytes = refl
@@ -92,13 +102,15 @@ module _ (laws : DrivingLaws) (d e : Driver) (before after : List Meaning) (at p
   session : (c : ℕ) → session_at c e.desk.now ≡ session_at c next.desk.now
   session c = session_same laws next.desk.now telling Done e.desk.now kept.reached told.steps refl c refl
 
-  taken : WorksAlone next → (i : ℕ) → IsTaken i e
-  taken alone i = by_index i at
-      (λ here. subst (λ j. IsTaken j e) (sym here)
-      (while_there at k l next e channel (λ x. messages_for (at + 1) e.desk.now ≡ [])
-      (λ open_now. messages_same laws (at + 1) next.desk.now e.desk.now kept.reached kept_called.reached (plugged_at next at k kept s.there s.is) (session (at + 1))
-      ∙ (rest_next.done alone).taken at k s.there s.is)))
-      (λ other. taken_still laws next e i kept kept_called (session (i + 1)) (beside i other) ((rest_next.done alone).taken i))
+  rest_called : IsAtRestBut at e
+  rest_called = done_beside laws at next e kept (but_here at next rest_next) (record {
+    kept = kept_called;
+    same = channel.same;
+    others = record { sessions = λ alone c other. session c; channels = beside };
+    jobs = λ alone. laws.none next.desk.now telling Done e.desk.now (rest_next.done alone).jobs refl told.steps;
+    taken = λ alone. taken_still laws at next e kept kept_called (session (at + 1)) ((rest_next.done alone).taken at);
+    offered = while_there at k l next e channel (λ x. x.to ≡ []) (λ open_now. looks.to ∙ rest.offered at k s.there s.is);
+  })
 
   slots : MovesAt (at + 1) calls (slots_of d.channels.items before) (slots_of e.channels.items after)
   slots =
@@ -109,15 +121,7 @@ module _ (laws : DrivingLaws) (d e : Driver) (before after : List Meaning) (at p
   pub told_of : (failed : Bool) → failed ≡ is_failure seen → IsCalled at port frame failed d before e after
   told_of failed is = record {
     fits = fits_called;
-    rest = record {
-      done = λ behind.
-          (let alone = alone_back next e channel.same behind in
-          record { jobs = laws.none next.desk.now telling Done e.desk.now (rest_next.done alone).jobs refl told.steps; taken = taken alone });
-      offered = λ i. by_index i at
-          (λ here. subst (λ j. IsOffered j e) (sym here) (while_there at k l next e channel (λ x. x.to ≡ []) (λ open_now. looks.to ∙ rest.offered at k s.there s.is)))
-          (λ other. while_still _ i d e (beside i other) (rest.offered i));
-      heard = λ i other. while_still _ i d e (beside i other) (rest.heard i);
-    };
+    rest = rest_called;
     plugged = record { channel = l; there = is_there at k l next e channel; is = live };
     ahead = next;
     others = others;
@@ -141,3 +145,8 @@ is_called {B} f laws d e xs at port frame given seen number k l x y failed fits 
     subst (λ bytes. LooksUpBy port bytes seen k (f x) l (f y)) given_is (subst (λ (z : B). LooksUpBy port given seen k (f z) l (f y)) (sym device_is) looks) in
     told_of laws d e (map f xs) (map f (set xs at y)) at port frame seen k l (f x) (f y) fits rest s channels same device (map-set f xs at y) looked
     (subst (λ n. Enters d.desk (entries.Note (notes.Seen n port frame seen)) Done e.desk) place enters) failed is
+
+-- a device that appended nothing leaves nothing to hear
+pub rests_silent : (at : ℕ) (k l : Channel) (d e : Driver) → ChannelAt at k l d e → l ≡ k → IsAtRest d → IsAtRestBut at e → IsAtRest e
+rests_silent at k l d e h silent rest but =
+    all_heard at e but (while_still (λ x. IsHeardOut x.inbound.from.stream) at d e (is_there at k l d e h ∙ ap Some silent ∙ sym h.there) (rest.heard at))

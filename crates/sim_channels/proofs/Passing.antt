@@ -1,5 +1,5 @@
 -- What is known behind one message.
-use Rattle.std.proofs.Common.{◌≡◌, ◌⊎◌, ℕ, ◌+◌, ◌<◌, Bool, true, false, List, [], ◌∷◌, ◌++◌, length, set, refl, sym, ap, ◌∙◌, subst, inl, inr, ⊎_elim, arith}
+use Rattle.std.proofs.Common.{◌≡◌, ◌⊎◌, ℕ, ◌+◌, ◌<◌, true, false, List, [], ◌∷◌, ◌++◌, length, set, refl, sym, ap, ◌∙◌, subst, inl, inr, ⊎_elim, arith}
 use Rattle.std.specs.Prelude.{Option, Some, None, Result, Ok, Err, OnOk, is_some}
 use Rattle.std.specs.List.{AllByRecursion, slice_get}
 use Rattle.std.specs.Vec.{with_item}
@@ -41,10 +41,11 @@ use Rattle.sim_channels.specs.declared.driver.Driver.{Driver}
 use Rattle.sim_channels.specs.declared.hear.Came.{Came}
 use Rattle.sim_channels.specs.declared.hear.Came.TheVariants.{Nothing}
 use Rattle.desk_jobs.specs.declared.stopped.Stopped.{Stopped}
+use Rattle.desk_jobs.specs.Arriving.{is_packet}
 use Rattle.sim_channels.specs.Answering.{Answers, IsPlain}
 use Rattle.sim_channels.specs.Channels.{CarriedOver, EntersNext, IsFresh, IsKept, IsSame, OthersDid, Tends, WorksAlone, bench, slot_by, slots_of}
 use Rattle.sim_channels.specs.Driving.{DrivingLaws}
-use Rattle.sim_channels.specs.Passes.{ComesAt, Follows, HasHeard, HearsInput, HearsNext, MakesRoom, MakesRoomFor, Passed, came_of, is_packet, rest_at, rest_in}
+use Rattle.sim_channels.specs.Passes.{ComesAt, Follows, HasHeard, HearsInput, HearsNext, MakesRoom, MakesRoomFor, Passed, came_of, rest_at, rest_in}
 use Rattle.sim_channels.specs.Waiting.{IsOffered, NoneWaits}
 use Rattle.sim_channels.proofs.Answering.{AllBy, others_along}
 use Rattle.sim_channels.proofs.Bytes.{gets_shorter}

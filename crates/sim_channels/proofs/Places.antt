@@ -1,6 +1,6 @@
 -- What is kept, and what is left to do, where at most one place changed.
-use Rattle.std.proofs.Common.{◌≡◌, ℕ, ◌+◌, List, length, refl, sym, ap, ◌∙◌, subst, inl, ⊎_elim, arith}
-use Rattle.std.specs.Prelude.{Some}
+use Rattle.std.proofs.Common.{◌≡◌, ℕ, ◌+◌, true, List, length, refl, sym, ap, ◌∙◌, subst, ⊎_elim, arith}
+use Rattle.std.specs.Prelude.{Some, is_some}
 use Rattle.std.specs.List.{slice_get}
 use Rattle.std.proofs.lemmas.Bool.{cases_eq}
 use Rattle.std.proofs.lemmas.Option.{slice_get_within}
@@ -8,15 +8,18 @@ use Rattle.device_port.specs.Devices.{Meaning}
 use Rattle.machine_steps.specs.declared.entry.Entry.{Entry}
 use Rattle.machine_steps.specs.declared.reply.Reply.{Reply}
 use Rattle.machine_steps.specs.Machine.{session_at}
+use Rattle.sim_steps.specs.Benches.{is_plugged}
 use Rattle.sim_channels.specs.declared.channel.Channel.{Channel}
 use Rattle.machine_desk.specs.declared.inbound.Stage.{Stage}
 use Rattle.sim_channels.specs.declared.driver.Driver.{Driver}
-use Rattle.sim_channels.specs.Channels.{Fits, IsKept, IsSame, WorksAlone, bench, slots_of, with_stage}
+use Rattle.sim_channels.specs.Channels.{Fits, IsKept, bench, slots_of, with_stage}
 use Rattle.sim_channels.specs.Driving.{DrivingLaws}
-use Rattle.sim_channels.specs.Waiting.{IsAtRest, IsHeard, IsOffered, IsQuiet, IsTaken, NoneWaits, StaysBut, WhilePlugged}
+use Rattle.sim_channels.specs.Resting.{DoesAt}
+use Rattle.sim_channels.specs.Waiting.{IsAtRest, IsAtRestBut, IsHeard, IsOffered, IsTaken, WhilePlugged}
 use Rattle.sim_channels.proofs.Keeping.{messages_same}
 use Rattle.sim_channels.proofs.Kept.{plugged_at}
 use Rattle.sim_channels.proofs.Others.{alone_back}
+use Rattle.sim_channels.proofs.Resting.{stage_plugged}
 use Rattle.sim_channels.proofs.Slots.{item_at, slots_alike}
 use Rattle.sim_channels.specs.Hearing.{KeepsChannels}
 use Rattle.sim_channels.specs.Staging.{EntersAndStages}
@@ -61,24 +64,30 @@ fits_same d e devices kept same fits = record {
 pub while_still : (P : Channel → Type 0) (at : ℕ) (d e : Driver) → slice_get e.channels.items at ≡ slice_get d.channels.items at → WhilePlugged P at d → WhilePlugged P at e
 while_still P at d e same h k there plugged = h k (sym same ∙ there) plugged
 
-pub taken_still : (laws : DrivingLaws) (d e : Driver) (at : ℕ) → IsKept d → IsKept e → session_at (at + 1) e.desk.now ≡ session_at (at + 1) d.desk.now
-    → slice_get e.channels.items at ≡ slice_get d.channels.items at → IsTaken at d → IsTaken at e
-taken_still laws d e at kept also session same taken k there plugged =
-    let was = sym same ∙ there in
-    messages_same laws (at + 1) d.desk.now e.desk.now kept.reached also.reached (plugged_at d at k kept was plugged) session ∙ taken k was plugged
+pub taken_still : (laws : DrivingLaws) (at : ℕ) (d e : Driver) → IsKept d → IsKept e → session_at (at + 1) e.desk.now ≡ session_at (at + 1) d.desk.now → IsTaken at d → IsTaken at e
+taken_still laws at d e kept also session taken k there plugged =
+    let open_before : is_plugged (at + 1) d.desk.now ≡ true = sym (ap is_some session) ∙ plugged_at e at k also there plugged in
+    let place = kept.places_alone (at + 1) open_before in
+    let was = item_at d.channels.items at (omega (arith, place.1)) in
+    messages_same laws (at + 1) d.desk.now e.desk.now kept.reached also.reached open_before session ∙ taken was.0 was.1 (stage_plugged d at was.0 kept was.1 open_before)
 
--- all other places are as they were
-pub rest_but : (laws : DrivingLaws) (d e : Driver) (here : ℕ) → IsKept d → IsKept e → IsSame d e → IsAtRest d → StaysBut (IsQuiet d) here d e
-    → (WorksAlone e → NoneWaits e.desk) → (WorksAlone e → IsTaken here e) → IsOffered here e → IsHeard here e → IsAtRest e
-rest_but laws d e here kept also same_ rest stays jobs taken offered heard = record {
-  done = λ alone.
-      (let before = alone_back d e same_ alone in
+-- something was done at one place
+pub done_beside : (laws : DrivingLaws) (here : ℕ) (d e : Driver) → IsKept d → IsAtRestBut here d → DoesAt here d e → IsAtRestBut here e
+done_beside laws here d e kept rest h = record {
+  done = λ behind.
+      (let alone = alone_back d e h.same behind in
       record {
-        jobs = jobs alone;
-        taken = λ at. by_index at here (λ same. subst (λ n. IsTaken n e) (sym same) (taken alone))
-            (λ other.
-            taken_still laws d e at kept also (stays.sessions (inl before) (at + 1) (λ f. other (omega (arith, f)))) (stays.channels at other) ((rest.done before).taken at));
+        jobs = h.jobs alone;
+        taken = λ at. by_index at here (λ same. subst (λ n. IsTaken n e) (sym same) (h.taken alone))
+            (λ other. taken_still laws at d e kept h.kept (h.others.sessions alone (at + 1) (λ f. other (omega (arith, f)))) ((rest.done alone).taken at));
       });
-  offered = λ at. by_index at here (λ same. subst (λ n. IsOffered n e) (sym same) offered) (λ other. while_still _ at d e (stays.channels at other) (rest.offered at));
-  heard = λ at. by_index at here (λ same. subst (λ n. IsHeard n e) (sym same) heard) (λ other. while_still _ at d e (stays.channels at other) (rest.heard at));
+  offered = λ at. by_index at here (λ same. subst (λ n. IsOffered n e) (sym same) h.offered) (λ other. while_still _ at d e (h.others.channels at other) (rest.offered at));
+  heard = λ at other. while_still _ at d e (h.others.channels at other) (rest.heard at other);
 }
+
+pub but_here : (here : ℕ) (d : Driver) → IsAtRest d → IsAtRestBut here d
+but_here here d rest = record { done = rest.done; offered = rest.offered; heard = λ at other. rest.heard at }
+
+pub all_heard : (here : ℕ) (d : Driver) → IsAtRestBut here d → IsHeard here d → IsAtRest d
+all_heard here d rest heard =
+    record { done = rest.done; offered = rest.offered; heard = λ at. by_index at here (λ same. subst (λ n. IsHeard n d) (sym same) heard) (rest.heard at) }

@@ -1,5 +1,5 @@
 -- A driver at rest has a still bench, and hears in order.
-use Rattle.std.proofs.Common.{◌≡◌, ◌⊎◌, ℕ, ◌+◌, ◌-◌, Bool, true, List, [], refl, sym, ap, ◌∙◌, subst, inl, inr, arith}
+use Rattle.std.proofs.Common.{◌≡◌, ◌⊎◌, ℕ, ◌+◌, ◌-◌, true, List, [], refl, sym, ap, ◌∙◌, subst, inl, inr, arith}
 use Rattle.std.specs.Prelude.{Some}
 use Rattle.std.specs.List.{slice_get}
 use Rattle.device_port.specs.Devices.{Meaning}
@@ -67,7 +67,7 @@ module _ (driver : Driver) (devices : List Meaning) (kept : IsKept driver) (rest
         subst (λ (x : Slot). IsHeardOut x.from) (sym h.slot.is) (rest.heard h.slot.at h.slot.channel h.slot.there h.plugged));
   }
 
-  pub done_is_still : IsDone driver → IsStill (bench driver devices)
+  done_is_still : IsDone driver → IsStill (bench driver devices)
   done_is_still done = record {
     jobs = done.jobs;
     taken = λ c open_now.
@@ -76,13 +76,10 @@ module _ (driver : Driver) (devices : List Meaning) (kept : IsKept driver) (rest
     calm = rest_is_calm;
   }
 
-  pub rest_is_still : IsSolo driver.desk.now → IsStill (bench driver devices)
-  rest_is_still solo = done_is_still (rest.done (kept.crew.none solo))
-
-  -- ahead of what is asked for, and, where all is done, of what tells how a settle ended
-  pub rest_is_drained : (settling : Bool) → (settling ≡ true → IsDone driver) → IsSolo driver.desk.now ⊎ (settling ≡ true) → IsStill (bench driver devices)
-  rest_is_drained settling done (inl solo) = rest_is_still solo
-  rest_is_drained settling done (inr is) = done_is_still (done is)
+  -- who works alone has done all
+  pub rest_is_still : IsSolo driver.desk.now ⊎ IsDone driver → IsStill (bench driver devices)
+  rest_is_still (inl solo) = done_is_still (rest.done (kept.crew.none solo))
+  rest_is_still (inr done) = done_is_still done
 
 -- of the place where all was offered something may be heard, while no packet waits, unless somebody works beside
 pub hears_in_order : (driver : Driver) (devices : List Meaning) (at : ℕ) (input : Input) (reply : Reply) → IsKept driver → (WorksAlone driver → NoneWaits driver.desk) → IsOffered at driver

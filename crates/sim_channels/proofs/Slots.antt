@@ -4,6 +4,7 @@ use Rattle.std.specs.Prelude.{Some}
 use Rattle.std.specs.List.{slice_get}
 use Rattle.std.proofs.lemmas.Option.{none-some, same_Some}
 use Rattle.device_port.specs.Devices.{Meaning}
+pub use Rattle.desk_jobs.proofs.Lists.{set_beside}
 use Rattle.sim_steps.specs.Benches.{MovesAt, Slot, slot_at}
 use Rattle.sim_channels.specs.declared.channel.Channel.{Channel}
 use Rattle.sim_channels.specs.Channels.{slot_by, slots_of}
@@ -24,13 +25,6 @@ pub set_there : {X : Type 0} (xs : List X) (at : ℕ) (x y : X) → slice_get xs
 set_there [] at x y e = absurd (none-some x e)
 set_there (z ∷ zs) zero x y e = refl
 set_there (z ∷ zs) (suc n) x y e = set_there zs n x y e
-
-pub set_beside : {X : Type 0} (xs : List X) (at n : ℕ) (y : X) → (n ≡ at → ⊥) → slice_get (set xs at y) n ≡ slice_get xs n
-set_beside [] at n y other = refl
-set_beside (z ∷ zs) zero zero y other = absurd (other refl)
-set_beside (z ∷ zs) zero (suc n) y other = refl
-set_beside (z ∷ zs) (suc at) zero y other = refl
-set_beside (z ∷ zs) (suc at) (suc n) y other = set_beside zs at n y (λ e. other (ap suc e))
 
 -- ---- a slot
 

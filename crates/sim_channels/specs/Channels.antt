@@ -1,5 +1,5 @@
 -- The driver of the machine and devices: the bench that it is with the devices, and what it keeps.
-use Rattle.std.specs.Prelude.{◌≡◌, ℕ, ◌+◌, ◌^◌, ◌<◌, ◌≤◌, Bool, true, false, List, [], ◌∷◌, ◌++◌, length, Option, Some, None, IfSome, is_some}
+use Rattle.std.specs.Prelude.{◌≡◌, ℕ, ◌+◌, ◌^◌, ◌<◌, ◌≤◌, true, false, List, [], ◌∷◌, ◌++◌, length, Some, is_some}
 use Rattle.std.specs.List.{slice_get}
 use Rattle.maple_base.specs.declared.decision.Settings.{Settings}
 use Rattle.policy_lang.specs.declared.Policy.{Policy}
@@ -12,16 +12,15 @@ use Rattle.desk_jobs.specs.Laws.{Meanwhile}
 use Rattle.machine_steps.specs.declared.entry.Entry.{Entry}
 use Rattle.machine_steps.specs.declared.reply.Reply.{Reply}
 use Rattle.machine_steps.specs.Histories.{Leads, Turn}
-use Rattle.machine_steps.specs.Machine.{State, opening, was_opened}
+use Rattle.machine_steps.specs.Machine.{State, opening}
 use Rattle.machine_steps.specs.Sound.{AreInRange}
 use Rattle.machine_steps.specs.Steps.{Steps}
-use Rattle.sim_steps.specs.Benches.{Slot, Bench, IsSolo, is_plugged, opening_bench}
+use Rattle.sim_steps.specs.Benches.{Slot, Bench, is_plugged, opening_bench}
 use Rattle.sim_steps.specs.Deeds.{turn_by}
 use Rattle.sim_steps.specs.Stretches.{Carried}
 use Rattle.sim_channels.specs.declared.channel.Channel.{Channel}
-use Rattle.desk_jobs.specs.declared.crew.Crew.{Crew}
 use Rattle.machine_desk.specs.declared.inbound.Stage.{Stage}
-use Rattle.machine_desk.specs.declared.inbound.Stage.TheVariants.{Unopened, Live}
+use Rattle.machine_desk.specs.declared.inbound.Stage.TheVariants.{Unopened}
 use Rattle.sim_channels.specs.declared.driver.Driver.{Driver}
 
 -- ---- the bench

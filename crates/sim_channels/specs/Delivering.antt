@@ -17,11 +17,11 @@ use Rattle.world_steps.specs.Worlds.{lacks_memory, messages_for}
 use Rattle.sim_steps.specs.Deeds.{EntersAt, OffersNext}
 use Rattle.sim_steps.specs.Stretches.{Carried}
 use Rattle.sim_channels.specs.declared.channel.Channel.{Channel}
-use Rattle.machine_desk.specs.declared.inbound.Stage.TheVariants.{Over, Live, Unopened}
+use Rattle.machine_desk.specs.declared.inbound.Stage.TheVariants.{Live, Unopened}
 use Rattle.sim_channels.specs.declared.driver.Driver.{Driver}
 use Rattle.sim_channels.specs.Channels.{CarriedOver, Fits, IsKept, IsSame, OthersDid, bench, slot_by}
 use Rattle.sim_channels.specs.Staging.{HasStage}
-use Rattle.sim_channels.specs.Waiting.{IsHeard, IsQuiet, IsTaken, NoneWaits, StaysBut, WhilePlugged}
+use Rattle.sim_channels.specs.Waiting.{IsHeard, IsLeft, IsQuiet, IsTaken, NoneWaits, StaysBut, WhilePlugged}
 
 -- what was taken out for the device can be offered
 abbrev pub CanOffer : ℕ → Driver → Type 0
@@ -82,7 +82,7 @@ pub record Leaves (at : ℕ) (old new : Driver) : Type 0 where
       (devices : List Meaning) → length devices ≡ length old.channels.items → EntersAt (Gone (at + 1) true) reply (bench ahead devices) (bench new devices)
   pub places : length new.channels.items ≡ length old.channels.items
   pub spares : Spares at old new
-  pub left : (k : Channel) → slice_get new.channels.items at ≡ Some k → k.inbound.stage ≡ Over
+  pub left : IsLeft at new
   pub waiting : (k l : Channel) → slice_get old.channels.items at ≡ Some k → slice_get new.channels.items at ≡ Some l → l.waiting ≡ k.waiting
 
 -- the next message is offered to the device at a place
@@ -118,7 +118,7 @@ pub record MayGoOn (at : ℕ) (old new : Driver) : Type 0 where
 -- by whether the device took a message in; else it was left
 abbrev pub GoesOn : Bool → ℕ → Driver → Driver → Type 0
 GoesOn true at old new = MayGoOn at old new
-GoesOn false at old new = (k : Channel) → slice_get new.channels.items at ≡ Some k → k.inbound.stage ≡ Over
+GoesOn false at old new = IsLeft at new
 
 -- ---- at first
 

@@ -13,6 +13,8 @@ use Rattle.sim_channels.specs.Staging.{HasStage}
 use Rattle.sim_channels.specs.Waiting.{IsAtRestBut}
 use Rattle.machine_desk.specs.Hearing.{IsSameSession}
 use Rattle.machine_desk.specs.declared.inbound.Stage.TheVariants.{Live}
+use Rattle.sim_channels.specs.declared.calling.Answer.{Answer}
+use Rattle.sim_channels.specs.declared.calling.Answer.TheVariants as answers
 use Rattle.sim_channels.specs.declared.channel.Channel.{Channel}
 use Rattle.sim_channels.specs.declared.driver.Driver.{Driver}
 
@@ -28,6 +30,11 @@ pub record LooksUpBy (port : ℕ) (frame : List ℕ) (seen : Seen) (k : Channel)
 abbrev pub is_failure : Seen → Bool
 is_failure Failed = true
 is_failure seen = false
+
+-- what it did with it
+abbrev pub is_failed : Answer → Bool
+is_failed answers.Failed = true
+is_failed answer = false
 
 -- a frame came to a device
 pub record Called (c port : ℕ) (frame : List ℕ) (failed : Bool) (a b : Bench) : Type 0 where

@@ -1,19 +1,14 @@
 -- One message that is heard: what comes next on a channel, what its reply brings about, and what is known behind both.
-use Rattle.std.specs.Prelude.{◌≡◌, ◌⊎◌, ℕ, ◌+◌, ◌<◌, Bool, true, false, List, [], ◌∷◌, length, set, Option, Some, None}
+use Rattle.std.specs.Prelude.{◌≡◌, ◌⊎◌, ℕ, ◌<◌, Bool, true, false, List, [], ◌∷◌, length, set, Option, Some, None}
 use Rattle.std.specs.List.{slice_get}
 use Rattle.machine_steps.specs.declared.entry.Input.{Input}
-use Rattle.machine_steps.specs.declared.entry.Input.TheVariants.{Message as Whole, Bad}
-use Rattle.of10_codec.specs.declared.message.Body.{Body}
-use Rattle.of10_codec.specs.declared.message.Body.TheVariants as body
 use Rattle.machine_steps.specs.declared.job.Job.{Job}
-use Rattle.machine_steps.specs.Machine.{most_jobs}
 use Rattle.machine_steps.specs.Steps.{item_of}
 use Rattle.machine_steps.specs.Waiting.{Waiting}
-use Rattle.machine_desk.specs.Desks.{DeskView}
 use Rattle.machine_desk.specs.Hearing.{Comes, Hears}
 use Rattle.desk_jobs.specs.declared.tending.Handed.{Handed}
+use Rattle.desk_jobs.specs.Arriving.{HasRoom, is_packet}
 use Rattle.desk_jobs.specs.Crews.{BySights}
-use Rattle.desk_jobs.specs.Laws.{Meanwhile}
 use Rattle.desk_jobs.specs.Tending.{Done, HandsOver, IsInHand, Reaches, Room, Sight}
 use Rattle.machine_desk.specs.declared.inbound.Inbound.{Inbound}
 use Rattle.machine_desk.specs.declared.hearing.Heard.{Heard}
@@ -37,15 +32,6 @@ pub record HearsAt (here : ℕ) (input : Input) (heard : Heard) (old new : Drive
   pub hears : Hears input heard old.desk channel.inbound new.desk behind
   pub rest : new ≡ record old { desk = new.desk; channels = new.channels }
   pub channels : new.channels.items ≡ set old.channels.items here (record channel { inbound = behind })
-
-abbrev pub brings_packet : Body → Bool
-brings_packet (body.PacketIn buffer total in_port reason bytes) = true
-brings_packet other = false
-
--- a packet comes with it
-abbrev pub is_packet : Input → Bool
-is_packet (Whole m) = brings_packet m.body
-is_packet (Bad place bad) = false
 
 -- a packet that was heard waits, and no other
 abbrev pub WaitsBy : Heard → List Job → Type 0
@@ -77,14 +63,14 @@ pub record AwaitsAll (old new : Driver) : Type 0 where
 pub record MakesRoom (old new : Driver) : Type 0 where
   pub tends : Tends old new
   pub alone : WorksAlone old → new ≡ old
-  pub room : (d : DeskView) → Meanwhile new.desk d → WorksAlone old ⊎ (length d.now.jobs < most_jobs)
+  pub room : HasRoom (WorksAlone old) new.desk
   pub asked : Beside (λ n s t. Reaches Room s t) old new
 
 -- the same where a packet came
 pub record MakesRoomFor (input : Input) (old new : Driver) : Type 0 where
   pub tends : Tends old new
   pub alone : WorksAlone old → new ≡ old
-  pub room : is_packet input ≡ true → (d : DeskView) → Meanwhile new.desk d → WorksAlone old ⊎ (length d.now.jobs < most_jobs)
+  pub room : is_packet input ≡ true → HasRoom (WorksAlone old) new.desk
   pub asked : is_packet input ≡ true → Beside (λ n s t. Reaches Room s t) old new
 
 -- what is told of an input

@@ -6,7 +6,7 @@ use Rattle.machine_steps.specs.Machine.{session_at}
 use Rattle.world_steps.specs.Worlds.{messages_for}
 use Rattle.sim_steps.specs.Parts.{IsHeardOut}
 use Rattle.sim_channels.specs.declared.channel.Channel.{Channel}
-use Rattle.machine_desk.specs.declared.inbound.Stage.TheVariants.{Live}
+use Rattle.machine_desk.specs.declared.inbound.Stage.TheVariants.{Live, Over}
 use Rattle.sim_channels.specs.declared.driver.Driver.{Driver}
 use Rattle.sim_channels.specs.Channels.{WorksAlone}
 
@@ -29,6 +29,10 @@ IsOffered at driver = WhilePlugged (λ k. k.to ≡ []) at driver
 -- all that came was heard
 abbrev pub IsHeard : ℕ → Driver → Type 0
 IsHeard at driver = WhilePlugged (λ k. IsHeardOut k.inbound.from.stream) at driver
+
+-- the device with this index was left, or never had a place: its session is over
+abbrev pub IsLeft : ℕ → Driver → Type 0
+IsLeft at driver = (k : Channel) → slice_get driver.channels.items at ≡ Some k → k.inbound.stage ≡ Over
 
 -- ---- the machine
 

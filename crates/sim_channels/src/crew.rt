@@ -1,16 +1,15 @@
 // Who works beside the driver.
 ghost use Rattle.std.specs.Prelude.{◌≡◌, not, OnOk, is_some};
 ghost use Rattle.machine_desk.specs.declared.hearing.Heard.TheVariants.{Packet};
-ghost use Rattle.desk_jobs.specs.Tending.{IsWhole};
 ghost use Rattle.sim_channels.specs.Channels.{IsKept, IsSame, WorksAlone};
 ghost use Rattle.sim_channels.specs.Passes.{Attends, AwaitsAll, MakesRoom, WaitsBy};
 
 use crate::laws::driving_laws;
 use crate::{Driver, Stopped};
 use core_machine::JobItem;
-use desk_jobs::{Handed, tending_laws};
+use desk_jobs::{Handed, answered, tending_laws};
 use machine_desk::working_laws;
-use packet_workers::{Gate, Worked};
+use packet_workers::Gate;
 use std::sync::Wait;
 
 impl<'h> Driver<'h> {
@@ -75,15 +74,5 @@ impl<'h> Driver<'h> {
                 }
             }
         }
-    }
-}
-
-// Whether the work on a packet came to its end.
-fn answered(worked: Worked) -> Result<(), Stopped>
-    ensures { OnOk result (IsWhole worked) }
-{
-    match worked {
-        Worked::NoMemory | Worked::Worn => Err(Stopped),
-        Worked::Answered | Worked::Spent | Worked::NotOpen => Ok(()),
     }
 }

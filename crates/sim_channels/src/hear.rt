@@ -3,13 +3,13 @@ ghost use Rattle.std.specs.Prelude.{◌≡◌, ◌<◌, length, OnOk, IfOk, IfSo
 ghost use Rattle.machine_steps.specs.Admitting.{IsHeard};
 ghost use Rattle.sim_channels.specs.Channels.{IsKept, IsSame, WorksAlone};
 ghost use Rattle.sim_channels.specs.Waiting.{IsOffered, NoneWaits};
-ghost use Rattle.sim_channels.specs.Passes.{ComesAt, Follows, HearsAt, HearsNext, MakesRoomFor, Passed, WaitsBy, came_of, is_packet};
+ghost use Rattle.sim_channels.specs.Passes.{ComesAt, Follows, HearsAt, HearsNext, MakesRoomFor, Passed, WaitsBy, came_of};
 
 use crate::laws::driving_laws;
 use crate::{Driver, Stopped};
 use core_machine::Input;
+use desk_jobs::is_packet;
 use machine_desk::Heard;
-use of10_codec::{Body, Message};
 use packet_workers::Gate;
 use std::sync::Wait;
 
@@ -125,17 +125,4 @@ fn came_of(heard: &Heard) -> Came
         Heard::State => Came::State,
         Heard::Packet(_) | Heard::Other => Came::Message,
     }
-}
-
-// Whether a packet came.
-fn is_packet(input: &Input) -> bool
-    ensures { result ≡ is_packet input.now }
-{
-    matches!(
-        input,
-        Input::Message(Message {
-            body: Body::PacketIn { .. },
-            ..
-        })
-    )
 }

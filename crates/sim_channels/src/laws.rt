@@ -1,5 +1,6 @@
 // What holds of the machine, for who drives it.
 ghost use Rattle.sim_channels.specs.Driving.{DrivingLaws};
+ghost use Rattle.sim_channels.specs.Resting.{RestingLaws};
 
 use machine_moves::{growth_laws, reply_laws, sends_law, session_laws};
 use machine_sharing::{between_laws, legal_laws};
@@ -16,4 +17,11 @@ pub fn driving_laws()
     reply_laws();
     sends_law();
     session_laws();
+}
+
+/// What keeps what is known of places at which nothing is left to do.
+pub fn resting_laws()
+    ensures { RestingLaws }
+{
+    driving_laws();
 }

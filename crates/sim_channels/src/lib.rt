@@ -1,7 +1,7 @@
 //! The driver of the controller's machine and devices, and the channels between the two.
 #![tactic(auto)]
 
-mod calling;
+pub mod calling;
 pub mod channel;
 mod crew;
 mod deliver;
@@ -17,9 +17,10 @@ mod staging;
 mod taking;
 mod waiting;
 
+pub use calling::Answer;
 pub use channel::Channel;
 pub use desk_jobs::Stopped;
 pub use driver::Driver;
 pub use hear::Came;
-pub use laws::driving_laws;
+pub use laws::{driving_laws, resting_laws};
 pub use outbox::connection_of;

@@ -1,5 +1,5 @@
 -- A frame comes to a device, behind what others did.
-use Rattle.std.proofs.Common.{◌≡◌, ℕ, ◌+◌, Bool, true, false, List, [], ◌∷◌, refl, sym, ◌∙◌, subst, inl, arith}
+use Rattle.std.proofs.Common.{◌≡◌, ℕ, ◌+◌, Bool, true, false, List, [], ◌∷◌, refl, sym, ◌∙◌, subst, inl, ⊎_elim}
 use Rattle.device_port.specs.Devices.{Meaning}
 use Rattle.device_port.specs.Devices.Call.{Looking}
 use Rattle.sim_steps.specs.Benches.{is_plugged}
@@ -14,27 +14,26 @@ use Rattle.sim_channels.specs.Channels.{Fits, IsKept, bench}
 use Rattle.sim_channels.specs.Delivering.{Leaves}
 use Rattle.sim_channels.specs.Driving.{DrivingLaws}
 use Rattle.sim_channels.specs.Looking.{IsCalled}
-use Rattle.sim_channels.specs.Waiting.{IsAtRest, IsAtRestBut, IsOffered, IsTaken}
-use Rattle.sim_channels.proofs.Kept.{all_left}
-use Rattle.sim_channels.proofs.Others.{alone_back, others_beside, others_carried, others_rest, tends_kept, tends_of}
-use Rattle.sim_channels.proofs.Places.{by_index, fits_but, taken_still, while_still}
-use Rattle.sim_channels.proofs.Resting.{rest_is_calm, rest_is_drained, rest_is_still}
+use Rattle.sim_channels.specs.Resting.{RestingLaws}
+use Rattle.sim_channels.specs.Waiting.{IsAtRest}
+use Rattle.sim_channels.proofs.Others.{others_beside, others_carried, tends_kept, tends_of}
+use Rattle.sim_channels.proofs.Places.{fits_but}
 use Rattle.sim_turns.proofs.Aside.{others_aside}
 use Rattle.sim_driver.specs.Commands.{Looked}
 use Rattle.sim_driver.proofs.Doing.{if_plugged}
 
 -- ---- and the device is left where it failed
 
-module _ (laws : DrivingLaws) (d : Driver) (before : List Meaning) (m : Driver) (mid : List Meaning) (at port : ℕ) (frame : List ℕ) (fits : Fits d before)
+module _ (laws : DrivingLaws) (resting : RestingLaws) (d : Driver) (before : List Meaning) (m : Driver) (mid : List Meaning) (at port : ℕ) (frame : List ℕ) (fits : Fits d before)
     (rest : IsAtRest d) (failed : Bool)
     (h : IsCalled at port frame failed d before m mid) where
   abbrev event : Event
   event = called (at + 1) (Looking port frame h.called.seen h.called.bytes) h.called.reply (bench h.ahead before) (bench m mid)
 
   drained : IsDrained event
-  drained =
-      rest_is_drained h.ahead before (tends_kept laws d h.ahead fits.kept (tends_of d h.ahead h.others)) (others_rest laws d h.ahead fits.kept h.others rest)
-      false (λ is. absurd (cc))
+  drained by =
+      resting.still h.ahead before (tends_kept laws d h.ahead fits.kept (tends_of d h.ahead h.others)) (resting.others d h.ahead fits.kept h.others rest)
+      (⊎_elim inl (λ (is : false ≡ true). absurd (cc)) by)
 
   looked : (e : Driver) (after : List Meaning) → Stretch (event ∷ []) [] (bench h.ahead before) (bench e after)
       → Looked (at + 1) port frame (bench d before) (bench e after)
@@ -68,32 +67,15 @@ pub fits_left : (m e : Driver) (at : ℕ) (devices : List Meaning) → Leaves at
 fits_left m e at devices left fits =
     fits_but m e at devices left.kept (record { count = left.places; others = left.spares.others.channels; waiting = left.waiting }) fits
 
-pub rest_left_but : (laws : DrivingLaws) (m e : Driver) (at : ℕ) → IsKept m → Leaves at m e → IsAtRestBut at m → IsAtRestBut at e
-rest_left_but laws m e at kept left rest = record {
-  done = λ alone.
-      (let before = alone_back m e left.spares.same alone in
-      let was = rest.done before in
-      record {
-        jobs = left.spares.jobs was.jobs;
-        taken = λ i. by_index i at (λ same. subst (λ j. IsTaken j e) (sym same) (all_left _ at e left.left))
-            (λ other.
-            taken_still laws m e i kept left.kept (left.spares.others.sessions (inl before) (i + 1) (λ f. other (omega (arith, f))))
-            (left.spares.others.channels i other) (was.taken i));
-      });
-  offered = λ i. by_index i at (λ same. subst (λ j. IsOffered j e) (sym same) (all_left _ at e left.left))
-      (λ other. while_still _ i m e (left.spares.others.channels i other) (rest.offered i));
-  heard = λ i other. while_still _ i m e (left.spares.others.channels i other) (rest.heard i other);
-}
-
 -- ---- and what that brings about was done
 
-pub obeyed_looked : (d : Driver) (before : List Meaning) (m : Driver) (mid : List Meaning) (e : Driver) (after : List Meaning) (c at port : ℕ) (frame : List ℕ)
+pub obeyed_looked : RestingLaws → (d : Driver) (before : List Meaning) (m : Driver) (mid : List Meaning) (e : Driver) (after : List Meaning) (c at port : ℕ) (frame : List ℕ)
     → c ≡ at + 1 → is_plugged c d.desk.now ≡ true
     → Looked (at + 1) port frame (bench d before) (bench m mid) → Carried (bench m mid) (bench e after) → IsKept e → IsAtRest e
     → Obeyed (Arrival c port frame) (bench d before) (bench e after)
-obeyed_looked d before m mid e after c at port frame place plugged looked carried kept rest =
+obeyed_looked resting d before m mid e after c at port frame place plugged looked carried kept rest =
     let one : Looked c port frame (bench d before) (bench m mid) = subst (λ n. Looked n port frame (bench d before) (bench m mid)) (sym place) looked in
     obeyed (Arrival c port frame) (one.event ∷ []) (bench d before) (bench e after)
     (carried_behind (one.event ∷ []) [] (bench d before) (bench m mid) (bench e after) one.stretch carried)
     (if_plugged c d.desk.now (one.event ∷ []) (JustLooks c port frame (one.event ∷ [])) plugged (one.event, one.seen, one.bytes, one.reply, refl, one.deed))
-    (rest_is_calm e after kept rest) (rest_is_still e after kept rest)
+    (resting.calm e after kept rest) (λ solo. resting.still e after kept rest (inl solo))

@@ -20,7 +20,8 @@ use Rattle.machine_desk.specs.declared.inbound.Stage.TheVariants.{Live}
 use Rattle.sim_channels.specs.declared.channel.Channel.{Channel}
 use Rattle.sim_channels.specs.declared.driver.Driver.{Driver}
 use Rattle.machine_desk.specs.Hearing.{is_live, was_begun}
-use Rattle.sim_channels.specs.Channels.{Fits, IsKept, bench}
+use Rattle.sim_channels.specs.Channels.{Fits, IsKept, WorksAlone, bench}
+use Rattle.sim_channels.specs.Resting.{RestingLaws}
 use Rattle.sim_channels.specs.Staging.{HasStage}
 use Rattle.sim_channels.specs.Waiting.{IsAtRest, IsQuiet, StaysBut}
 use Rattle.sim_channels.proofs.Kept.{staged_at}
@@ -59,9 +60,9 @@ pub others_closed : (stage : Stage) → (stage ≡ Live → ⊥) → is_live sta
 others_closed Live other = absurd (other refl)
 others_closed stage other = refl
 
-pub stays_then : (here : ℕ) (a b c : Driver) → IsChanged here a b → StaysBut (IsQuiet b) here b c → StaysBut (IsQuiet a) here a c
+pub stays_then : (here : ℕ) (a b c : Driver) → IsChanged here a b → StaysBut (IsQuiet b) here b c → StaysBut (WorksAlone a) here a c
 stays_then here a b c h k = record {
-  sessions = λ quiet n other. k.sessions (quiet_on a b h.same h.jobs quiet) n other ∙ h.stays.sessions quiet n other;
+  sessions = λ alone n other. k.sessions (quiet_on a b h.same h.jobs (inl alone)) n other ∙ h.stays.sessions (inl alone) n other;
   channels = λ i other. k.channels i other ∙ h.stays.channels i other;
 }
 
@@ -88,25 +89,25 @@ module _ (c : ℕ) (m : State) where
 -- ---- orders
 
 -- something else than the order was told
-pub obeyed_noted : (o : Order) (note : Note) (d e : Driver) (devices : List Meaning) → ((es : List Event) → JustNotes note es → Obeys o (bench d devices) es)
+pub obeyed_noted : RestingLaws → (o : Order) (note : Note) (d e : Driver) (devices : List Meaning) → ((es : List Event) → JustNotes note es → Obeys o (bench d devices) es)
     → Fits d devices → ToldSo note d e → IsKept e → IsAtRest e → Obeyed o (bench d devices) (bench e devices)
-obeyed_noted o note d e devices obeys fits told kept rest =
-    obeyed_then o (entries.Note note) Done (bench d devices) (bench e devices) (told devices fits) obeys e devices (carried_none (bench e devices)) kept rest
+obeyed_noted resting o note d e devices obeys fits told kept rest =
+    obeyed_then resting o (entries.Note note) Done (bench d devices) (bench e devices) (told devices fits) obeys e devices (carried_none (bench e devices)) kept rest
 
 -- its entry was asked for, and then what it brought about was done
-pub obeyed_done : (o : Order) (entry : Entry) (d m : Driver) (before : List Meaning) (e : Driver) (after : List Meaning)
+pub obeyed_done : RestingLaws → (o : Order) (entry : Entry) (d m : Driver) (before : List Meaning) (e : Driver) (after : List Meaning)
     → ((es : List Event) → JustEnters entry es → Obeys o (bench d before) es)
     → Fits d before → AsksFor entry d m → Carried (bench m before) (bench e after) → IsKept e → IsAtRest e → Obeyed o (bench d before) (bench e after)
-obeyed_done o entry d m before e after obeys fits asked carried kept rest =
+obeyed_done resting o entry d m before e after obeys fits asked carried kept rest =
     let is = asked before fits in
-    obeyed_then o entry is.0 (bench d before) (bench m before) is.1 obeys e after carried kept rest
+    obeyed_then resting o entry is.0 (bench d before) (bench m before) is.1 obeys e after carried kept rest
 
 -- or nothing else was left to do
-pub obeyed_asked : (o : Order) (entry : Entry) (d e : Driver) (devices : List Meaning)
+pub obeyed_asked : RestingLaws → (o : Order) (entry : Entry) (d e : Driver) (devices : List Meaning)
     → ((es : List Event) → JustEnters entry es → Obeys o (bench d devices) es)
     → Fits d devices → AsksFor entry d e → IsKept e → IsAtRest e → Obeyed o (bench d devices) (bench e devices)
-obeyed_asked o entry d e devices obeys fits asked kept rest =
-    obeyed_done o entry d e devices e devices obeys fits asked (carried_none (bench e devices)) kept rest
+obeyed_asked resting o entry d e devices obeys fits asked kept rest =
+    obeyed_done resting o entry d e devices e devices obeys fits asked (carried_none (bench e devices)) kept rest
 
 -- the entry by which an order of another policy is obeyed
 pub record AsksBy (text : List ℕ) (d m : Driver) : Type 0 where

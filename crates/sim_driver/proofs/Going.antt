@@ -31,7 +31,7 @@ use Rattle.sim_channels.specs.declared.driver.Driver.{Driver}
 use Rattle.sim_channels.specs.Channels.{bench}
 use Rattle.sim_driver.specs.declared.drive.SimEnd.{SimEnd}
 use Rattle.sim_driver.specs.declared.drive.SimEnd.TheVariants as ends
-use Rattle.sim_driver.specs.Passes.{Breaks, DeedLaws, EndsAt, Finished, IsFinished, IsMarked, IsReady, IsReported, IsUnreported, Passed, end_of}
+use Rattle.sim_driver.specs.Passes.{Breaks, DeedLaws, EndsAt, Finished, IsFinished, IsMarked, IsReady, IsReported, IsUnreported, Passed, end_of, is_whole}
 use Rattle.sim_driver.specs.Passes.{untaken}
 use Rattle.sim_driver.specs.Runs.{AllHadMemory, Ends, EndsOver, EndsWith, Given, GoesOnFrom, IsBrokenOff, IsFollowed, IsRunOf, IsToEnd, IsUnwritten, just}
 use Rattle.sim_driver.specs.Runs.{of_part, opened, orders, report}
@@ -114,11 +114,6 @@ went_further {g} {places} {old} {now} {driver} {devices} {line} {left} new next 
 -- ---- the ends
 
 -- it ends behind all lines
-abbrev pub is_whole : SimEnd → Bool
-is_whole ends.Done = true
-is_whole (ends.Script line kind) = true
-is_whole end = false
-
 ends_whole : (end : SimEnd) → is_whole end ≡ true → (g : Given) (after : List Meaning) (number : ℕ) (history : List Turn) (text : List ℕ)
     → IsFollowed g after history text
     → EndsWith end g after number history text

@@ -27,9 +27,9 @@ use Rattle.desk_jobs.specs.declared.crew.Crew.{Crew}
 use Rattle.sim_channels.specs.declared.driver.Driver.{Driver}
 use Rattle.sim_channels.specs.Channels.{EntersNext, Fits, IsKept, WorksAlone, bench}
 use Rattle.sim_channels.specs.Driving.{DrivingLaws}
+use Rattle.sim_channels.specs.Resting.{RestingLaws}
 use Rattle.sim_channels.specs.Waiting.{IsAtRest, IsDone}
 use Rattle.sim_channels.proofs.Others.{ahead, enters_next, others_ahead}
-use Rattle.sim_channels.proofs.Resting.{done_is_still, rest_is_calm, rest_is_still}
 use Rattle.sim_driver.specs.Passes.{Breaks, Finished, IsCaughtUp, IsFinished, IsReady, IsReported, IsStopped, IsUnreported, Passed, ReadyAfter, TakesReport, untaken}
 use Rattle.sim_driver.specs.Passes.{waiting}
 use Rattle.sim_driver.proofs.Parting.{Stands, carried_part, nothing_part, part_longer}
@@ -44,11 +44,11 @@ pub carried_obeyed : (a b : Bench) → Carried a b → Stands b → Obeyed Nothi
 carried_obeyed a b k stands = record { events = k.events; part = carried_part a b k stands; none = k.text_is }
 
 -- a driver at rest
-pub rest_stands : (d : Driver) (ds : List Meaning) → IsKept d → IsAtRest d → Stands (bench d ds)
-rest_stands d ds kept rest = (rest_is_calm d ds kept rest, rest_is_still d ds kept rest)
+pub rest_stands : RestingLaws → (d : Driver) (ds : List Meaning) → IsKept d → IsAtRest d → Stands (bench d ds)
+rest_stands resting d ds kept rest = (resting.calm d ds kept rest, λ solo. resting.still d ds kept rest (inl solo))
 
-module _ (laws : DrivingLaws) (o : Order) (a : Bench) (d next : Driver) (taken : TakesReport d next) (ds : List Meaning) (fits : Fits d ds) (rest : IsAtRest d)
-    (h : Obeyed o a (bench d ds)) where
+module _ (laws : DrivingLaws) (resting : RestingLaws) (o : Order) (a : Bench) (d next : Driver) (taken : TakesReport d next) (ds : List Meaning)
+    (fits : Fits d ds) (rest : IsAtRest d) (h : Obeyed o a (bench d ds)) where
   -- with the report taken
   takes_it : Stretch [] (waiting taken.ahead) (bench d ds) (bench next ds)
   takes_it = taking laws d next taken ds fits
@@ -62,7 +62,7 @@ module _ (laws : DrivingLaws) (o : Order) (a : Bench) (d next : Driver) (taken :
   part : IsPart o a events (bench next ds)
   part =
       part_longer o a h.events (bench d ds) (waiting taken.ahead) (bench next ds) h.part takes_it
-      (rest_stands next ds fits_then.kept (taken_rests laws d next taken ds fits rest))
+      (rest_stands resting next ds fits_then.kept (taken_rests laws d next taken ds fits resting rest))
 
   text : taken_report events ≡ waiting taken.ahead
   text = report_then h.events takes_it.events ∙ ap (λ (bs : List ℕ). bs ++ taken_report takes_it.events) h.none ∙ takes_it.text_is
@@ -84,7 +84,7 @@ module _ (laws : DrivingLaws) (o : Order) (a : Bench) (d next : Driver) (taken :
 -- ---- as the report is written at the desk
 
 -- what was taken there is what waited
-module _ (laws : DrivingLaws) (d next : Driver) (ds : List Meaning) (same : next ≡ record d { desk = next.desk }) (fits : Fits d ds) (rest : IsAtRest d) where
+module _ (laws : DrivingLaws) (resting : RestingLaws) (d next : Driver) (ds : List Meaning) (same : next ≡ record d { desk = next.desk }) (fits : Fits d ds) (rest : IsAtRest d) where
   text_is : (m : State) (bytes : List ℕ) → Steps m TakeReport (Lines bytes) next.desk.now → bytes ≡ untaken m
   text_is m bytes (inl (told, is)) = let t = told in cc
   text_is m bytes (inr lacks) = let other = lacks.0 in absurd (cc)
@@ -109,7 +109,7 @@ module _ (laws : DrivingLaws) (d next : Driver) (ds : List Meaning) (same : next
       let (taken, is) = takes w.text w.enters in
       record {
         fits = taken_fits laws d next taken ds fits;
-        rest = taken_rests laws d next taken ds fits rest;
+        rest = taken_rests laws d next taken ds fits resting rest;
         none_waits = taken_lines laws d next taken;
       }
   ready_by (Err stop) old new w = tt
@@ -118,12 +118,12 @@ module _ (laws : DrivingLaws) (d next : Driver) (ds : List Meaning) (same : next
     in_part : ReportsInPart d.desk next.desk old new → IsUnreported o a (bench next ds) ds old new
     in_part w =
         let (taken, is) = takes w.text w.enters in
-        unreported laws o a d next taken ds fits rest h old new (w.front, subst (IsFront w.front) is w.is_front, w.wrote)
+        unreported laws resting o a d next taken ds fits rest h old new (w.front, subst (IsFront w.front) is w.is_front, w.wrote)
 
     whole : Reports d.desk next.desk old new → IsReported o a (bench next ds) old new
     whole w =
         let (taken, is) = takes w.text w.enters in
-        reported laws o a d next taken ds fits rest h old new (subst (Wrote old new) is w.wrote)
+        reported laws resting o a d next taken ds fits rest h old new (subst (Wrote old new) is w.wrote)
 
     breaks_by : (stop : ReportStop) → EndsReport stop d.desk next.desk old new → Breaks stop o a next ds old new
     breaks_by Failed (w, failed) = in_part w
@@ -137,10 +137,10 @@ module _ (laws : DrivingLaws) (d next : Driver) (ds : List Meaning) (same : next
   follows_by (Err stop) step bytes was before old new h w = breaks_by (order_with step bytes) (bench was before) old new h stop w
 
 -- whatever the devices are
-pub ready_after : (laws : DrivingLaws) (d next : Driver) (r : Result (Unit {0}) ReportStop) (old new : SinkView) → next ≡ record d { desk = next.desk }
+pub ready_after : DrivingLaws → RestingLaws → (d next : Driver) (r : Result (Unit {0}) ReportStop) (old new : SinkView) → next ≡ record d { desk = next.desk }
     → ReportsBy r d.desk next.desk old new → OnOk r (ReadyAfter d next)
-ready_after laws d next (Ok u) old new same w = λ ds fits rest. ready_by laws d next ds same fits rest (Ok u) old new w
-ready_after laws d next (Err stop) old new same w = tt
+ready_after laws resting d next (Ok u) old new same w = λ ds fits rest. ready_by laws resting d next ds same fits rest (Ok u) old new w
+ready_after laws resting d next (Err stop) old new same w = tt
 
 -- an order wasn't followed, and nothing written
 breaks_short : (stop : ReportStop) (o : Order) (a : Bench) (d : Driver) (ds : List Meaning) (to : SinkView) → IsStopped stop d → Breaks stop o a d ds to to
@@ -164,13 +164,13 @@ beside_by None told e is = absurd (cc)
 beside_by (Some crew) told e is = refl
 
 -- who works alone has nothing left to do
-pub finished_alone : (d : Driver) (ds : List Meaning) (to : SinkView) → IsReady d ds → WorksAlone d → IsFinished (bench d ds) d ds to to
-finished_alone d ds to ready alone =
+pub finished_alone : RestingLaws → (d : Driver) (ds : List Meaning) (to : SinkView) → IsReady d ds → WorksAlone d → IsFinished (bench d ds) d ds to to
+finished_alone resting d ds to ready alone =
     let kept = ready.fits.kept in
     record {
       ready = ready;
-      reported = record { events = []; part = nothing_part (bench d ds) (rest_stands d ds kept ready.rest); wrote = wrote_nothing to };
-      still = done_is_still d ds kept ready.rest (ready.rest.done alone);
+      reported = record { events = []; part = nothing_part (bench d ds) (rest_stands resting d ds kept ready.rest); wrote = wrote_nothing to };
+      still = resting.still d ds kept ready.rest (inr (ready.rest.done alone));
     }
 
 -- who has a crew has workers
@@ -184,28 +184,28 @@ finished_short was before d ds to stop ready some stopped =
     (not_solo was ready.fits.kept some, breaks_short stop Nothing (bench was before) d ds to stopped)
 
 -- who caught up
-pub finished_by : (laws : DrivingLaws) (was : Driver) (before : List Meaning) (d next : Driver) (ds : List Meaning) (r : Result (Unit {0}) ReportStop)
+pub finished_by : DrivingLaws → RestingLaws → (was : Driver) (before : List Meaning) (d next : Driver) (ds : List Meaning) (r : Result (Unit {0}) ReportStop)
     (old new : SinkView) → IsReady was before → is_some was.crew ≡ true → IsCaughtUp was before d ds
     → next ≡ record d { desk = next.desk } → ReportsBy r d.desk next.desk old new → Finished r was before next ds old new
-finished_by laws was before d next ds r old new ready some caught same reports = by r reports
+finished_by laws resting was before d next ds r old new ready some caught same reports = by r reports
   where
     a : Bench
     a = bench was before
 
     h : Obeyed Nothing a (bench d ds)
-    h = carried_obeyed a (bench d ds) caught.carried (rest_stands d ds caught.fits.kept caught.rest)
+    h = carried_obeyed a (bench d ds) caught.carried (rest_stands resting d ds caught.fits.kept caught.rest)
 
     by : (r : Result (Unit {0}) ReportStop) → ReportsBy r d.desk next.desk old new → Finished r was before next ds old new
     by (Ok u) w =
-        let (taken, text) = takes laws d next ds same caught.fits caught.rest w.text w.enters in
-        let now_ready = ready_after laws d next (Ok u) old new same w ds caught.fits caught.rest in
+        let (taken, text) = takes laws resting d next ds same caught.fits caught.rest w.text w.enters in
+        let now_ready = ready_after laws resting d next (Ok u) old new same w ds caught.fits caught.rest in
         record {
           ready = now_ready;
-          reported = whole laws d next ds same caught.fits caught.rest Nothing a old new h w;
-          still = done_is_still next ds now_ready.fits.kept now_ready.rest (taken_done laws d next taken ds caught.fits caught.done);
+          reported = whole laws resting d next ds same caught.fits caught.rest Nothing a old new h w;
+          still = resting.still next ds now_ready.fits.kept now_ready.rest (inr (taken_done laws d next taken ds caught.fits resting caught.done));
         }
     by (Err stop) w =
-        (not_solo was ready.fits.kept some, breaks_by laws d next ds same caught.fits caught.rest Nothing a old new h stop w)
+        (not_solo was ready.fits.kept some, breaks_by laws resting d next ds same caught.fits caught.rest Nothing a old new h stop w)
 
 -- ---- the mark
 

@@ -1,5 +1,5 @@
 -- A session is opened or ends, and no other place changes.
-use Rattle.std.proofs.Common.{◌≡◌, ℕ, ◌+◌, Bool, true, false, List, refl, sym, ap, ◌∙◌}
+use Rattle.std.proofs.Common.{◌≡◌, ℕ, ◌+◌, Bool, true, false, List, refl, sym, ap, ◌∙◌, inl}
 use Rattle.std.specs.Prelude.{Option, Some, is_some}
 use Rattle.std.specs.List.{slice_get}
 use Rattle.device_port.specs.Devices.{Meaning}
@@ -19,13 +19,14 @@ use Rattle.sim_channels.specs.declared.channel.Channel.{Channel}
 use Rattle.sim_channels.specs.declared.driver.Driver.{Driver}
 use Rattle.sim_channels.specs.Channels.{Fits, IsKept, IsSame, OthersDid, bench, slots_of, with_stage}
 use Rattle.sim_channels.specs.Driving.{DrivingLaws}
+use Rattle.sim_channels.specs.Resting.{DoesAt, RestingLaws}
 use Rattle.sim_channels.specs.Staging.{ClosesAt, EntersAndStages, HasStage, OpensAt}
-use Rattle.sim_channels.specs.Waiting.{IsAtRest, IsDone}
+use Rattle.sim_channels.specs.Waiting.{IsAtRest, IsDone, IsLeft}
 use Rattle.sim_channels.proofs.Keeping.{elsewhere, session_same}
-use Rattle.sim_channels.proofs.Kept.{ChannelAt, all_left, is_as_long, is_beside, now_there, plugged_at, waits_as}
+use Rattle.sim_channels.proofs.Kept.{ChannelAt, is_as_long, is_beside, now_there, plugged_at, waits_as}
 use Rattle.sim_channels.proofs.Making.{may_make}
-use Rattle.sim_channels.proofs.Others.{ahead, alone_back, kept_ahead, others_ahead, others_quiet, tends_none, tends_of}
-use Rattle.sim_channels.proofs.Places.{rest_but, staged_slots, there_too}
+use Rattle.sim_channels.proofs.Others.{ahead, kept_ahead, others_ahead, others_quiet, tends_none, tends_of}
+use Rattle.sim_channels.proofs.Places.{staged_slots, there_too}
 use Rattle.sim_channels.proofs.Slots.{slot_next, slots_get}
 use Rattle.sim_driver.specs.Commands.{AsksFor, IsChanged}
 use Rattle.sim_driver.proofs.Asking.{asks_for}
@@ -46,7 +47,7 @@ may_close : (d : Driver) (at : ℕ) (fault : Bool) → HasStage at Live d → (d
 may_close d at fault live devices fits = plugged_at d at live.channel fits.kept live.there live.is
 
 -- the machine was given an entry, and then a channel has another stage
-module _ (laws : DrivingLaws) (d e : Driver) (at : ℕ) (kept : IsKept d) (also : IsKept e) (same : IsSame d e) (entry : Entry) (reply : Reply) (stage : Stage)
+module _ (laws : DrivingLaws) (resting : RestingLaws) (d e : Driver) (at : ℕ) (kept : IsKept d) (also : IsKept e) (same : IsSame d e) (entry : Entry) (reply : Reply) (stage : Stage)
     (h : EntersAndStages at entry reply stage d e) where
   -- the driver behind what others did
   abbrev M : Driver
@@ -80,39 +81,46 @@ module _ (laws : DrivingLaws) (d e : Driver) (at : ℕ) (kept : IsKept d) (also 
         same = same;
       }
 
-  left : stage ≡ Over → (k : Channel) → slice_get e.channels.items at ≡ Some k → k.inbound.stage ≡ Over
+  left : stage ≡ Over → IsLeft at e
   left is = now_there at h.channel (with_stage stage h.channel) M e at_channel (λ x. x.inbound.stage ≡ Over) is
 
   -- whatever the devices are, the entry alone was asked for
   asked_staged : IsAtRest d → asks entry ≡ true → (tells_settling (Enters entry reply) ≡ true → IsDone d)
       → ((devices : List Meaning) → Fits d devices → MayEnter entry (bench d devices)) → AsksFor entry d e
   asked_staged rest asked settled may =
-      asks_for laws d entry reply e.desk kept h.enters e (staged_slots at entry reply stage d e h) rest asked settled h.memory may
+      asks_for laws resting d entry reply e.desk kept h.enters e (staged_slots at entry reply stage d e h) rest asked settled h.memory may
 
-module _ (laws : DrivingLaws) (d e : Driver) (at : ℕ) (kept : IsKept d) (also : IsKept e) (same : IsSame d e) where
+module _ (laws : DrivingLaws) (resting : RestingLaws) (d e : Driver) (at : ℕ) (kept : IsKept d) (also : IsKept e) (same : IsSame d e) where
   module _ (h : OpensAt at d e) where
     abbrev stage_now : Stage
     stage_now = stage_opened (is_end h.0)
 
     pub opened : IsChanged at d e
-    opened = changed laws d e at kept also same (entries.Open (at + 1)) h.0 stage_now h.1 refl refl (elsewhere at)
+    opened = changed laws resting d e at kept also same (entries.Open (at + 1)) h.0 stage_now h.1 refl refl (elsewhere at)
 
     pub asked_opened : HasStage at Unopened d → IsAtRest d → AsksFor (entries.Open (at + 1)) d e
     asked_opened un rest =
-        asked_staged laws d e at kept also same (entries.Open (at + 1)) h.0 stage_now h.1 rest refl (λ is. absurd (cc)) (may_open d at un)
+        asked_staged laws resting d e at kept also same (entries.Open (at + 1)) h.0 stage_now h.1 rest refl (λ is. absurd (cc)) (may_open d at un)
 
   module _ (fault : Bool) (h : ClosesAt at fault d e) where
     pub closed : IsChanged at d e
-    closed = changed laws d e at kept also same (entries.Gone (at + 1) fault) h.0 Over h.1 refl refl (elsewhere at)
+    closed = changed laws resting d e at kept also same (entries.Gone (at + 1) fault) h.0 Over h.1 refl refl (elsewhere at)
 
     pub asked_closed : asks (entries.Gone (at + 1) fault) ≡ true → HasStage at Live d → IsAtRest d → AsksFor (entries.Gone (at + 1) fault) d e
     asked_closed can live rest =
-        asked_staged laws d e at kept also same (entries.Gone (at + 1) fault) h.0 Over h.1 rest can (λ is. absurd (cc)) (may_close d at fault live)
+        asked_staged laws resting d e at kept also same (entries.Gone (at + 1) fault) h.0 Over h.1 rest can (λ is. absurd (cc)) (may_close d at fault live)
 
     -- the device is left
     pub rest_left : IsAtRest d → IsAtRest e
     rest_left rest =
         let change = closed in
-        let is_left = left laws d e at kept also same (entries.Gone (at + 1) fault) h.0 Over h.1 refl in
-        rest_but laws d e at kept also same rest change.stays (λ alone. change.jobs (rest.done (alone_back d e same alone)).jobs)
-        (λ alone. all_left _ at e is_left) (all_left _ at e is_left) (all_left _ at e is_left)
+        let none = resting.left at e (left laws resting d e at kept also same (entries.Gone (at + 1) fault) h.0 Over h.1 refl) in
+        let does : DoesAt at d e = record {
+          kept = also;
+          same = same;
+          others = record { sessions = λ alone. change.stays.sessions (inl alone); channels = change.stays.channels };
+          jobs = λ alone. change.jobs (rest.done alone).jobs;
+          taken = λ alone. none.taken;
+          offered = none.offered;
+        } in
+        resting.all at e (resting.beside at d e kept (resting.but at d rest) does) none.heard

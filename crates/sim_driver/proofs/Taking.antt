@@ -15,9 +15,10 @@ use Rattle.sim_channels.specs.declared.channel.Channel.{Channel}
 use Rattle.sim_channels.specs.declared.driver.Driver.{Driver}
 use Rattle.sim_channels.specs.Channels.{Fits, bench, slots_of}
 use Rattle.sim_channels.specs.Driving.{DrivingLaws}
+use Rattle.sim_channels.specs.Resting.{RestingLaws}
 use Rattle.sim_channels.specs.Waiting.{IsAtRest, IsDone}
 use Rattle.sim_channels.proofs.Keeping.{reached_on}
-use Rattle.sim_channels.proofs.Others.{crew_on, others_carried, others_rest, same_desk, tends_done, tends_fits, tends_of}
+use Rattle.sim_channels.proofs.Others.{crew_on, others_carried, same_desk, tends_fits, tends_of}
 use Rattle.sim_driver.specs.Passes.{TakesReport, waiting}
 use Rattle.sim_driver.specs.Runs.{devices_of}
 
@@ -85,12 +86,12 @@ module _ (laws : DrivingLaws) (d next : Driver) (h : TakesReport d next) where
         fits_on h.ahead next.desk ds (h.footing ∙ sym h.others.footing)
         (tends_fits laws d h.ahead fits.kept (tends_of d h.ahead h.others) ds fits))
 
-    pub taken_rests : IsAtRest d → IsAtRest next
-    taken_rests rest = subst IsAtRest (sym next_is) (rests_on h.ahead next.desk (others_rest laws d h.ahead fits.kept h.others rest))
+    pub taken_rests : RestingLaws → IsAtRest d → IsAtRest next
+    taken_rests resting rest = subst IsAtRest (sym next_is) (rests_on h.ahead next.desk (resting.others d h.ahead fits.kept h.others rest))
 
     -- where all is done others change nothing
-    pub taken_done : IsDone d → IsDone next
-    taken_done done = subst IsDone (sym next_is) (done_on h.ahead next.desk (tends_done laws d h.ahead fits.kept (tends_of d h.ahead h.others) done))
+    pub taken_done : RestingLaws → IsDone d → IsDone next
+    taken_done resting done = subst IsDone (sym next_is) (done_on h.ahead next.desk (resting.done d h.ahead fits.kept h.others done))
 
     pub taking : Stretch [] (waiting h.ahead) (bench d ds) (bench next ds)
     taking =

@@ -21,12 +21,13 @@ use Rattle.sim_steps.specs.Parts.{asks, tells_settling}
 use Rattle.sim_channels.specs.declared.driver.Driver.{Driver}
 use Rattle.sim_channels.specs.Channels.{IsKept, WorksAlone, bench}
 use Rattle.sim_channels.specs.Driving.{DrivingLaws}
+use Rattle.sim_channels.specs.Resting.{RestingLaws}
 use Rattle.sim_channels.specs.Waiting.{IsAtRest, IsDone, IsHeardThrough}
 use Rattle.sim_channels.proofs.Making.{had_memory}
 use Rattle.sim_channels.proofs.Keeping.{bears_on}
 use Rattle.sim_channels.proofs.Kept.{kept_entry}
-use Rattle.sim_channels.proofs.Others.{ahead, alone_back, kept_ahead, others_ahead, others_rest, same_desk}
-use Rattle.sim_channels.proofs.Places.{fits_same, taken_still, while_still}
+use Rattle.sim_channels.proofs.Others.{ahead, alone_back, kept_ahead, others_ahead, same_desk}
+use Rattle.sim_channels.proofs.Places.{fits_same}
 use Rattle.sim_turns.specs.Turning.{FitsStill}
 use Rattle.sim_driver.specs.Commands.{AsksFor, AsksToRenew}
 use Rattle.sim_driver.proofs.Asking.{asks_for}
@@ -72,7 +73,7 @@ pub record Stands (went : Bool) (Said : Type 0) (d e : Driver) : Type 0 where
 stands_so : (went : Bool) (F G : Type 0) (d e : Driver) → (F → G) → Stands went F d e → Stands went G d e
 stands_so went F G d e so h = record { fits = h.fits; through = h.through; rest = h.rest; asked = so h.asked }
 
-module _ (laws : DrivingLaws) (d e : Driver) (kept : IsKept d) (rest : IsAtRest d) (same : e ≡ record d { desk = e.desk })
+module _ (laws : DrivingLaws) (resting : RestingLaws) (d e : Driver) (kept : IsKept d) (rest : IsAtRest d) (same : e ≡ record d { desk = e.desk })
     (footing : e.desk.footing ≡ d.desk.footing) where
   at_index : (at : ℕ) → slice_get e.channels.items at ≡ slice_get d.channels.items at
   at_index at = ap (λ (x : Driver). slice_get x.channels.items at) same
@@ -89,7 +90,7 @@ module _ (laws : DrivingLaws) (d e : Driver) (kept : IsKept d) (rest : IsAtRest 
     kept_m = kept_ahead laws d entry reply e.desk kept made.enters
 
     rest_m : IsAtRest m
-    rest_m = others_rest laws d m kept (others_ahead d entry reply e.desk kept made.enters) rest
+    rest_m = resting.others d m kept (others_ahead d entry reply e.desk kept made.enters) rest
 
     abbrev steps : Steps m.desk.now entry reply e.desk.now
     steps = made.enters.made.steps
@@ -101,8 +102,8 @@ module _ (laws : DrivingLaws) (d e : Driver) (kept : IsKept d) (rest : IsAtRest 
       heard_through : IsHeardThrough e
       heard_through = record {
         jobs = λ alone. laws.none m.desk.now entry reply e.desk.now (done_m alone).jobs other steps;
-        offered = λ at. while_still _ at d e (at_index at) (rest.offered at);
-        heard = λ at. while_still _ at d e (at_index at) (rest.heard at);
+        offered = λ at. resting.offered at d e (at_index at) (rest.offered at);
+        heard = λ at. resting.heard at d e (at_index at) (rest.heard at);
       }
 
       stands : (went : Bool) → IsKept e → ((b : Bench) → MayEnter entry b) → (went ≡ false → Stay m.desk.now e.desk.now) → Stands went (AsksFor entry d e) d e
@@ -112,13 +113,13 @@ module _ (laws : DrivingLaws) (d e : Driver) (kept : IsKept d) (rest : IsAtRest 
         rest = λ vain. record {
           done = λ alone. record {
             jobs = heard_through.jobs alone;
-            taken = λ at. taken_still laws m e at kept_m also (stay vain (at + 1)) (at_index at) ((done_m alone).taken at);
+            taken = λ at. resting.taken at m e kept_m also (stay vain (at + 1)) ((done_m alone).taken at);
           };
           offered = heard_through.offered;
           heard = heard_through.heard;
         };
         asked =
-            asks_for laws d entry reply e.desk kept made.enters e (λ devices. ap (λ (x : Driver). bench x devices) same) rest asked settled
+            asks_for laws resting d entry reply e.desk kept made.enters e (λ devices. ap (λ (x : Driver). bench x devices) same) rest asked settled
             (had_memory reply made.memory)
             (λ devices fits. may (bench d devices));
       }

@@ -1,5 +1,5 @@
 // A frame comes to a device.
-ghost use Rattle.std.specs.Prelude.{◌≡◌, ◌+◌, ◌<◌, ◌≤◌, map, length, OnOk};
+ghost use Rattle.std.specs.Prelude.{◌≡◌, ◌+◌, ◌<◌, ◌≤◌, false, map, length, Ok, OnOk};
 ghost use Rattle.machine_desk.specs.declared.inbound.Stage.TheVariants.{Live};
 ghost use Rattle.script_text.specs.Orders.{Order};
 ghost use Rattle.script_text.specs.Steps.{IsAmong};
@@ -15,7 +15,7 @@ use device_port::Device;
 use machine_desk::Stage;
 use maple_base::Bytes;
 use packet_workers::Gate;
-use sim_channels::{Driver, Stopped, driving_laws};
+use sim_channels::{Answer, Driver, Stopped, driving_laws, resting_laws};
 use sim_turns::attend::attend;
 use sim_turns::note;
 use std::sync::Wait;
@@ -44,17 +44,21 @@ pub(crate) fn arrive<R: Wait, G: Gate, D: Device>(
     ensures obeyed { OnOk result (ObeyedBy (Order.Arrival place port frame) driver.old (map D.meaning devices.old) driver.new (map D.meaning devices.new)) }
     ensures same { IsSame driver.old driver.new }
 {
+    resting_laws();
     let at = index_of(place);
     match driver.stage(at) {
         Stage::Live => {
-            look(rt, driver, devices, at, port, frame)?;
-            attend(rt, gate, driver, devices, at)
+            if look(rt, driver, devices, at, port, frame)? {
+                attend(rt, gate, driver, devices, at)
+            } else {
+                Ok(())
+            }
         }
         _ => note(rt, driver, Note::Absent(place)),
     }
 }
 
-// A frame comes to the device with this index. Where it fails it is left.
+// A frame comes to the device with this index. Where it fails it is left. Tells whether it appended something to be heard.
 fn look<R: Wait, D: Device>(
     rt: &R,
     driver: &mut Driver<'_>,
@@ -62,7 +66,7 @@ fn look<R: Wait, D: Device>(
     at: usize,
     port: u16,
     frame: Bytes,
-) -> Result<(), Stopped>
+) -> Result<bool, Stopped>
     requires fits { Fits driver.old (map D.meaning devices.old) }
     requires rest { IsAtRest driver.old }
     requires live { HasStage at Live driver.old }
@@ -70,12 +74,18 @@ fn look<R: Wait, D: Device>(
     requires short { length frame ≤ most_bytes }
     ensures fits { OnOk result (Fits driver.new (map D.meaning devices.new)) }
     ensures rest { OnOk result (IsAtRestBut at driver.new) }
+    ensures silent { result ≡ Ok false → IsAtRest driver.new }
     ensures looked { OnOk result (Looked (at + 1) port frame (bench driver.old (map D.meaning devices.old)) (bench driver.new (map D.meaning devices.new))) }
     ensures same { IsSame driver.old driver.new }
 {
     driving_laws();
-    if driver.call(rt, devices, at, port, frame)? {
-        driver.leave(rt, at)?;
+    resting_laws();
+    match driver.call(rt, devices, at, port, frame)? {
+        Answer::Failed => {
+            driver.leave(rt, at)?;
+            Ok(false)
+        }
+        Answer::Spoke => Ok(true),
+        Answer::Silent => Ok(false),
     }
-    Ok(())
 }

@@ -10,7 +10,7 @@ ghost use Rattle.sim_driver.specs.Commands.{AsksFor, AsksToRenew, ObeyedBy, Obey
 
 use device_port::Device;
 use env_cells::Update;
-use sim_channels::{Driver, Stopped, driving_laws};
+use sim_channels::{Driver, Stopped, driving_laws, resting_laws};
 use std::sync::Wait;
 
 /// What is known of the network changes, and what the machine has for devices then is given to them.
@@ -32,6 +32,7 @@ pub(crate) fn change<R: Wait, D: Device>(
     ensures obeyed { OnOk result (ObeyedBy (Order.Change update) driver.old (map D.meaning devices.old) driver.new (map D.meaning devices.new)) }
     ensures same { IsSame driver.old driver.new }
 {
+    resting_laws();
     if update_network(rt, driver, update)? {
         driver.deliver_all(rt, devices)
     } else {
@@ -51,6 +52,7 @@ fn update_network<R: Wait>(rt: &R, driver: &mut Driver<'_>, update: Update) -> R
     ensures same { IsSame driver.old driver.new }
 {
     driving_laws();
+    resting_laws();
     Ok(driver.change(rt, update)?)
 }
 
@@ -73,6 +75,7 @@ pub(crate) fn renew<R: Wait, D: Device>(
     ensures obeyed { OnOk result (ObeyedBy (Order.NewPolicy text.now) driver.old (map D.meaning devices.old) driver.new (map D.meaning devices.new)) }
     ensures same { IsSame driver.old driver.new }
 {
+    resting_laws();
     if renew_policy(rt, driver, text)? {
         driver.deliver_all(rt, devices)
     } else {
@@ -91,6 +94,7 @@ fn renew_policy<R: Wait>(rt: &R, driver: &mut Driver<'_>, text: &[u8]) -> Result
     ensures same { IsSame driver.old driver.new }
 {
     driving_laws();
+    resting_laws();
     Ok(driver.renew(rt, text)?)
 }
 
@@ -112,5 +116,6 @@ pub(crate) fn list_rules<R: Wait>(
     ensures same { IsSame driver.old driver.new }
 {
     driving_laws();
+    resting_laws();
     Ok(driver.list_rules(rt, switch)?)
 }

@@ -11,7 +11,7 @@ use device_port::Device;
 use machine_desk::ReportStop;
 use maple_io::Sink;
 use packet_workers::Gate;
-use sim_channels::{Driver, driving_laws};
+use sim_channels::{Driver, driving_laws, resting_laws};
 use std::sync::Wait;
 
 /// Behind all lines: beside workers waits until no packet waits, delivers, and writes the lines that the report gained. The
@@ -30,6 +30,7 @@ pub(crate) fn finish<R: Wait, G: Gate, D: Device, O: Sink>(
     ensures cause { result ≡ Err stops.Failed → WriteFailed (O.tells to.old) (O.tells to.new) }
     ensures spared { result ≢ Err stops.Failed → NoWriteFailed (O.tells to.old) (O.tells to.new) }
 {
+    resting_laws();
     driver.mark();
     if driver.works_alone() {
         return Ok(());
@@ -54,6 +55,7 @@ fn finish_beside<R: Wait, G: Gate, D: Device, O: Sink>(
     ensures spared { result ≢ Err stops.Failed → NoWriteFailed (O.tells to.old) (O.tells to.new) }
 {
     driving_laws();
+    resting_laws();
     catch_up(rt, gate, driver, all)?;
     report(rt, driver, to)
 }

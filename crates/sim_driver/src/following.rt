@@ -14,7 +14,7 @@ use machine_desk::ReportStop;
 use maple_io::Sink;
 use packet_workers::Gate;
 use script_text::Step;
-use sim_channels::{Driver, driving_laws};
+use sim_channels::{Driver, driving_laws, resting_laws};
 use std::sync::Wait;
 
 // Does what a step of a script asks for, over all devices, and writes the lines that the report gains. The turns so far are
@@ -39,6 +39,7 @@ pub(crate) fn follow<R: Wait, G: Gate, D: Device, O: Sink>(
     ensures spared { result ≢ Err stops.Failed → NoWriteFailed (O.tells to.old) (O.tells to.new) }
 {
     driving_laws();
+    resting_laws();
     driver.mark();
     let Ok(()) = obey(rt, gate, driver, all, step, text) else {
         return Err(stopped(driver));
@@ -62,6 +63,7 @@ pub(crate) fn report<R: Wait, O: Sink>(
     ensures spared { result ≢ Err stops.Failed → NoWriteFailed (O.tells to.old) (O.tells to.new) }
 {
     driving_laws();
+    resting_laws();
     driver.write_report(rt, to)
 }
 

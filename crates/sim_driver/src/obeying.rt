@@ -11,7 +11,7 @@ use crate::plugging::{plug, unplug};
 use device_port::Device;
 use packet_workers::Gate;
 use script_text::Step;
-use sim_channels::{Driver, Stopped};
+use sim_channels::{Driver, Stopped, resting_laws};
 use sim_turns::{settle, turn};
 use std::sync::Wait;
 
@@ -37,6 +37,7 @@ pub(crate) fn obey<R: Wait, G: Gate, D: Device>(
     ensures obeyed { OnOk result (ObeyedBy (order_with step text.now) driver.old (map D.meaning devices.old) driver.new (map D.meaning devices.new)) }
     ensures same { IsSame driver.old driver.new }
 {
+    resting_laws();
     match step {
         Step::Nothing => Ok(()),
         Step::Plug(place) => plug(rt, driver, devices, place),

@@ -14,7 +14,7 @@ use crate::places::index_of;
 use core_machine::Note;
 use device_port::Device;
 use machine_desk::Stage;
-use sim_channels::{Driver, Stopped, driving_laws};
+use sim_channels::{Driver, Stopped, driving_laws, resting_laws};
 use sim_turns::note;
 use std::sync::Wait;
 
@@ -38,7 +38,7 @@ pub(crate) fn plug<R: Wait, D: Device>(
     ensures obeyed { OnOk result (ObeyedBy (Order.Plug place) driver.old (map D.meaning devices.old) driver.new (map D.meaning devices.new)) }
     ensures same { IsSame driver.old driver.new }
 {
-    driving_laws();
+    resting_laws();
     let at = index_of(place);
     match driver.stage(at) {
         Stage::Live => note(rt, driver, Note::Present(place)),
@@ -64,6 +64,7 @@ pub(crate) fn unplug<R: Wait>(rt: &R, driver: &mut Driver<'_>, place: u32) -> Re
     ensures obeyed { OnOk result (ObeyedOver (Order.Unplug place) driver.old driver.new) }
     ensures same { IsSame driver.old driver.new }
 {
+    resting_laws();
     let at = index_of(place);
     match driver.stage(at) {
         Stage::Live => close(rt, driver, at),
@@ -83,6 +84,7 @@ fn open<R: Wait>(rt: &R, driver: &mut Driver<'_>, at: usize) -> Result<(), Stopp
     ensures same { IsSame driver.old driver.new }
 {
     driving_laws();
+    resting_laws();
     Ok(driver.open(rt, at)?)
 }
 
@@ -97,5 +99,6 @@ fn close<R: Wait>(rt: &R, driver: &mut Driver<'_>, at: usize) -> Result<(), Stop
     ensures same { IsSame driver.old driver.new }
 {
     driving_laws();
+    resting_laws();
     Ok(driver.close(rt, at, false)?)
 }

@@ -1,10 +1,8 @@
 -- A turn of a device is an event, whatever the machine replies to its note.
-use Rattle.std.proofs.Common.{◌≡◌, ◌≢◌, ℕ, ◌+◌, false, List, [], ◌++◌, append-nil, length, set, refl, sym, ap, ◌∙◌, subst, arith}
-use Rattle.std.specs.Prelude.{Option, Some, None}
+use Rattle.std.proofs.Common.{◌≡◌, ◌≢◌, ℕ, ◌+◌, false, List, [], ◌++◌, length, set, refl, sym, ap, ◌∙◌, subst, arith}
 use Rattle.maple_base.specs.declared.device.Turned.{Turned}
 use Rattle.maple_base.specs.declared.device.Turned.TheVariants.{Nothing, Processed, Refused as RefusedChange, Failed as FailedTurn, NoMemory as NoMemoryTurn}
-use Rattle.of10_codec.specs.declared.fault.Bad.{Bad}
-use Rattle.of10_stream.specs.Steps.{Stream, appended, fed}
+use Rattle.of10_stream.specs.Steps.{fed}
 use Rattle.device_port.specs.Devices.{Meaning, Turns}
 use Rattle.device_port.specs.Devices.Call.{Turning}
 use Rattle.machine_desk.specs.Desks.{DeskView}
@@ -72,14 +70,6 @@ dealt_one (RefusedChange xid) taken other = refl
 dealt_one FailedTurn taken other = absurd (other refl)
 dealt_one Nothing taken other = absurd taken
 dealt_one NoMemoryTurn taken other = absurd taken
-
--- nothing was appended by a turn that failed
-pub fed_nothing : (s : Stream) → fed [] s ≡ s
-fed_nothing s = go s.broken
-  where
-    go : (o : Option (ℕ × Bad)) → appended o [] s ≡ s
-    go None = λ i. record s { rest = append-nil s.rest i }
-    go (Some fault) = refl
 
 -- ---- the call
 

@@ -1,5 +1,5 @@
 -- A turn in which a message was dealt with, behind its note and with what was appended.
-use Rattle.std.proofs.Common.{◌≡◌, ℕ, ◌+◌, false, List, [], ◌∷◌, length, refl, sym, ap, ◌∙◌, subst, arith, ⊎_elim}
+use Rattle.std.proofs.Common.{◌≡◌, ℕ, ◌+◌, List, [], ◌∷◌, length, refl, sym, ap, ◌∙◌, subst, inl, arith, ⊎_elim}
 use Rattle.std.specs.Prelude.{Some}
 use Rattle.std.specs.List.{slice_get}
 use Rattle.std.proofs.lemmas.Bool.{cases_eq}
@@ -20,20 +20,19 @@ use Rattle.sim_steps.proofs.Moments.{called, stretch_call}
 use Rattle.machine_desk.specs.Hearing.{is_live}
 use Rattle.sim_channels.specs.Channels.{EntersNext, Fits, IsKept, IsSame, bench, slots_of}
 use Rattle.sim_channels.specs.Driving.{DrivingLaws}
-use Rattle.sim_channels.specs.Waiting.{IsAtRest, IsAtRestBut, IsDone, IsOffered, IsQuiet, IsTaken as IsTakenOut, StaysBut}
+use Rattle.sim_channels.specs.Resting.{RestingLaws}
+use Rattle.sim_channels.specs.Waiting.{IsAtRest, IsAtRestBut, IsOffered}
 use Rattle.sim_channels.specs.declared.channel.Channel.{Channel}
 use Rattle.sim_channels.specs.declared.driver.Driver.{Driver}
 use Rattle.sim_channels.specs.Turns.{Appends, ChannelMoves, Waits}
-use Rattle.sim_channels.proofs.Keeping.{messages_same, session_same}
-use Rattle.sim_channels.proofs.Kept.{ChannelAt, channel_at, is_as_long, is_beside, is_there, kept_channel, not_fresh, plugged_at, waiting_but}
+use Rattle.sim_channels.proofs.Keeping.{session_same}
+use Rattle.sim_channels.proofs.Kept.{ChannelAt, channel_at, is_as_long, is_beside, is_there, kept_channel, not_fresh, waiting_but}
 use Rattle.sim_channels.proofs.Slots.{set_beside, set_there}
-use Rattle.sim_channels.proofs.Resting.{rest_is_drained}
 use Rattle.sim_turns.specs.Taking.{IsTaken, IsTold, Tires, TurnsAt}
 use Rattle.sim_turns.specs.Turning.{TakesOne}
 use Rattle.sim_turns.proofs.Aside.{Brings}
 use Rattle.sim_turns.proofs.Called.{turned_bench, calls_at, dealt_one, is_dealt}
 use Rattle.sim_turns.proofs.Counted.{NoneOpens, count_le}
-use Rattle.sim_turns.proofs.Rested.{rests_but}
 
 -- ---- one device among the others
 
@@ -49,8 +48,8 @@ module _ (at : ℕ) (turned : Turned) (bytes : List ℕ) (before behind : List M
 
 -- ---- the turn
 
-module _ (laws : DrivingLaws) (at : ℕ) (turned : Turned) (bytes : List ℕ) (old mid new : Driver) (kept : IsKept old) (rest : IsAtRest old)
-    (waits : Waits at old)
+module _ (laws : DrivingLaws) (resting : RestingLaws) (at : ℕ) (turned : Turned) (bytes : List ℕ) (old mid new : Driver) (kept : IsKept old)
+    (rest : IsAtRest old) (waits : Waits at old)
     (taken : IsTaken turned) (other : turned ≡ FailedTurn → ⊥) (enters : EntersNext (entries.Note (notes.Turned (at + 1) turned)) Done old.desk mid.desk)
     (rest_is : mid ≡ record old { desk = mid.desk }) (same : IsSame old new) (desk : new.desk ≡ mid.desk)
     (moves : ChannelMoves at (Appends bytes) mid new) where
@@ -83,27 +82,21 @@ module _ (laws : DrivingLaws) (at : ℕ) (turned : Turned) (bytes : List ℕ) (o
   sessions_stay : (c : ℕ) → session_at c new.desk.now ≡ session_at c old.desk.now
   sessions_stay c = session_same laws old.desk.now Telling Done new.desk.now kept.reached noted.steps refl c refl
 
-  others_stay : StaysBut (IsQuiet old) at old new
-  others_stay = record {
-    sessions = λ quiet c o. sessions_stay c;
-    channels = λ n o. is_beside at K L old new at_channel n o;
-  }
-
   offered : IsOffered at new
   offered x there plugged =
       let is : L ≡ x = same_Some L x (sym (is_there at K L old new at_channel) ∙ there) in
       ap (λ (y : Channel). y.to) (sym is) ∙ changes.to ∙ rest.offered at K waits.there waits.plugged
 
-  taken_out : IsDone old → IsTakenOut at new
-  taken_out done x there plugged =
-      messages_same laws (at + 1) old.desk.now new.desk.now kept.reached kept_behind.reached (plugged_at old at K kept waits.there waits.plugged)
-      (sessions_stay (at + 1))
-      ∙ done.taken at K waits.there waits.plugged
-
   dealt_rest : IsAtRestBut at new
   dealt_rest =
-      rests_but laws at old new kept kept_behind same rest others_stay (λ done. laws.none old.desk.now Telling Done new.desk.now done.jobs refl noted.steps)
-      taken_out offered
+      resting.beside at old new kept (resting.but at old rest) (record {
+        kept = kept_behind;
+        same = same;
+        others = record { sessions = λ alone c o. sessions_stay c; channels = is_beside at K L old new at_channel };
+        jobs = λ alone. laws.none old.desk.now Telling Done new.desk.now (rest.done alone).jobs refl noted.steps;
+        taken = λ alone. resting.taken at old new kept kept_behind (sessions_stay (at + 1)) ((rest.done alone).taken at);
+        offered = offered;
+      })
 
   none_opens : NoneOpens old.channels.items new.channels.items
   none_opens n x y e f open_now =
@@ -155,7 +148,7 @@ module _ (laws : DrivingLaws) (at : ℕ) (turned : Turned) (bytes : List ℕ) (o
           bytes = bytes;
           reply = Done;
           stretch = subst (λ (x : Bench). Stretch (event ∷ []) [] (bench old before) x) bench_is
-              (stretch_call (at + 1) (Turning turned bytes) Done (bench old before) b refl (rest_is_drained old before kept rest false (λ e. absurd (cc)))
+              (stretch_call (at + 1) (Turning turned bytes) Done (bench old before) b refl (λ by. resting.still old before kept rest (⊎_elim inl (λ e. absurd (cc)) by))
               whole refl calls);
           before = record { slots = refl; sessions = λ c. refl; alone = λ solo. refl };
           deed = refl;

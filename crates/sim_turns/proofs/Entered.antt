@@ -1,5 +1,5 @@
 -- An entry that a script asks for is an event, behind what others did.
-use Rattle.std.proofs.Common.{◌≡◌, ℕ, true, false, List, [], ◌∷◌, refl, sym, ap, ◌∙◌, subst, inl, inr}
+use Rattle.std.proofs.Common.{◌≡◌, ℕ, true, false, List, [], ◌∷◌, refl, sym, ap, ◌∙◌, subst, inl, inr, ⊎_elim}
 use Rattle.std.specs.Prelude.{is_some}
 use Rattle.device_port.specs.Devices.{Meaning}
 use Rattle.machine_steps.specs.declared.entry.Entry.{Entry}
@@ -18,10 +18,10 @@ use Rattle.sim_steps.proofs.Moments.{entered, stretch_entry}
 use Rattle.sim_steps.proofs.Others.{carried_beside}
 use Rattle.sim_channels.specs.Channels.{IsKept, bench, slots_of}
 use Rattle.sim_channels.specs.Driving.{DrivingLaws}
+use Rattle.sim_channels.specs.Resting.{RestingLaws}
 use Rattle.sim_channels.specs.Waiting.{IsAtRest, IsDone}
 use Rattle.sim_channels.specs.declared.driver.Driver.{Driver}
-use Rattle.sim_channels.proofs.Others.{ahead, opened_stays, others_ahead, others_beside, others_rest, plugged_stays, tends_done, tends_kept, tends_of}
-use Rattle.sim_channels.proofs.Resting.{rest_is_drained}
+use Rattle.sim_channels.proofs.Others.{ahead, opened_stays, others_ahead, others_beside, plugged_stays, tends_kept, tends_of}
 use Rattle.sim_turns.specs.Turning.{IsAsked}
 use Rattle.sim_turns.proofs.Aside.{others_aside}
 
@@ -81,19 +81,17 @@ asked_may entry a b asked slots plugged opened may = may
 
 -- ---- the event
 
-module _ (laws : DrivingLaws) (entry : Entry) (reply : Reply) (old new : Driver) (kept : IsKept old) (enters : Enters old.desk entry reply new.desk)
+module _ (laws : DrivingLaws) (resting : RestingLaws) (entry : Entry) (reply : Reply) (old new : Driver) (kept : IsKept old) (enters : Enters old.desk entry reply new.desk)
     (same : new ≡ record old { desk = new.desk }) (devices : List Meaning) where
   abbrev Ahead : Driver
   Ahead = ahead old entry reply new.desk kept enters
 
   module _ (rest : IsAtRest old) (asked : asks entry ≡ true) (settled : tells_settling (EntersBy entry reply) ≡ true → IsDone old) where
     drained : IsDrained (entered entry reply (bench Ahead devices) (bench new devices))
-    drained =
+    drained by =
         let others = others_ahead old entry reply new.desk kept enters in
-        let tends = tends_of old Ahead others in
-        rest_is_drained Ahead devices (tends_kept laws old Ahead kept tends) (others_rest laws old Ahead kept others rest)
-        (tells_settling (EntersBy entry reply))
-        (λ is. tends_done laws old Ahead kept tends (settled is))
+        resting.still Ahead devices (tends_kept laws old Ahead kept (tends_of old Ahead others)) (resting.others old Ahead kept others rest)
+        (⊎_elim inl (λ is. inr (resting.done old Ahead kept others (settled is))) by)
 
     enters_at : MayEnter entry (bench old devices) → EntersAt entry reply (bench Ahead devices) (bench new devices)
     enters_at may =

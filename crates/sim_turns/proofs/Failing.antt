@@ -1,5 +1,5 @@
 -- A turn in which the device failed, behind its note and the end of the session.
-use Rattle.std.proofs.Common.{◌≡◌, ℕ, ◌+◌, ◌<◌, true, false, List, [], length, refl, sym, ap, ◌∙◌, subst, arith, ⊎_elim}
+use Rattle.std.proofs.Common.{◌≡◌, ℕ, ◌+◌, ◌<◌, true, false, List, length, refl, sym, ap, ◌∙◌, subst, inl, arith, ⊎_elim}
 use Rattle.std.specs.Prelude.{Some}
 use Rattle.std.specs.List.{slice_get}
 use Rattle.std.proofs.lemmas.Bool.{cases_eq}
@@ -12,7 +12,6 @@ use Rattle.device_port.specs.Devices.Call.{Turning}
 use Rattle.machine_steps.specs.declared.entry.Entry.TheVariants as entries
 use Rattle.machine_steps.specs.declared.note.Note.TheVariants as notes
 use Rattle.machine_steps.specs.declared.reply.Reply.TheVariants.{Done}
-use Rattle.world_steps.specs.Worlds.{messages_for}
 use Rattle.sim_steps.specs.Benches.{Bench}
 use Rattle.sim_steps.specs.Deeds.{CallsAt, has_failed}
 use Rattle.sim_steps.specs.Parts.{has_dealt}
@@ -21,26 +20,40 @@ use Rattle.machine_desk.specs.Hearing.{is_live}
 use Rattle.sim_channels.specs.Channels.{EntersNext, Fits, IsKept, bench, slots_of}
 use Rattle.sim_channels.specs.Delivering.{Leaves}
 use Rattle.sim_channels.specs.Driving.{DrivingLaws}
+use Rattle.sim_channels.specs.Resting.{RestingLaws}
 use Rattle.sim_channels.specs.Waiting.{IsAtRest, IsAtRestBut}
 use Rattle.sim_channels.specs.declared.channel.Channel.{Channel}
 use Rattle.sim_channels.specs.declared.driver.Driver.{Driver}
 use Rattle.sim_channels.specs.Turns.{Waits}
-use Rattle.sim_channels.proofs.Kept.{all_left, waiting_but}
+use Rattle.sim_channels.proofs.Kept.{waiting_but}
+use Rattle.sim_channels.proofs.Looking.{fed_nothing}
 use Rattle.sim_channels.proofs.Others.{others_beside}
 use Rattle.sim_channels.proofs.Slots.{set_same}
-use Rattle.sim_channels.proofs.Resting.{rest_is_drained}
 use Rattle.sim_turns.specs.Taking.{IsTaken, IsTold, Tires, TurnsAt, plugged_count}
 use Rattle.sim_turns.specs.Turning.{TakesOne}
 use Rattle.sim_turns.proofs.Aside.{Brings}
-use Rattle.sim_turns.proofs.Called.{turned_bench, calls_at, fed_nothing}
+use Rattle.sim_turns.proofs.Called.{turned_bench, calls_at}
 use Rattle.sim_turns.proofs.Counted.{NoneOpens, count_lt}
 use Rattle.sim_turns.proofs.Dealt.{device_there, devices_beside, devices_long}
 use Rattle.sim_turns.proofs.Noted.{noted_fits, noted_kept, noted_rest}
 use Rattle.sim_turns.proofs.Pending.{there_is}
-use Rattle.sim_turns.proofs.Rested.{rests_but}
 
-module _ (laws : DrivingLaws) (at : ℕ) (turned : Turned) (bytes : List ℕ) (old mid new : Driver) (kept : IsKept old) (rest : IsAtRest old)
-    (waits : Waits at old)
+-- nothing else is left to do where a device was left
+pub rest_left : RestingLaws → (old new : Driver) (at : ℕ) → IsKept old → Leaves at old new → IsAtRestBut at old → IsAtRestBut at new
+rest_left resting old new at kept left rest =
+    let stays = left.spares.others in
+    let none = resting.left at new left.left in
+    resting.beside at old new kept rest (record {
+      kept = left.kept;
+      same = left.spares.same;
+      others = record { sessions = λ alone. stays.sessions (inl alone); channels = stays.channels };
+      jobs = λ alone. left.spares.jobs (rest.done alone).jobs;
+      taken = λ alone. none.taken;
+      offered = none.offered;
+    })
+
+module _ (laws : DrivingLaws) (resting : RestingLaws) (at : ℕ) (turned : Turned) (bytes : List ℕ) (old mid new : Driver) (kept : IsKept old)
+    (rest : IsAtRest old) (waits : Waits at old)
     (taken : IsTaken turned) (failed : turned ≡ FailedTurn) (enters : EntersNext (entries.Note (notes.Turned (at + 1) turned)) Done old.desk mid.desk)
     (same : mid ≡ record old { desk = mid.desk }) (footing : mid.desk.footing ≡ old.desk.footing) (leaves : Leaves at mid new) where
   abbrev K : Channel
@@ -55,7 +68,7 @@ module _ (laws : DrivingLaws) (at : ℕ) (turned : Turned) (bytes : List ℕ) (o
   kept_told = noted_kept laws (notes.Turned (at + 1) turned) old mid kept enters same footing
 
   rest_told : IsAtRest mid
-  rest_told = noted_rest laws (notes.Turned (at + 1) turned) old mid kept enters same footing rest
+  rest_told = noted_rest laws (notes.Turned (at + 1) turned) old mid kept enters same footing resting rest
 
   there_told : slice_get mid.channels.items at ≡ Some K
   there_told = ap (λ ks. slice_get ks at) channels_same ∙ waits.there
@@ -63,9 +76,7 @@ module _ (laws : DrivingLaws) (at : ℕ) (turned : Turned) (bytes : List ℕ) (o
   -- ---- behind the session's end
 
   failed_rest : IsAtRestBut at new
-  failed_rest =
-      rests_but laws at mid new kept_told leaves.kept leaves.spares.same rest_told leaves.spares.others (λ done. leaves.spares.jobs done.jobs)
-      (λ done. all_left (λ k. messages_for (at + 1) new.desk.now ≡ []) at new leaves.left) (all_left (λ k. k.to ≡ []) at new leaves.left)
+  failed_rest = rest_left resting mid new at kept_told leaves (resting.but at mid rest_told)
 
   left_shut : (y : Channel) → slice_get new.channels.items at ≡ Some y → is_live y.inbound.stage ≡ false
   left_shut y there = ap is_live (leaves.left y there)
@@ -128,7 +139,7 @@ module _ (laws : DrivingLaws) (at : ℕ) (turned : Turned) (bytes : List ℕ) (o
       reply = Done;
       stretch =
           stretch_failed (at + 1) (Turning turned bytes) Done (bench old before) (bench mid behind) leaves.reply (bench leaves.ahead behind) (bench new behind)
-          (others_beside laws mid leaves.ahead kept_told leaves.others behind) refl (rest_is_drained old before kept rest false (λ e. absurd (cc)))
+          (others_beside laws mid leaves.ahead kept_told leaves.others behind) refl (λ by. resting.still old before kept rest (⊎_elim inl (λ e. absurd (cc)) by))
           (ap (λ t. has_failed (Turning t bytes)) failed) refl leaves.memory calls (leaves.enters behind long);
       before = record { slots = refl; sessions = λ c. refl; alone = λ solo. refl };
       deed = refl;

@@ -1,6 +1,6 @@
 -- Onward: what is known behind several messages. Attending: what is known behind a delivery then. Entered: an entry that a script asks for, as an event.
 -- Noted: what a note leaves. Aside: what others did ahead of an event. Pending: where a message waits. Obeyed: turns are an
--- order's part. Counted: how many sessions are open. Rested: what a turn leaves to do. Called: a turn is an event. Dealt, Failing: what a turn brings about at
+-- order's part. Counted: how many sessions are open. Called: a turn is an event. Dealt, Failing: what a turn brings about at
 -- once. Told: the same, behind what others did.
 pub mod Aside
 pub mod Attending
@@ -13,5 +13,4 @@ pub mod Noted
 pub mod Obeyed
 pub mod Onward
 pub mod Pending
-pub mod Rested
 pub mod Told

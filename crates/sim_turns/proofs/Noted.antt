@@ -1,20 +1,21 @@
 -- A note adds lines to the report, and leaves all else as it was.
-use Rattle.std.proofs.Common.{◌≡◌, ◌+◌, refl, sym, ap, ◌∙◌, inl, inr}
+use Rattle.std.proofs.Common.{◌≡◌, ◌+◌, refl, ap, ◌∙◌, inl, inr}
 use Rattle.std.specs.List.{slice_get}
 use Rattle.machine_desk.specs.Desks.{Enters}
 use Rattle.machine_steps.specs.declared.entry.Entry.TheVariants as entries
 use Rattle.machine_steps.specs.declared.note.Note.{Note}
 use Rattle.machine_steps.specs.declared.reply.Reply.TheVariants.{Done, NoMemory}
-use Rattle.machine_steps.specs.Machine.{State, tells_all}
+use Rattle.machine_steps.specs.Machine.{State, session_at, tells_all}
 use Rattle.machine_steps.specs.Steps.{Steps, note_lines}
-use Rattle.world_steps.specs.Worlds.{lacks_memory, messages_for}
+use Rattle.world_steps.specs.Worlds.{lacks_memory}
 use Rattle.sim_channels.specs.declared.driver.Driver.{Driver}
 use Rattle.sim_channels.specs.Channels.{EntersNext, IsKept, OthersDid}
 use Rattle.sim_channels.specs.Driving.{DrivingLaws}
-use Rattle.sim_channels.specs.Waiting.{IsAtRest, IsDone}
+use Rattle.sim_channels.specs.Resting.{RestingLaws}
+use Rattle.sim_channels.specs.Waiting.{IsAtRest}
 use Rattle.sim_channels.proofs.Kept.{kept_entry}
-use Rattle.sim_channels.proofs.Others.{ahead, alone_back, enters_next, others_ahead, others_rest, same_desk, tends_fits, tends_kept, tends_of}
-use Rattle.sim_channels.proofs.Places.{fits_same, while_still}
+use Rattle.sim_channels.proofs.Others.{ahead, alone_back, enters_next, others_ahead, same_desk, tends_fits, tends_kept, tends_of}
+use Rattle.sim_channels.proofs.Places.{fits_same}
 use Rattle.sim_turns.specs.Turning.{FitsStill}
 
 -- where memory doesn't run out for it
@@ -37,17 +38,16 @@ module _ (laws : DrivingLaws) (note : Note) (old new : Driver) (kept : IsKept ol
   pub noted_fits : FitsStill old new
   noted_fits devices fits = fits_same old new devices noted_kept items_are fits
 
-  pub noted_done : IsDone old → IsDone new
-  noted_done done = record {
-    jobs = ap (λ (m : State). m.jobs) now_is ∙ done.jobs;
-    taken = λ at k there plugged. ap (messages_for (at + 1)) now_is ∙ done.taken at k (sym (ap (λ ks. slice_get ks at) items_are) ∙ there) plugged;
-  }
-
-  pub noted_rest : IsAtRest old → IsAtRest new
-  noted_rest rest = record {
-    done = λ alone. noted_done (rest.done (alone_back old new (same_desk old new same footing) alone));
-    offered = λ at. while_still _ at old new (ap (λ ks. slice_get ks at) items_are) (rest.offered at);
-    heard = λ at. while_still _ at old new (ap (λ ks. slice_get ks at) items_are) (rest.heard at);
+  pub noted_rest : RestingLaws → IsAtRest old → IsAtRest new
+  noted_rest resting rest = record {
+    done = λ alone.
+        (let done = rest.done (alone_back old new (same_desk old new same footing) alone) in
+        record {
+          jobs = ap (λ (m : State). m.jobs) now_is ∙ done.jobs;
+          taken = λ at. resting.taken at old new kept noted_kept (ap (λ (m : State). session_at (at + 1) m) now_is) (done.taken at);
+        });
+    offered = λ at. resting.offered at old new (ap (λ ks. slice_get ks at) items_are) (rest.offered at);
+    heard = λ at. resting.heard at old new (ap (λ ks. slice_get ks at) items_are) (rest.heard at);
   }
 
 -- behind what others did
@@ -65,8 +65,8 @@ module _ (laws : DrivingLaws) (note : Note) (old new : Driver) (kept : IsKept ol
   pub ahead_kept : IsKept Ahead
   ahead_kept = tends_kept laws old Ahead kept (tends_of old Ahead others_did)
 
-  pub ahead_rest : IsAtRest old → IsAtRest Ahead
-  ahead_rest rest = others_rest laws old Ahead kept others_did rest
+  pub ahead_rest : RestingLaws → IsAtRest old → IsAtRest Ahead
+  ahead_rest resting rest = resting.others old Ahead kept others_did rest
 
   pub told_kept : IsKept new
   told_kept = noted_kept laws note Ahead new ahead_kept note_next same footing
@@ -75,5 +75,5 @@ module _ (laws : DrivingLaws) (note : Note) (old new : Driver) (kept : IsKept ol
   told_fits devices fits =
       noted_fits laws note Ahead new ahead_kept note_next same footing devices (tends_fits laws old Ahead kept (tends_of old Ahead others_did) devices fits)
 
-  pub told_rest : IsAtRest old → IsAtRest new
-  told_rest rest = noted_rest laws note Ahead new ahead_kept note_next same footing (ahead_rest rest)
+  pub told_rest : RestingLaws → IsAtRest old → IsAtRest new
+  told_rest resting rest = noted_rest laws note Ahead new ahead_kept note_next same footing resting (ahead_rest resting rest)

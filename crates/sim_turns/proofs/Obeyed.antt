@@ -1,5 +1,5 @@
 -- Some turns, one behind the other, and what is told behind them, are an order's part.
-use Rattle.std.proofs.Common.{◌≡◌, ℕ, ◌+◌, ◌≤◌, ◌<◌, true, false, List, [], ◌∷◌, ◌++◌, refl, sym, ap, ◌∙◌, subst, arith}
+use Rattle.std.proofs.Common.{◌≡◌, ℕ, ◌+◌, ◌≤◌, ◌<◌, true, false, List, [], ◌∷◌, ◌++◌, refl, sym, ap, ◌∙◌, subst, inl, arith}
 use Rattle.std.specs.Prelude.{Result, Ok, Err, OnOk}
 use Rattle.maple_base.specs.declared.device.Turned.{Turned}
 use Rattle.device_port.specs.Devices.{Meaning}
@@ -16,9 +16,9 @@ use Rattle.sim_steps.specs.Parts.{dealt_in, has_dealt, most_turns, turns_taken}
 use Rattle.sim_steps.specs.Stretches.{Carried, Obeyed}
 use Rattle.sim_steps.proofs.Joining.{all_append, carried_behind, obeyed, stretch_then}
 use Rattle.sim_channels.specs.Channels.{Fits, bench}
+use Rattle.sim_channels.specs.Resting.{RestingLaws}
 use Rattle.sim_channels.specs.Waiting.{IsAtRest}
 use Rattle.sim_channels.specs.declared.driver.Driver.{Driver}
-use Rattle.sim_channels.proofs.Resting.{rest_is_calm, rest_is_still}
 use Rattle.sim_turns.specs.Taking.{TakesSome}
 use Rattle.sim_turns.specs.Turning.{FitsStill, IsAsked, TakesOne, ToldSo}
 use Rattle.sim_turns.proofs.Aside.{ends_on, exhausted_on, pending_back, pending_on}
@@ -110,7 +110,7 @@ settle_obeyed a b d taken said calm still t few ends h =
 
 -- ---- what is told at the end
 
-module _ {T E : Type 0} (mid new : Driver) (devices : List Meaning) (fits : Fits mid devices) (note : Note) where
+module _ {T E : Type 0} (resting : RestingLaws) (mid new : Driver) (devices : List Meaning) (fits : Fits mid devices) (note : Note) where
   -- where memory doesn't run out for it
   pub told_last : (R : Type 0)
       → (IsAsked (entries.Note note) Done (bench mid devices) (bench new devices) → IsCalm (bench new devices)
@@ -118,5 +118,5 @@ module _ {T E : Type 0} (mid new : Driver) (devices : List Meaning) (fits : Fits
       → (r : Result T E) → OnOk r (FitsStill mid new) → OnOk r (IsAtRest new) → OnOk r (ToldSo note mid new) → OnOk r R
   told_last R f (Ok x) stays rest told =
       let kept = (stays devices fits).kept in
-      f (told devices fits) (rest_is_calm new devices kept rest) (rest_is_still new devices kept rest)
+      f (told devices fits) (resting.calm new devices kept rest) (λ solo. resting.still new devices kept rest (inl solo))
   told_last R f (Err e) stays rest told = tt

@@ -7,7 +7,7 @@ ghost use Rattle.sim_channels.specs.Waiting.{IsAtRest, IsAtRestBut};
 use crate::hear::{Reach, hear_all};
 use device_port::Device;
 use packet_workers::Gate;
-use sim_channels::{Driver, Stopped, driving_laws};
+use sim_channels::{Driver, Stopped, resting_laws};
 use std::sync::Wait;
 
 /// All that came from the device with this index is heard, each packet among it answered or handed over, and what the
@@ -31,7 +31,7 @@ pub fn attend<R: Wait, G: Gate, D: Device>(
     ensures rest { OnOk result (IsAtRest driver.new) }
     ensures same { IsSame driver.old driver.new }
 {
-    driving_laws();
+    resting_laws();
     match hear_all(rt, gate, driver, at)? {
         Reach::Nobody => Ok(()),
         Reach::Itself => driver.deliver(rt, devices, at),

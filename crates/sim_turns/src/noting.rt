@@ -7,7 +7,7 @@ ghost use Rattle.sim_channels.specs.Waiting.{IsAtRest, IsDone};
 ghost use Rattle.sim_turns.specs.Turning.{FitsStill, ToldSo, noting};
 
 use core_machine::Note;
-use sim_channels::{Driver, Stopped, driving_laws};
+use sim_channels::{Driver, Stopped, driving_laws, resting_laws};
 use std::sync::Wait;
 
 /// The machine is told what was done, which is no call of a device; how a `settle` ended, where nothing is left to do.
@@ -27,5 +27,6 @@ pub fn note<R: Wait>(rt: &R, driver: &mut Driver<'_>, note: Note) -> Result<(), 
     ensures same { IsSame driver.old driver.new }
 {
     driving_laws();
+    resting_laws();
     Ok(driver.note(rt, note)?)
 }

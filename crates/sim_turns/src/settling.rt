@@ -10,7 +10,7 @@ use crate::turning::{dealt, take_turn};
 use core_machine::Note;
 use device_port::Device;
 use packet_workers::Gate;
-use sim_channels::{Driver, Stopped, driving_laws};
+use sim_channels::{Driver, Stopped, driving_laws, resting_laws};
 use std::sync::Wait;
 
 /// The most turns of one call.
@@ -36,6 +36,7 @@ pub fn settle<R: Wait, G: Gate, D: Device>(
     ensures same { IsSame driver.old driver.new }
 {
     driving_laws();
+    resting_laws();
     let mut taken = 0;
     driver.catch_up(rt, gate, devices)?;
     while let Some(at) = driver.lowest_waiting() {

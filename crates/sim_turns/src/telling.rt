@@ -7,7 +7,7 @@ ghost use Rattle.sim_turns.specs.Taking.{IsTaken, Tires, ToldOver};
 
 use core_machine::Note;
 use maple_base::Turned;
-use sim_channels::{Driver, Stopped, connection_of, driving_laws};
+use sim_channels::{Driver, Stopped, connection_of, driving_laws, resting_laws};
 use std::sync::Wait;
 
 /// The machine is told what a turn of the device with this index did, and what it appended comes
@@ -33,6 +33,7 @@ pub(crate) fn tell_turn<R: Wait>(
     ensures same { IsSame driver.old driver.new }
 {
     driving_laws();
+    resting_laws();
     let device = connection_of(at);
     driver.note(rt, Note::Turned { device, turned })?;
     match turned {

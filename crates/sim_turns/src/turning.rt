@@ -16,7 +16,7 @@ use core_machine::Note;
 use device_port::Device;
 use maple_base::{NoMemory, Turned};
 use packet_workers::Gate;
-use sim_channels::{Driver, Stopped, driving_laws};
+use sim_channels::{Driver, Stopped, driving_laws, resting_laws};
 use std::sync::Wait;
 
 /// The device with this index, in which a message waits, takes a turn, and what that brings about is
@@ -121,6 +121,7 @@ pub fn turn<R: Wait, G: Gate, D: Device>(
     ensures obeyed { OnOk result (Obeyed (Turn place count) (bench driver.old (map D.meaning devices.old)) (bench driver.new (map D.meaning devices.new))) }
     ensures same { IsSame driver.old driver.new }
 {
+    resting_laws();
     let at = place as usize - 1;
     if !driver.is_plugged_at(at) {
         return note(rt, driver, Note::Absent(place));

@@ -19,11 +19,13 @@ returns-clause-ran g c =
       failed = c.maple.ensures.read_failed;
       unread = c.maple.ensures.unread;
       read_fault = c.maple.ensures.read_fault;
-      reads_spared = c.maple.ensures.reads_spared;
-      write_fault = c.maple.ensures.write_fault;
-      writes_spared = c.maple.ensures.writes_spared;
-      board_fault = c.maple.ensures.board_fault;
-      board_spared = c.maple.ensures.board_spared;
-      board_aside = c.maple.ensures.board_aside;
-      unserved = c.maple.ensures.unserved;
+      spares = record {
+        reads_spared = c.maple.ensures.reads_spared;
+        write_fault = c.maple.ensures.write_fault;
+        writes_spared = c.maple.ensures.writes_spared;
+        board_fault = c.maple.ensures.board_fault;
+        board_spared = c.maple.ensures.board_spared;
+        board_aside = c.maple.ensures.board_aside;
+        unserved = c.maple.ensures.unserved;
+      };
     })

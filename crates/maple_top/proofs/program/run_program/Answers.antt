@@ -27,7 +27,7 @@ pub returns-clause-read_fault : goal.returns-clause-read_fault
 returns-clause-read_fault g c = c.run_over.ensures.ran.read_fault
 
 pub returns-clause-write_fault : goal.returns-clause-write_fault
-returns-clause-write_fault g c = c.run_over.ensures.ran.write_fault
+returns-clause-write_fault g c = c.run_over.ensures.ran.spares.write_fault
 
 pub returns-clause-keep : goal.returns-clause-keep
 returns-clause-keep g c = devices_keep
@@ -36,19 +36,19 @@ pub returns-clause-idle : goal.returns-clause-idle
 returns-clause-idle g c = devices_idle
 
 pub returns-clause-board_fault : goal.returns-clause-board_fault
-returns-clause-board_fault g c = c.run_over.ensures.ran.board_fault
+returns-clause-board_fault g c = c.run_over.ensures.ran.spares.board_fault
 
 pub returns-clause-unserved : goal.returns-clause-unserved
-returns-clause-unserved g c = c.run_over.ensures.ran.unserved
+returns-clause-unserved g c = c.run_over.ensures.ran.spares.unserved
 
 pub returns-clause-reads_spared : goal.returns-clause-reads_spared
-returns-clause-reads_spared g c = c.run_over.ensures.ran.reads_spared
+returns-clause-reads_spared g c = c.run_over.ensures.ran.spares.reads_spared
 
 pub returns-clause-writes_spared : goal.returns-clause-writes_spared
-returns-clause-writes_spared g c = c.run_over.ensures.ran.writes_spared
+returns-clause-writes_spared g c = c.run_over.ensures.ran.spares.writes_spared
 
 pub returns-clause-board_spared : goal.returns-clause-board_spared
-returns-clause-board_spared g c = c.run_over.ensures.ran.board_spared
+returns-clause-board_spared g c = c.run_over.ensures.ran.spares.board_spared
 
 pub returns-clause-board_aside : goal.returns-clause-board_aside
-returns-clause-board_aside g c = c.run_over.ensures.ran.board_aside
+returns-clause-board_aside g c = c.run_over.ensures.ran.spares.board_aside

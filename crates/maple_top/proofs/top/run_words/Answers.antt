@@ -9,9 +9,10 @@ use Rattle.maple_top.specs.Ends.{IsAside}
 use Rattle.maple_top.specs.Outcomes.{switches}
 use Rattle.maple_top.specs.Running.{read_texts}
 use Rattle.maple_top.specs.Statuses.{last_line}
+use Rattle.maple_top.proofs.Answered.{heard_so, unheard}
 use Rattle.maple_top.proofs.Endings.{ends_front}
 use Rattle.maple_top.proofs.Reading.{made_are, not_words, reads_else, reads_no_gen, runs_input, serves_not, simulates_not}
-use Rattle.maple_top.proofs.Results.{ended_unfailed, failed_read, given_unfailed, heard_so, lacks_memory, of_any, of_long, of_whole, read_too_long, refused_words, texts_aside, texts_ran, unheard}
+use Rattle.maple_top.proofs.Results.{ended_unfailed, failed_read, given_unfailed, lacks_memory, of_any, of_long, of_whole, read_too_long, refused_words, texts_aside, texts_ran}
 use Rattle.maple_top.proofs.top.run_words.Goals as goal
 
 -- ---- words that are refused
@@ -26,7 +27,7 @@ pub returns-in_default-clause-failed : goal.returns-in_default-clause-failed
 returns-in_default-clause-failed g c = unheard (g.I.Source.tells c.args.from.now) _ (λ e. absurd (let none = e in cc))
 
 pub returns-in_default-clause-last : goal.returns-in_default-clause-last
-returns-in_default-clause-last g c = unheard (g.I.Source.tells c.args.from.now) IsReading (omega arith, inl refl)
+returns-in_default-clause-last g c = unheard (g.I.Source.tells c.args.from.now) IsReading (omega arith, omega arith, inl refl)
 
 -- ---- a script that a number makes
 
@@ -49,7 +50,7 @@ pub returns-in-Gen-clause-failed : goal.returns-in-Gen-clause-failed
 returns-in-Gen-clause-failed g c = unheard (g.I.Source.tells c.args.from.now) _ (λ e. absurd (let none = e in cc))
 
 pub returns-in-Gen-clause-last : goal.returns-in-Gen-clause-last
-returns-in-Gen-clause-last g c = unheard (g.I.Source.tells c.args.from.now) IsReading (omega arith, inl refl)
+returns-in-Gen-clause-last g c = unheard (g.I.Source.tells c.args.from.now) IsReading (omega arith, omega arith, inl refl)
 
 -- ---- an input that was read
 

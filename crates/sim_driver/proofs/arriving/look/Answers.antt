@@ -1,23 +1,48 @@
-use Rattle.sim_driver.proofs.Calling.{fits_left, looked_failed, looked_whole, rest_left_but}
+use Rattle.std.proofs.Common.{Ok, ap}
+use Rattle.sim_channels.specs.Looking.{is_failed}
+use Rattle.sim_turns.proofs.Failing.{rest_left}
+use Rattle.sim_driver.proofs.Calling.{fits_left, looked_failed, looked_whole}
 use Rattle.sim_driver.proofs.arriving.look.Goals as goal
 
-pub returns-in_ok-leave-clause-fits : goal.returns-in_ok-leave-clause-fits
-returns-in_ok-leave-clause-fits g c = fits_left c.call.new.self c.leave.new.self c.args.at _ c.in_ok-leave.ensures.leaves c.in_ok-call.ensures.called.fits
+-- ---- it failed
 
-pub returns-in_ok-leave-clause-rest : goal.returns-in_ok-leave-clause-rest
-returns-in_ok-leave-clause-rest g c =
+pub returns-in_ok-leave-in-Failed-clause-fits : goal.returns-in_ok-leave-in-Failed-clause-fits
+returns-in_ok-leave-in-Failed-clause-fits g c =
+    fits_left c.call.new.self c.leave.new.self c.args.at _ c.in_ok-leave-in-Failed.ensures.leaves c.in_ok-call.ensures.called.fits
+
+pub returns-in_ok-leave-in-Failed-clause-rest : goal.returns-in_ok-leave-in-Failed-clause-rest
+returns-in_ok-leave-in-Failed-clause-rest g c =
     let called = c.in_ok-call.ensures.called in
-    rest_left_but c.driving_laws.ensures c.call.new.self c.leave.new.self c.args.at called.fits.kept c.in_ok-leave.ensures.leaves called.rest
+    rest_left c.resting_laws.ensures c.call.new.self c.leave.new.self c.args.at called.fits.kept c.in_ok-leave-in-Failed.ensures.leaves called.rest
 
-pub returns-in_ok-leave-clause-looked : goal.returns-in_ok-leave-clause-looked
-returns-in_ok-leave-clause-looked g c =
-    let h = c.requires in
-    looked_failed c.driving_laws.ensures c.args.driver.now _ c.call.new.self _ c.args.at c.args.port c.args.frame h.fits h.rest c.in_ok-call.field-0
-    c.in_ok-call.ensures.called
-    c.leave.new.self c.in_ok-leave.ensures.leaves c.if-branch.true
+pub returns-in_ok-leave-in-Failed-clause-silent : goal.returns-in_ok-leave-in-Failed-clause-silent
+returns-in_ok-leave-in-Failed-clause-silent g c = λ is.
+    (let resting = c.resting_laws.ensures in
+    let e = c.leave.new.self in
+    resting.all c.args.at e (returns-in_ok-leave-in-Failed-clause-rest g c) (resting.left c.args.at e c.in_ok-leave-in-Failed.ensures.leaves.left).heard)
 
-pub returns-else-branch-clause-looked : goal.returns-else-branch-clause-looked
-returns-else-branch-clause-looked g c =
+pub returns-in_ok-leave-in-Failed-clause-looked : goal.returns-in_ok-leave-in-Failed-clause-looked
+returns-in_ok-leave-in-Failed-clause-looked g c =
     let h = c.requires in
-    looked_whole c.driving_laws.ensures c.args.driver.now _ c.call.new.self _ c.args.at c.args.port c.args.frame h.fits h.rest c.in_ok-call.field-0
-    c.in_ok-call.ensures.called c.if-branch.false
+    let answer = c.in_ok-call.field-0 in
+    looked_failed c.driving_laws.ensures c.resting_laws.ensures c.args.driver.now _ c.call.new.self _ c.args.at c.args.port c.args.frame h.fits h.rest
+    (is_failed answer) c.in_ok-call.ensures.called c.leave.new.self c.in_ok-leave-in-Failed.ensures.leaves (ap is_failed c.in-Failed.is)
+
+-- ---- it didn't
+
+pub returns-in-Spoke-clause-looked : goal.returns-in-Spoke-clause-looked
+returns-in-Spoke-clause-looked g c =
+    let h = c.requires in
+    let answer = c.in_ok-call.field-0 in
+    looked_whole c.driving_laws.ensures c.resting_laws.ensures c.args.driver.now _ c.call.new.self _ c.args.at c.args.port c.args.frame h.fits h.rest
+    (is_failed answer) c.in_ok-call.ensures.called (ap is_failed c.in-Spoke.is)
+
+pub returns-in-Silent-clause-looked : goal.returns-in-Silent-clause-looked
+returns-in-Silent-clause-looked g c =
+    let h = c.requires in
+    let answer = c.in_ok-call.field-0 in
+    looked_whole c.driving_laws.ensures c.resting_laws.ensures c.args.driver.now _ c.call.new.self _ c.args.at c.args.port c.args.frame h.fits h.rest
+    (is_failed answer) c.in_ok-call.ensures.called (ap is_failed c.in-Silent.is)
+
+pub returns-in-Silent-clause-silent : goal.returns-in-Silent-clause-silent
+returns-in-Silent-clause-silent g c = λ is. c.in_ok-call.ensures.silent (ap Ok c.in-Silent.is)

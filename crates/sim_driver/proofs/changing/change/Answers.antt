@@ -10,7 +10,7 @@ returns-then-branch-clause-obeyed g c =
     let done = c.deliver_all.ensures in
     let update = c.args.update in
     on_ok r (λ u e.
-    obeyed_done (Change update) (entries.Change update) c.args.driver.now c.update_network.new.driver _ c.deliver_all.new.self _ (λ es just. just)
+    obeyed_done c.resting_laws.ensures (Change update) (entries.Change update) c.args.driver.now c.update_network.new.driver _ c.deliver_all.new.self _ (λ es just. just)
     c.requires.fits
     c.in_ok-update_network.ensures.asked (of_ok _ r u e done.carried) (of_ok _ r u e done.fits).kept (of_ok _ r u e done.rest))
 
@@ -18,6 +18,6 @@ pub returns-else-branch-clause-obeyed : goal.returns-else-branch-clause-obeyed
 returns-else-branch-clause-obeyed g c =
     let update = c.args.update in
     let done = c.in_ok-update_network.ensures in
-    obeyed_asked (Change update) (entries.Change update) c.args.driver.now c.update_network.new.driver _ (λ es just. just) c.requires.fits done.asked
+    obeyed_asked c.resting_laws.ensures (Change update) (entries.Change update) c.args.driver.now c.update_network.new.driver _ (λ es just. just) c.requires.fits done.asked
     (done.fits _ c.requires.fits).kept
     (done.rest (ap Ok c.if-branch.false))

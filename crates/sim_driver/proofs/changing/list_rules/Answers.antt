@@ -13,12 +13,12 @@ returns g c =
     let e = c.list_rules.new.self in
     let switch = c.args.switch in
     let done = c.in_ok-list_rules.ensures in
-    let stands = rules_stand c.driving_laws.ensures d e h.kept h.rest done.rest done.footing switch done.asked in
+    let stands = rules_stand c.driving_laws.ensures c.resting_laws.ensures d e h.kept h.rest done.rest done.footing switch done.asked in
     record {
       fits = stands.fits;
       rest = stands.rest refl;
       obeyed =
-          λ devices fits. obeyed_asked (Rules switch) (entries.ReadRules switch) d e devices (λ es just. just) fits stands.asked
+          λ devices fits. obeyed_asked c.resting_laws.ensures (Rules switch) (entries.ReadRules switch) d e devices (λ es just. just) fits stands.asked
           (stands.fits devices fits).kept (stands.rest refl);
       same = same_desk d e done.rest done.footing;
     }

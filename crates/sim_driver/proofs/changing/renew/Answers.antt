@@ -12,7 +12,7 @@ returns-then-branch-clause-obeyed g c =
     let m = c.renew_policy.new.driver in
     let by = asks_by text d m c.in_ok-renew_policy.ensures.asked in
     on_ok r (λ u e.
-    obeyed_done (NewPolicy text) by.entry d m _ c.deliver_all.new.self _ by.obeys c.requires.fits by.asked
+    obeyed_done c.resting_laws.ensures (NewPolicy text) by.entry d m _ c.deliver_all.new.self _ by.obeys c.requires.fits by.asked
     (of_ok _ r u e done.carried) (of_ok _ r u e done.fits).kept (of_ok _ r u e done.rest))
 
 pub returns-else-branch-clause-obeyed : goal.returns-else-branch-clause-obeyed
@@ -22,5 +22,5 @@ returns-else-branch-clause-obeyed g c =
     let m = c.renew_policy.new.driver in
     let done = c.in_ok-renew_policy.ensures in
     let by = asks_by text d m done.asked in
-    obeyed_asked (NewPolicy text) by.entry d m _ by.obeys c.requires.fits by.asked (done.fits _ c.requires.fits).kept
+    obeyed_asked c.resting_laws.ensures (NewPolicy text) by.entry d m _ by.obeys c.requires.fits by.asked (done.fits _ c.requires.fits).kept
     (done.rest (ap Ok c.if-branch.false))

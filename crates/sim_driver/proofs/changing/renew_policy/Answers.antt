@@ -7,7 +7,7 @@ returns g c =
     let h = c.requires in
     let done = c.in_ok-renew.ensures in
     let stands =
-    renewed c.driving_laws.ensures c.args.driver.now c.renew.new.self h.kept h.rest done.rest done.footing c.args.text.now c.in_ok-renew.field-0 done.renews in
+    renewed c.driving_laws.ensures c.resting_laws.ensures c.args.driver.now c.renew.new.self h.kept h.rest done.rest done.footing c.args.text.now c.in_ok-renew.field-0 done.renews in
     record {
       fits = stands.fits;
       through = stands.through;

@@ -10,7 +10,7 @@ returns g c =
     let h = c.requires in
     let done = c.in_ok-change.ensures in
     let stands =
-    changed c.driving_laws.ensures c.args.driver.now c.change.new.self h.kept h.rest done.rest done.footing c.args.update c.in_ok-change.field-0 done.changes in
+    changed c.driving_laws.ensures c.resting_laws.ensures c.args.driver.now c.change.new.self h.kept h.rest done.rest done.footing c.args.update c.in_ok-change.field-0 done.changes in
     record {
       fits = stands.fits;
       through = stands.through;

@@ -13,7 +13,7 @@ returns-then-works_alone-clause-finished g c =
     let to = g.O.Sink.tells c.args.to.now in
     let ready = subst (λ (x : Driver). IsReady x ds) (sym {b = marked d} c.mark.ensures) (marked_ready d ds c.requires.ready) in
     let alone = alone_by m.crew c.works_alone.result c.works_alone.ensures c.if-works_alone.true in
-    subst (λ (x : Driver). IsFinished (bench x ds) m ds to to) c.mark.ensures (finished_alone m ds to ready alone)
+    subst (λ (x : Driver). IsFinished (bench x ds) m ds to to) c.mark.ensures (finished_alone c.resting_laws.ensures m ds to ready alone)
 
 pub finish_beside-requires-clause-ready : goal.finish_beside-requires-clause-ready
 finish_beside-requires-clause-ready g c =

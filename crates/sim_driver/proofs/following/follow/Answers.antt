@@ -24,5 +24,5 @@ returns-clause-follows g c =
     let done = c.in-Ok.ensures in
     let told = c.report.ensures in
     let P : Driver → Type 0 = λ x. Obeyed (order_with c.args.step c.args.text.now) (bench x before) (bench d after) in
-    follows_by c.driving_laws.ensures d c.report.new.driver after told.rest done.fits done.rest c.report.result c.args.step c.args.text.now was before
+    follows_by c.driving_laws.ensures c.resting_laws.ensures d c.report.new.driver after told.rest done.fits done.rest c.report.result c.args.step c.args.text.now was before
     (g.O.Sink.tells c.args.to.now) (g.O.Sink.tells c.report.new.to) (subst P c.mark.ensures done.obeyed) told.reports

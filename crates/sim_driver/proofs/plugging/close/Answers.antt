@@ -6,16 +6,16 @@ pub returns-clause-changes : goal.returns-clause-changes
 returns-clause-changes g c =
     let h = c.requires in
     let done = c.in_ok-close.ensures in
-    closed c.driving_laws.ensures c.args.driver.now c.close.new.self c.args.at h.kept done.kept done.same false done.closes
+    closed c.driving_laws.ensures c.resting_laws.ensures c.args.driver.now c.close.new.self c.args.at h.kept done.kept done.same false done.closes
 
 pub returns-clause-asked : goal.returns-clause-asked
 returns-clause-asked g c =
     let h = c.requires in
     let done = c.in_ok-close.ensures in
-    asked_closed c.driving_laws.ensures c.args.driver.now c.close.new.self c.args.at h.kept done.kept done.same false done.closes refl h.live h.rest
+    asked_closed c.driving_laws.ensures c.resting_laws.ensures c.args.driver.now c.close.new.self c.args.at h.kept done.kept done.same false done.closes refl h.live h.rest
 
 pub returns-clause-rest : goal.returns-clause-rest
 returns-clause-rest g c =
     let h = c.requires in
     let done = c.in_ok-close.ensures in
-    rest_left c.driving_laws.ensures c.args.driver.now c.close.new.self c.args.at h.kept done.kept done.same false done.closes h.rest
+    rest_left c.driving_laws.ensures c.resting_laws.ensures c.args.driver.now c.close.new.self c.args.at h.kept done.kept done.same false done.closes h.rest

@@ -24,7 +24,7 @@ returns-in-Live-clause-obeyed g c =
     let place = c.args.place in
     let staged = staged_there d place c.index_of-at.result c.stage.result h.kept c.index_of-at.ensures c.stage.ensures in
     on_ok r (λ u e devices fits.
-    obeyed_asked (Unplug place) (entries.Gone place false) d c.close.new.driver devices
+    obeyed_asked c.resting_laws.ensures (Unplug place) (entries.Gone place false) d c.close.new.driver devices
     (λ es just. if_plugged place d.desk.now es (JustEnters (entries.Gone place false) es) (staged.plugged ∙ ap is_live c.in-Live.is) just) fits
     (subst (λ n. AsksFor (entries.Gone n false) d c.close.new.driver) (sym c.index_of-at.ensures) (of_ok _ r u e c.close.ensures.asked))
     (of_ok _ r u e c.close.ensures.changes).kept (of_ok _ r u e c.close.ensures.rest))
@@ -37,6 +37,6 @@ returns-in_default-clause-obeyed g c =
     let place = c.args.place in
     let staged = staged_there d place c.index_of-at.result c.stage.result h.kept c.index_of-at.ensures c.stage.ensures in
     on_ok r (λ u e devices fits.
-    obeyed_noted (Unplug place) (notes.Absent place) d c.note.new.driver devices
+    obeyed_noted c.resting_laws.ensures (Unplug place) (notes.Absent place) d c.note.new.driver devices
     (λ es just. if_absent place d.desk.now (JustEnters (entries.Gone place false) es) (staged.plugged ∙ others_closed _ c.in_default.not-Live) es just) fits
     (of_ok _ r u e c.note.ensures.told) (of_ok _ r u e c.note.ensures.kept) (of_ok _ r u e c.note.ensures.rest))

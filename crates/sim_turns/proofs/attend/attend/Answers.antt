@@ -19,8 +19,8 @@ returns-in-Nobody-clause-carried g c = c.in_ok-hear_all.ensures.carried (map g.D
 pub returns-in-Nobody-clause-rest : goal.returns-in-Nobody-clause-rest
 returns-in-Nobody-clause-rest g c =
     let h = c.in_ok-hear_all.ensures in
-    rests_still c.args.at c.args.driver.now c.hear_all.new.driver (map g.D.Device.meaning c.args.devices.now) c.requires.fits h.kept h.channels
-    c.hear_all.ensures.same c.requires.rest h.jobs h.heard h.offered
+    rests_still c.resting_laws.ensures c.args.at c.args.driver.now c.hear_all.new.driver c.requires.fits.kept h.kept h.channels c.hear_all.ensures.same
+    c.requires.rest h.jobs h.heard h.offered
     (h.nobody (ap Ok c.in-Nobody.is))
 
 -- ---- the machine may have messages for the device at this place alone
@@ -40,9 +40,8 @@ returns-in-Itself-clause-rest g c =
     let h = c.in_ok-hear_all.ensures in
     let d = c.deliver.ensures in
     on_six _
-    (at_rest c.args.at c.args.driver.now c.hear_all.new.driver (map g.D.Device.meaning c.args.devices.now) c.requires.fits h.kept h.channels
-    c.hear_all.ensures.same c.requires.rest h.jobs h.heard h.offered
-    c.driving_laws.ensures (h.itself (ap Ok c.in-Itself.is)) c.deliver.new.self (map g.D.Device.meaning c.deliver.new.devices) d.same)
+    (at_rest c.resting_laws.ensures c.args.at c.args.driver.now c.hear_all.new.driver c.requires.fits.kept h.kept h.channels c.hear_all.ensures.same
+    c.requires.rest h.jobs h.heard h.offered (h.itself (ap Ok c.in-Itself.is)) c.deliver.new.self (map g.D.Device.meaning c.deliver.new.devices) d.same)
     d.fits d.taken d.offered d.heard d.others d.jobs
 
 -- ---- or for any
@@ -55,8 +54,8 @@ deliver_all-requires-clause-fits g c =
 pub deliver_all-requires-clause-through : goal.deliver_all-requires-clause-through
 deliver_all-requires-clause-through g c =
     let h = c.in_ok-hear_all.ensures in
-    heard_through c.args.at c.args.driver.now c.hear_all.new.driver (map g.D.Device.meaning c.args.devices.now) c.requires.fits h.kept h.channels
-    c.hear_all.ensures.same c.requires.rest h.jobs h.heard h.offered
+    heard_through c.resting_laws.ensures c.args.at c.args.driver.now c.hear_all.new.driver c.requires.fits.kept h.kept h.channels c.hear_all.ensures.same
+    c.requires.rest h.jobs h.heard h.offered
 
 pub returns-in-Anybody-clause-carried : goal.returns-in-Anybody-clause-carried
 returns-in-Anybody-clause-carried g c =

@@ -9,6 +9,7 @@ use Rattle.machine_steps.specs.declared.reply.Reply.TheVariants.{Done}
 pub returns : goal.returns
 returns g c =
     let laws = c.driving_laws.ensures in
+    let resting = c.resting_laws.ensures in
     let note = c.args.note in
     let old = c.args.driver.now in
     let new = c.note.new.self in
@@ -19,7 +20,7 @@ returns g c =
     record {
       kept = told_kept laws note old new h.kept enters rest footing;
       fits = told_fits laws note old new h.kept enters rest footing;
-      rest = told_rest laws note old new h.kept enters rest footing h.rest;
-      told = λ devices fits. asked_over laws (entries.Note note) Done old new h.kept enters rest devices h.rest refl h.settled refl h.may;
+      rest = told_rest laws note old new h.kept enters rest footing resting h.rest;
+      told = λ devices fits. asked_over laws resting (entries.Note note) Done old new h.kept enters rest devices h.rest refl h.settled refl h.may;
       same = same_desk old new rest footing;
     }

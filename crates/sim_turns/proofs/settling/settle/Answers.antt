@@ -70,7 +70,7 @@ returns-then-taken-eq-MOST_TURNS-clause-obeyed g c =
     let h = c.loop-at.invariant in
     let all : taken ≡ most_turns = omega arith in
     let ends : EndsSettling taken said b = inr (all, refl, c.in-Some.at + 1, pends c.loop-at.driver ds h.fits c.in-Some.at c.in-Some.ensures.waits) in
-    told_last c.loop-at.driver c.note.new.driver ds h.fits said (Obeyed Settle a d)
+    told_last c.resting_laws.ensures c.loop-at.driver c.note.new.driver ds h.fits said (Obeyed Settle a d)
     (λ asked calm still. settle_obeyed a b d taken said calm still h.some h.most ends asked)
     c.note.result c.note.ensures.fits c.note.ensures.rest c.note.ensures.told
 
@@ -86,6 +86,6 @@ returns-clause-obeyed g c =
     let d = bench c.note-2.new.driver ds in
     let h = c.loop-at.invariant in
     let ends : EndsSettling taken said b = inl (refl, none_pends c.loop-at.driver ds h.fits c.in_default.ensures) in
-    told_last c.loop-at.driver c.note-2.new.driver ds h.fits said (Obeyed Settle a d)
+    told_last c.resting_laws.ensures c.loop-at.driver c.note-2.new.driver ds h.fits said (Obeyed Settle a d)
     (λ asked calm still. settle_obeyed a b d taken said calm still h.some h.most ends asked)
     c.note-2.result c.note-2.ensures.fits c.note-2.ensures.rest c.note-2.ensures.told

@@ -25,7 +25,7 @@ returns-in_ok-leave-in-Failed g c =
     let enters =
     subst (λ (d : ℕ). Enters old.desk (entries.Note (notes.Turned d c.args.turned)) Done mid.desk) c.connection_of-device.ensures c.in_ok-note.ensures.notes in
     let brings =
-    failed_behind c.driving_laws.ensures at c.args.turned c.args.bytes.now old mid new h.kept h.rest h.waits h.taken enters n.rest n.footing c.in-Failed.is
+    failed_behind c.driving_laws.ensures c.resting_laws.ensures at c.args.turned c.args.bytes.now old mid new h.kept h.rest h.waits h.taken enters n.rest n.footing c.in-Failed.is
     c.in_ok-leave-in-Failed.ensures.leaves in
     record {
       rest = brings.rest;
@@ -46,7 +46,7 @@ returns-in_ok-append-in_default g c =
     subst (λ (d : ℕ). Enters old.desk (entries.Note (notes.Turned d c.args.turned)) Done mid.desk) c.connection_of-device.ensures c.in_ok-note.ensures.notes in
     let also = c.append.ensures.same in
     let brings =
-    dealt_behind c.driving_laws.ensures at c.args.turned c.args.bytes.now old mid new h.kept h.rest h.waits h.taken enters n.rest n.footing
+    dealt_behind c.driving_laws.ensures c.resting_laws.ensures at c.args.turned c.args.bytes.now old mid new h.kept h.rest h.waits h.taken enters n.rest n.footing
     c.in_default.not-Failed c.append.ensures.desk
     c.in_ok-append-in_default.ensures.moves also in
     record { rest = brings.rest; told = brings.told; tires = brings.tires; same = same_then old mid new (same_desk old mid n.rest n.footing) also }

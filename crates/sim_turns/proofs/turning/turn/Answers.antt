@@ -18,7 +18,7 @@ returns-then-not-is_plugged_at-clause-obeyed g c =
     let d = bench c.note.new.driver ds in
     let e : (place - 1) + 1 ≡ place = omega (arith, c.requires.among) in
     let absent = subst (λ (n : ℕ). is_plugged n c.args.driver.now.desk.now ≡ false) e (sym c.is_plugged_at.ensures ∙ c.if-not-is_plugged_at.true) in
-    told_last c.args.driver.now c.note.new.driver ds c.requires.fits (notes.Absent place) (Obeyed (Turn place c.args.count) a d)
+    told_last c.resting_laws.ensures c.args.driver.now c.note.new.driver ds c.requires.fits (notes.Absent place) (Obeyed (Turn place c.args.count) a d)
     (λ asked calm still. absent_obeyed place c.args.count a a d calm still absent asked) c.note.result c.note.ensures.fits c.note.ensures.rest
     c.note.ensures.told
 
@@ -38,6 +38,6 @@ returns-clause-obeyed g c =
     let plugged = subst (λ (n : ℕ). is_plugged n c.args.driver.now.desk.now ≡ true) e (sym c.is_plugged_at.ensures ∙ c.if-not-is_plugged_at.false) in
     let fewer : taken < c.args.count → IsExhausted place b =
     λ less. subst (λ (n : ℕ). IsExhausted n b) e (exhausted mid ds h.fits (place - 1) (h.fewer less)) in
-    told_last mid new ds h.fits (notes.TurnedAll place taken) (Obeyed (Turn place c.args.count) a d)
+    told_last c.resting_laws.ensures mid new ds h.fits (notes.TurnedAll place taken) (Obeyed (Turn place c.args.count) a d)
     (λ asked calm still. turn_obeyed place c.args.count a b d calm still taken some plugged h.most fewer asked) c.note-2.result c.note-2.ensures.fits
     c.note-2.ensures.rest c.note-2.ensures.told

@@ -8,7 +8,7 @@ use Rattle.serve_channels.proofs.Attended.{worked_alone}
 use Rattle.serve_channels.proofs.server.Server.attend.Goals as goal
 
 pub returns-in-None-clause-attends : goal.returns-in-None-clause-attends
-returns-in-None-clause-attends g c = go c.answered.result c.answered.ensures
+returns-in-None-clause-attends g c = go c.answered.result c.answered.ensures.whole
   where
     old : Server
     old = c.args.self.now

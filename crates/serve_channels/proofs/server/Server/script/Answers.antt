@@ -6,7 +6,6 @@ use Rattle.std.proofs.lemmas.Result.{on_ok_weaker}
 use Rattle.board_lines.specs.Laws.{given_of}
 use Rattle.board_lines.specs.Readings.{Reading}
 use Rattle.serve_channels.specs.declared.scripting.ScriptEnd.{ScriptEnd}
-use Rattle.serve_channels.specs.declared.scripting.ScriptEnd.TheVariants.{Whole}
 use Rattle.serve_channels.proofs.Items.{list_end, script_does}
 use Rattle.serve_channels.proofs.Kept.{same_then}
 use Rattle.serve_channels.proofs.Texts.{followed_all, followed_by, followed_end, followed_none, followed_on, script_last, script_next}

@@ -8,7 +8,7 @@ use Rattle.sim_channels.proofs.Tended.{worked_alone}
 use Rattle.sim_channels.proofs.driver.Driver.attend.Goals as goal
 
 pub returns-in-None-clause-attends : goal.returns-in-None-clause-attends
-returns-in-None-clause-attends g c = go c.answered.result c.answered.ensures
+returns-in-None-clause-attends g c = go c.answered.result c.answered.ensures.whole
   where
     old : Driver
     old = c.args.self.now

@@ -1,8 +1,10 @@
-use Rattle.std.proofs.Common.{sym, ap, ◌∙◌, subst, arith}
+use Rattle.std.proofs.Common.{ap, ◌∙◌, arith}
 use Rattle.std.proofs.lemmas.List.{length-map}
 use Rattle.sim_channels.specs.declared.driver.Driver.{Driver}
 use Rattle.machine_desk.specs.declared.inbound.Stage.TheVariants.{Live}
-use Rattle.sim_channels.proofs.Looking.{is_called}
+use Rattle.sim_channels.specs.Looking.{is_failed}
+use Rattle.sim_channels.proofs.Kept.{ChannelAt}
+use Rattle.sim_channels.proofs.Looking.{is_called, rests_silent}
 use Rattle.sim_channels.proofs.Others.{same_by}
 use Rattle.sim_channels.proofs.Staged.{stands}
 use Rattle.sim_channels.proofs.driver.Driver.call.Goals as goal
@@ -22,6 +24,18 @@ returns-clause-called g c =
     let old = c.args.self.now in
     let new = c.note.new.self in
     is_called g.D.Device.meaning c.driving_laws.ensures old new c.args.devices.now c.args.at c.args.port c.args.frame c.items.result.now c.in_ok-seen.seen
-    c.connection_of-device.result c.index_mut.result.now c.look_up.new.channel c.index-devices-at.result c.look_up.new.device c.has_failed-failed.result h.fits h.rest
-    (stands c.args.at Live old c.index_mut.result.now h.plugged c.index_mut.ensures.value) h.within c.index-devices-at.is c.items.ensures c.in_ok-seen.ensures (ap (λ (x : Driver). x.channels.items) told.rest)
-    (same_by old new (ap (λ (x : Driver). x.crew) told.rest) told.footing) c.connection_of-device.ensures c.in_ok-note.ensures.notes c.has_failed-failed.ensures
+    c.connection_of-device.result c.index_mut.result.now c.look_up.new.channel c.index-devices-at.result c.look_up.new.device (is_failed c.answer_of-answer.result) h.fits h.rest
+    (stands c.args.at Live old c.index_mut.result.now h.plugged c.index_mut.ensures.value) h.within c.index-devices-at.is c.items.ensures c.in_ok-seen.ensures.looks (ap (λ (x : Driver). x.channels.items) told.rest)
+    (same_by old new (ap (λ (x : Driver). x.crew) told.rest) told.footing) c.connection_of-device.ensures c.in_ok-note.ensures.notes c.answer_of-answer.ensures.failed
+
+pub returns-clause-silent : goal.returns-clause-silent
+returns-clause-silent g c = λ is.
+    (let h = c.requires in
+    let told = c.note.ensures in
+    let old = c.args.self.now in
+    let new = c.note.new.self in
+    let k = c.index_mut.result.now in
+    let l = c.look_up.new.channel in
+    let same = same_by old new (ap (λ (x : Driver). x.crew) told.rest) told.footing in
+    let at_channel : ChannelAt c.args.at k l old new = record { there = (stands c.args.at Live old k h.plugged c.index_mut.ensures.value).there; channels = ap (λ (x : Driver). x.channels.items) told.rest; same = same } in
+    rests_silent c.args.at k l old new at_channel (c.in_ok-seen.ensures.silent (c.answer_of-answer.ensures.silent (cc))) h.rest (returns-clause-called g c).rest)

@@ -1,4 +1,4 @@
-use Rattle.std.proofs.Common.{sym, ap, ◌∙◌, subst, refl}
+use Rattle.std.proofs.Common.{sym, subst}
 use Rattle.std.specs.Prelude.{IfSome}
 use Rattle.machine_steps.specs.Admitting.{IsHeard}
 use Rattle.sim_channels.specs.declared.driver.Driver.{Driver}
