@@ -43,7 +43,7 @@
 //! leads. Each call would else speak of some states of its own, and what is shown of the state behind one call would say
 //! nothing of the state ahead of the next.
 //!
-//! Not done: no one sleeps while he waits, and there are no readers beside a writer.
+//! Not done: there are no readers beside a writer.
 ghost use Rattle.std.specs.Prelude.{◌≡◌, ◌<◌, ◌≤◌, ◌+◌, ◌-◌, ◌^◌, ◌++◌, ◌∷◌, [], ◌||◌, max, length, IfOk, IfErr, IsSome, IsTrue, IsFalse, Some};
 ghost use Rattle.history_lock.specs.declared.view.Slot.{Slot};
 ghost use Rattle.history_lock.specs.Histories.{AreAllPositions, Calls, HasSeenLegal, IsAdmitted, IsAllowed, IsAllowedSince, LeadsTo, StartsWith, longer};

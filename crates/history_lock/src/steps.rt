@@ -9,10 +9,10 @@ use crate::law::{Compare, Count, Cut, Draw, Glue, Hand, Look, Take, Write};
 use crate::machine::Machine;
 use crate::room::{Hall, Stand};
 use crate::view::Slot;
+use std::hint;
 use std::marker::Brand;
 use std::snapshot::Snapshot;
 use std::sync::Wait;
-use std::thread;
 
 /// How long a history may get.
 const MOST: u64 = 1 << 62;
@@ -23,6 +23,9 @@ const LENGTH: usize = 0;
 const TICKETS: usize = 1;
 
 const TURN: usize = 2;
+
+// How often a waiting pass looks before it sleeps: longer than most turns take.
+const LOOKS: u32 = 1_024;
 
 // The machine that a slot has.
 pub(crate) fn machine_of<M, E, R>(slot: Slot<M, E, R>) -> Box<M>
@@ -77,19 +80,26 @@ impl<M: Machine> Hall<M> {
         self.table.shared.fetch_add::<Draw<M>>(pass, TICKETS, 1)
     }
 
-    // Waits for the turn of the ticket, and takes the machine's slot.
+    // Waits for the turn of the ticket, and takes the machine's slot. It is meant to sleep once it has looked in vain for a
+    // while: not past the turn that it saw, since that word has changed then.
     fn wait<R: Wait>(&self, rt: &R, pass: &mut Stand<M>, ticket: u64)
         requires hall { pass.old.table_id ≡ self.now.table.shared.table_id }
         requires waits { (pass.old.me.0.stage ≡ Waits ticket) × (0 < pass.old.me.0.known.parts) × (pass.old.me.1 ≡ []) }
         ensures same { (pass.new.table_id ≡ pass.old.table_id) × (pass.new.id ≡ pass.old.id) }
         ensures took { Takes M.steps M.allows pass.old.me.0 ticket pass.new.me }
     {
+        let mut looks = 0;
         for _ in rt.forever() {
             let turn = self.table.shared.load::<Take<M>>(pass, TURN);
             if turn == ticket {
                 return;
             }
-            thread::yield_now();
+            if looks < LOOKS {
+                looks += 1;
+                hint::spin_loop();
+            } else {
+                self.table.shared.park(rt, TURN, (turn & 0xffff_ffff) as u32);
+            }
         }
         unreachable!()
     }
@@ -143,7 +153,8 @@ impl<M: Machine> Hall<M> {
         self.table.shared.fetch_add::<Write<M>>(pass, LENGTH, 1);
     }
 
-    // Gives the slot back, and hands the turn on.
+    // Gives the slot back, and hands the turn on. Where a further ticket is drawn, its pass may sleep, and all are woken: who
+    // draws behind that look finds the new turn.
     fn hand(&self, pass: &mut Stand<M>, ticket: u64)
         requires hall { pass.old.table_id ≡ self.now.table.shared.table_id }
         requires recorded { HasRecorded pass.old.me.0 pass.old.me.1 ticket }
@@ -152,6 +163,9 @@ impl<M: Machine> Hall<M> {
         ensures idle { pass.new.me ≡ (staged pass.old.me.0 Idle, []) }
     {
         self.table.shared.store::<Hand<M>>(pass, TURN, ticket + 1);
+        if self.table.shared.peek(TICKETS) != ticket + 1 {
+            self.table.shared.wake_all(TURN);
+        }
     }
 
     // Lets the machine answer, records the entry and hands the turn on.
