@@ -98,7 +98,9 @@ impl<M: Machine> Hall<M> {
                 looks += 1;
                 hint::spin_loop();
             } else {
-                self.table.shared.park(rt, TURN, (turn & 0xffff_ffff) as u32);
+                self.table
+                    .shared
+                    .park(rt, TURN, (turn & 0xffff_ffff) as u32);
             }
         }
         unreachable!()

@@ -1,19 +1,22 @@
 -- Tables of what items and cells tell, with one more.
-use Rattle.std.proofs.Common.{◌≡◌, ℕ, Bool, true, false, cond, List, [], ◌∷◌, ◌++◌, refl, sym, ap, ◌∙◌, subst}
+use Rattle.std.proofs.Common.{◌≡◌, ℕ, ◌<◌, Bool, true, false, cond, List, [], ◌∷◌, ◌++◌, length, get_or, slice_set, refl, sym, ap, ◌∙◌, subst, ⊎_elim, arith}
 use Rattle.std.specs.Prelude.{◌==◌, ◌&&◌, ◌||◌, nat_eq, Option, Some, None, IfSome, IsTrue}
 use Rattle.std.specs.Option.{option_or}
 use Rattle.std.specs.Str.{bytes_eq}
-use Rattle.std.specs.List.{list_all}
+use Rattle.std.specs.List.{list_all, slice_index_or}
 use Rattle.std.proofs.Math.Bool.{or_comm}
 use Rattle.std.specs.HashMap.{HashMap, get}
 use Rattle.std.specs.HashSet.{HashSet, contains}
-use Rattle.std.proofs.lemmas.Bool.{eqb-true, eq-eqb, and_parts, and_from, cond_both}
+use Rattle.std.proofs.lemmas.Bool.{cases_eq, eqb-true, eq-eqb, ne_eqb, and_parts, and_from, cond_both}
+use Rattle.std.proofs.lemmas.Grind.{get_or-set_at}
+use Rattle.std.proofs.lemmas.List.{get_or-set_other}
 use Rattle.std.proofs.lemmas.Bool.Decides.{same_from_decides}
 use Rattle.std.proofs.lemmas.List.Folds.{list_all-append}
 use Rattle.std.proofs.lemmas.Slice.Eq.{bytes_eq-Decides}
 use denote.Enum.Bare.{same_true, true_same}
 use Rattle.maple_base.specs.contracts.key.Field.{the_type}
 use Rattle.maple_base.specs.declared.key.Field.{Field}
+use Rattle.maple_base.specs.declared.key.Field.TheVariants.{InPort, DlSrc, DlDst, DlVlan, DlType, NwTos, NwProto, NwSrc, NwDst, TpSrc, TpDst}
 use Rattle.maple_base.specs.declared.items.Item.{Item}
 use Rattle.maple_base.specs.declared.items.Item.TheVariants.{Read, Test}
 use Rattle.maple_base.specs.declared.cells.Cell.{Cell}
@@ -89,13 +92,36 @@ same_cell_is (Up m n) (Up k l) h = let q = and_parts (m == k) (n == l) h in both
 same_cell_is (Num s n) (Num t l) h = let q = and_parts (bytes_eq s t) (n == l) h in both_same Num s t n l ((bytes_eq-Decides s t).0 q.0) (eqb-true n l q.1)
 same_cell_is c d h = absurd (cc)
 
+few_fields : (f : Field) → field_number f < 11
+few_fields InPort = omega (arith)
+few_fields DlSrc = omega (arith)
+few_fields DlDst = omega (arith)
+few_fields DlVlan = omega (arith)
+few_fields DlType = omega (arith)
+few_fields NwTos = omega (arith)
+few_fields NwProto = omega (arith)
+few_fields NwSrc = omega (arith)
+few_fields NwDst = omega (arith)
+few_fields TpSrc = omega (arith)
+few_fields TpDst = omega (arith)
+
+-- a value is put at the place of its field
+pub put_at : (old : List (Option ℕ)) (g : Field) (v : ℕ) → length old ≡ 11 → (f : Field)
+    → slice_index_or (slice_set old (field_number g) (Some v)) (field_number f) None ≡ cond (same_field f g) (Some v) (slice_index_or old (field_number f) None)
+put_at old g v long f = ⊎_elim
+    (λ e. get_or-set_at old (field_number g) (field_number f) (Some v) None e (omega (arith, long, few_fields g)) ∙ sym (ap (λ b. cond b (Some v) (get_or old (field_number f) None)) (eq-eqb _ _ e)))
+    (λ ne. get_or-set_other old (field_number g) (field_number f) (Some v) None ne ∙ sym (ap (λ b. cond b (Some v) (get_or old (field_number f) None)) (ne_eqb _ _ ne)))
+    (cases_eq (field_number f) (field_number g))
+
 -- an item fixes a field that nothing has fixed
-pub fixed_now : {S T : Type 0} (is : List Item) (i : Item) (g : Field) (v : ℕ) (old new : HashMap Field ℕ S) (ruled : HashSet (Field × ℕ) T)
+pub fixed_now : {T : Type 0} (is : List Item) (i : Item) (g : Field) (v : ℕ) (old new : List (Option ℕ)) (ruled : HashSet (Field × ℕ) T)
     → ((f : Field) → known f (i ∷ []) ≡ cond (same_field f g) (Some v) None) → ((f : Field) (w : ℕ) → excluded f w (i ∷ []) ≡ false)
-    → known g is ≡ None → ((f : Field) → get equal_fields new f ≡ cond (equal_fields g f) (Some v) (get equal_fields old f)) → AreOf is old ruled → AreOf (is ++ i ∷ []) new ruled
-fixed_now is i g v old new ruled fixes rules none puts of = record {
-  known = λ f. puts f ∙ ap (cond (equal_fields g f) (Some v)) (of.known f)
-      ∙ told_last equal_fields same_field fields_same same_field_is (λ x. known x is) g f v none ∙ sym (known_more is i f ∙ ap (option_or (known f is)) (fixes f));
+    → known g is ≡ None → length new ≡ 11 → ((f : Field) → slice_index_or new (field_number f) None ≡ cond (same_field f g) (Some v) (slice_index_or old (field_number f) None))
+    → AreOf is old ruled → AreOf (is ++ i ∷ []) new ruled
+fixed_now is i g v old new ruled fixes rules none long puts of = record {
+  long = long;
+  known = λ f. puts f ∙ ap (cond (same_field f g) (Some v)) (of.known f) ∙ own_last (same_field f g) v (known f is) (λ t. ap (λ x. known x is) (same_field_is f g t) ∙ none)
+      ∙ sym (known_more is i f ∙ ap (option_or (known f is)) (fixes f));
   excluded = λ f w. of.excluded f w ∙ sym (excluded_more is i f w ∙ ap (λ b. b || excluded f w is) (rules f w));
 }
 
@@ -108,9 +134,10 @@ new_or true x = refl
 new_or false x = refl
 
 -- a false test excludes a value
-pub ruled_now : {S T : Type 0} (is : List Item) (g : Field) (v : ℕ) (fixed : HashMap Field ℕ S) (old new : HashSet (Field × ℕ) T)
+pub ruled_now : {T : Type 0} (is : List Item) (g : Field) (v : ℕ) (fixed : List (Option ℕ)) (old new : HashSet (Field × ℕ) T)
     → ((q : Field × ℕ) → contains equal_pairs new q ≡ cond (equal_pairs (g, v) q) true (contains equal_pairs old q)) → AreOf is fixed old → AreOf (is ++ Test g v false ∷ []) fixed new
 ruled_now is g v fixed old new puts of = record {
+  long = of.long;
   known = λ f. of.known f ∙ sym (known_more is (Test g v false) f ∙ or_none (known f is));
   excluded = λ f w. puts (f, w) ∙ ap (cond (equal_fields g f && v == w) true) (of.excluded f w)
       ∙ ap (λ b. cond b true (excluded f w is)) (both_same ◌&&◌ _ _ _ _ (fields_same g f ∙ same_turned same_field same_field_is g f) (same_turned nat_eq eqb-true v w))

@@ -1,22 +1,25 @@
 // What is asked of a packet: a question that earlier answers settle isn't.
 ghost use Rattle.std.specs.Prelude.{◌≡◌, ◌==◌, ◌++◌, ◌∷◌, [], None, IfOk, OnOk};
 ghost use Rattle.maple_base.specs.Keys.{field_of, has_ports};
-ghost use Rattle.maple_base.specs.Questions.{known, excluded};
+ghost use Rattle.maple_base.specs.Questions.{excluded, field_number, known};
 ghost use Rattle.policy_meaning.specs.Through.{no_ports, ask_net, ask_ports, ask_header, ask_field, ask_test};
 ghost use Rattle.policy_meaning.specs.Notes.{Asked};
 ghost use Rattle.maple_base.specs.declared.items.Item.TheVariants.{Read, Test};
 
 use maple_base::{Field, ICMP, IP_TYPE, Item, Items, Key, NoMemory, TCP, UDP};
 use std::alloc::Global;
-use std::collections::{HashMap, HashSet};
+use std::collections::HashSet;
 use std::marker::Model;
+
+// How many fields there are.
+const FIELDS: usize = Field::ALL.len();
 
 // What was asked of a packet, with the answers, in order.
 #[derive(Drop)]
 pub struct AskedItems {
     list: Vec<Item>,
-    // The value that each field was fixed to, and the values that fields can't have.
-    known: HashMap<Field, u64>,
+    // The value that each field was fixed to, by the field's number, and the values that fields can't have.
+    known: [Option<u64>; FIELDS],
     excluded: HashSet<(Field, u64)>,
 }
 
@@ -32,6 +35,13 @@ impl Model for AskedItems {
     ghost invariant = { λ a. AreOf a.list.items a.known a.excluded };
 }
 
+// Where the value of a field stands.
+fn place(field: Field) -> usize
+    ensures { result ≡ field_number field }
+{
+    field as usize
+}
+
 fn has_ports(proto: u64) -> bool
     ensures { result ≡ has_ports proto }
 {
@@ -44,7 +54,7 @@ impl AskedItems {
     {
         AskedItems {
             list: Vec::new(alloc),
-            known: HashMap::new(alloc),
+            known: [None; FIELDS],
             excluded: HashSet::new(alloc),
         }
     }
@@ -53,7 +63,7 @@ impl AskedItems {
     fn known(&self, field: Field) -> Option<u64>
         ensures { result ≡ known field self.now }
     {
-        self.known.get(&field).copied()
+        self.known[place(field)]
     }
 
     // Whether a false test excluded this value of a field.
@@ -71,7 +81,7 @@ impl AskedItems {
     {
         let value = key.get(field);
         self.list.reserve(1)?;
-        self.known.insert(field, value)?;
+        self.known[place(field)] = Some(value);
         self.list.push_reserved(Item::Read { field, value });
         Ok(value)
     }
@@ -85,7 +95,7 @@ impl AskedItems {
         let outcome = key.get(field) == value;
         self.list.reserve(1)?;
         if outcome {
-            self.known.insert(field, value)?;
+            self.known[place(field)] = Some(value);
         } else {
             self.excluded.insert((field, value))?;
         }
