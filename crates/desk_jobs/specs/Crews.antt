@@ -2,7 +2,7 @@
 use Rattle.std.specs.Prelude.{◌≡◌, ℕ, Bool, true, false, Option, Some, None, IfSome, is_some, Ok, Err}
 use Rattle.machine_steps.specs.Machine.{State}
 use Rattle.worker_crew.specs.declared.gave_up.GaveUp.{GaveUp}
-use Rattle.worker_crew.specs.declared.gave_up.GaveUp.TheVariants.{NoMemory}
+use Rattle.worker_crew.specs.declared.gave_up.GaveUp.TheVariants.{NoMemory, Worn}
 use Rattle.worker_crew.specs.Takers.{IsTakerOf, places, shares}
 use Rattle.worker_crew.specs.Tasks.{Worked as Told}
 use Rattle.machine_desk.specs.Desks.{DeskView}
@@ -48,12 +48,29 @@ sight desk crew = at desk crew.taker.now
 
 -- ---- ends
 
+-- how a run may end: where somebody gave up, by why, and at which ends all was done that it was asked for
+pub record EndsOf (E : Type 0) : Type 0 where
+  pub no_memory : E
+  pub worn : E
+  pub is_whole : E → Bool
+
+abbrev pub given_up : {E : Type 0} → EndsOf E → GaveUp → E
+given_up ends NoMemory = ends.no_memory
+given_up ends Worn = ends.worn
+
 -- how a run ends by what was told of the work done for it: where it came to its end, but somebody gave up, by that
 abbrev pub ended_with : {E : Type 0} → (GaveUp → E) → Bool → E → Told → E
 ended_with given_up true end (Err cause) = given_up cause
 ended_with given_up to_end end told = end
 
+abbrev pub joined : {E : Type 0} → EndsOf E → E → Told → E
+joined ends end told = ended_with (given_up ends) (ends.is_whole end) end told
+
 -- what a driver tells of its own calls, by whether memory sufficed for them
 abbrev pub told_memory : Bool → Told
 told_memory true = Ok tt
 told_memory false = Err NoMemory
+
+-- how a run ends by whether memory sufficed for the calls of who drove it
+abbrev pub with_memory : {E : Type 0} → EndsOf E → E → Bool → E
+with_memory ends end had = joined ends end (told_memory had)

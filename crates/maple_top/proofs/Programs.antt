@@ -101,9 +101,9 @@ to_end end h = h
 right_report : (end : SimEnd) (g : SimGiven) (after : List Meaning) (history : List Turn) (report : List ℕ) → AllKeep g.devices → IsToEnd (end_of end) → EndsBy end g after history report
     → IsRightReport g report
 right_report sims.Done g after history report keep to e =
-    record { after = after; history = history; followed = e.ends; memory = e.memory tt; world = e.ends.run.world keep }
+    record { after = after; history = history; followed = e.ends; memory = e.memory refl; world = e.ends.run.world keep }
 right_report (sims.Script line kind) g after history report keep to e =
-    record { after = after; history = history; followed = e.ends; memory = e.memory tt; world = e.ends.run.world keep }
+    record { after = after; history = history; followed = e.ends; memory = e.memory refl; world = e.ends.run.world keep }
 right_report end g after history report keep to e = absurd to
 
 right_of : (command : Command) (end : ServeEnd) (policy : Policy) (texts : Texts) (board : BoardView) (after : Switches) (report : List ℕ) → IsToEnd end

@@ -9,6 +9,7 @@ use Rattle.packet_workers.specs.declared.worked.Worked.{Worked}
 use Rattle.machine_desk.specs.Desks.{DeskLaw, DeskView}
 use Rattle.machine_desk.specs.Working.{Works}
 use Rattle.desk_jobs.specs.declared.crew.Crew.{Crew}
+use Rattle.worker_crew.specs.Takers.{places}
 use Rattle.desk_jobs.specs.Crews.{BySights, IsCrewStill, SameCrew, sight}
 use Rattle.desk_jobs.specs.Laws.{Meanwhile, NothingIsLeft, RoomStays, TendingIsAllowed}
 use Rattle.desk_jobs.specs.Tending.{Done, HandsOver, IsInHand, IsWhole, Reaches, Room, Sight}
@@ -44,11 +45,17 @@ module _ (old : Server) (c d : Crew) (desk : DeskView) (is : old.crew ≡ Some c
   tends : Meanwhile old.desk desk → Tends old later
   tends meanwhile = record { meanwhile = meanwhile; rest = refl; same = later_same }
 
+  -- of these crews it holds of what is known by their passes
+  sights : (R : ℕ → Sight → Sight → Type 0) → R (places c.jobs.now) (sight old.desk c) (sight desk d) → BySights R old.desk desk old.crew (Some d)
+  sights R r = subst (λ (o : Option Crew). BySights R old.desk desk o (Some d)) (sym is) r
+
   pub room_by : ServingLaws → DeskLaw old.desk → TendingIsAllowed → RoomStays → Reaches Room (sight old.desk c) (sight desk d) → MakesRoom old later
   room_by laws law allowed stays r =
       let meanwhile = allowed.reaches Room (sight old.desk c) (sight desk d) r in
       record {
         tends = tends meanwhile;
+        alone = λ none. absurd (beside none);
+        asked = sights (λ n s t. Reaches Room s t) r;
         room = λ e m. inr (stays (sight old.desk c) (sight desk d) e (meanwhile_lawful laws (lawful law) meanwhile footing).sound r m);
       }
 
@@ -65,12 +72,17 @@ module _ (old : Server) (c d : Crew) (desk : DeskView) (is : old.crew ≡ Some c
 pub tends_still : (s : Server) → Tends s s
 tends_still s = record { meanwhile = none_between s.desk; rest = refl; same = record { footing = refl; crew = same_crew s.crew } }
 
-pub room_alone : (s : Server) → WorksAlone s → MakesRoom s s
-room_alone s none = record { tends = tends_still s; room = λ d m. inl none }
-
 no_sights : (R : ℕ → Sight → Sight → Type 0) (a b : DeskView) (c d : Option Crew) → is_some c ≡ false → BySights R a b c d
 no_sights R a b None d none = tt
 no_sights R a b (Some c) d none = absurd (cc)
+
+pub room_alone : (s : Server) → WorksAlone s → MakesRoom s s
+room_alone s none = record {
+  tends = tends_still s;
+  alone = λ alone. refl;
+  room = λ d m. inl none;
+  asked = no_sights (λ n s t. Reaches Room s t) s.desk s.desk s.crew s.crew none;
+}
 
 pub worked_alone : (old : Server) (desk : DeskView) (item : Waiting) (worked : Worked) → WorksAlone old → desk.footing ≡ old.desk.footing → Works item worked old.desk desk
     → IsWhole worked → Attends item old (record old { desk = desk })

@@ -13,11 +13,9 @@ use Rattle.machine_desk.specs.declared.hearing.Heard.{Heard}
 use Rattle.machine_desk.specs.declared.hearing.Heard.TheVariants as heard
 use Rattle.machine_desk.specs.declared.inbound.Inbound.{Inbound}
 use Rattle.packet_workers.specs.declared.worked.Worked.{Worked}
-use Rattle.desk_jobs.specs.Arriving.{HasRoom, is_packet}
-use Rattle.desk_jobs.specs.Crews.{BySights, IsCrew}
-use Rattle.desk_jobs.specs.Laws.{Meanwhile}
-use Rattle.desk_jobs.specs.Tending.{HandsOver, IsInHand, IsWhole}
-use Rattle.desk_jobs.specs.declared.tending.Handed.{Handed}
+use Rattle.desk_jobs.specs.Crews.{IsCrew}
+use Rattle.desk_jobs.specs.Homes.{Attends as AttendsAt, Follows as FollowsAt, MakesRoom as MakesRoomAt, MakesRoomFor as MakesRoomForAt, IsTended}
+use Rattle.desk_jobs.specs.Tending.{IsWhole}
 use Rattle.sim_steps.specs.Agreeing.{AreCut}
 use Rattle.serve_steps.specs.Deeds.{Past, bytes_of, inputs_of, is_open, was_accepted}
 use Rattle.serve_channels.specs.declared.connection.Connection.{Connection}
@@ -26,7 +24,7 @@ use Rattle.serve_channels.specs.declared.hearing.Came.TheVariants as came
 use Rattle.serve_channels.specs.declared.server.Server.{Server}
 use Rattle.serve_channels.specs.Hearing.{UpTo}
 use Rattle.serve_channels.specs.Keeping.{Goes}
-use Rattle.serve_channels.specs.Servers.{IsAt, IsSame, WorksAlone}
+use Rattle.serve_channels.specs.Servers.{IsAt, home}
 
 -- ---- who works beside
 
@@ -35,20 +33,16 @@ abbrev pub HasCrew : Server → Type 0
 HasCrew s = IfSome s.crew IsCrew
 
 -- the server and others did what anybody may, of packets that wait, and nothing else changed but the crew's pass
-pub record Tends (old new : Server) : Type 0 where
-  pub meanwhile : Meanwhile old.desk new.desk
-  pub rest : new ≡ record old { desk = new.desk; crew = new.crew }
-  pub same : IsSame old new
+abbrev pub Tends : Server → Server → Type 0
+Tends old new = IsTended home old new
 
 -- there is room for a packet, whatever others do until it is heard
-pub record MakesRoom (old new : Server) : Type 0 where
-  pub tends : Tends old new
-  pub room : HasRoom (WorksAlone old) new.desk
+abbrev pub MakesRoom : Server → Server → Type 0
+MakesRoom old new = MakesRoomAt home old new
 
 -- the same where a packet came
-pub record MakesRoomFor (input : Input) (old new : Server) : Type 0 where
-  pub tends : Tends old new
-  pub room : is_packet input ≡ true → HasRoom (WorksAlone old) new.desk
+abbrev pub MakesRoomFor : Input → Server → Server → Type 0
+MakesRoomFor input old new = MakesRoomForAt home input old new
 
 pub record IsWorked (item : Waiting) (a b : DeskView) : Type 0 where
   pub worked : Worked
@@ -56,15 +50,12 @@ pub record IsWorked (item : Waiting) (a b : DeskView) : Type 0 where
   pub whole : IsWhole worked
 
 -- a packet that waits was answered, or handed over to who works beside
-pub record Attends (item : Waiting) (old new : Server) : Type 0 where
-  pub tends : Tends old new
-  pub alone : WorksAlone old → IsWorked item old.desk new.desk
-  pub hands : BySights (λ places s t. (handed : Handed) × HandsOver handed item places s t × IsInHand handed) old.desk new.desk old.crew new.crew
+abbrev pub Attends : Waiting → Server → Server → Type 0
+Attends item old new = AttendsAt home (IsWorked item) item old new
 
 -- what is done about an input
 abbrev pub Follows : Heard → Server → Server → Type 0
-Follows (heard.Packet item) old new = Attends item old new
-Follows rest old new = new ≡ old
+Follows heard old new = FollowsAt home IsWorked heard old new
 
 -- ---- a message
 

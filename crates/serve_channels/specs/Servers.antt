@@ -4,6 +4,7 @@ use Rattle.std.specs.List.{slice_get}
 use Rattle.machine_steps.specs.Machine.{State, session_at}
 use Rattle.machine_desk.specs.Hearing.{IsStaged}
 use Rattle.desk_jobs.specs.Crews.{SameCrew}
+use Rattle.desk_jobs.specs.Homes.{Home, IsAlone, IsSame as IsSameAt}
 use Rattle.serve_channels.specs.declared.connection.Connection.{Connection}
 use Rattle.serve_channels.specs.declared.server.Server.{Server}
 
@@ -48,10 +49,12 @@ pub record AreSessions (ks : List Connection) (m : State) : Type 0 where
 
 -- ---- what no call changes
 
+abbrev pub home : Home Server
+home = record { desk = λ (s : Server). s.desk; crew = λ (s : Server). s.crew; moved = λ (s : Server) desk crew. record s { desk = desk; crew = crew } }
+
 -- whose hall it is, and who works beside
-pub record IsSame (old new : Server) : Type 0 where
-  pub footing : new.desk.footing ≡ old.desk.footing
-  pub crew : SameCrew old.crew new.crew
+abbrev pub IsSame : Server → Server → Type 0
+IsSame old new = IsSameAt home old new
 
 -- the same, but for what is marked of the turns
 pub record IsSameHall (old new : Server) : Type 0 where
@@ -69,4 +72,4 @@ SameNumbers old new =
 
 -- nobody works beside the server
 abbrev pub WorksAlone : Server → Type 0
-WorksAlone server = is_some server.crew ≡ false
+WorksAlone server = IsAlone home server

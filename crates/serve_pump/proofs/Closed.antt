@@ -23,7 +23,7 @@ use Rattle.serve_steps.specs.declared.end.ServeEnd.TheVariants as ends
 use Rattle.serve_steps.specs.Deeds.{Past, acts_of, turns_of}
 use Rattle.serve_steps.specs.Laws.{OthersGoOn, first_entered, parts_entered}
 use Rattle.serve_steps.specs.Parts.{AreCutAtTurns, AreOpenedOnce, Given, Part, deeds_of, has_ended, state_of}
-use Rattle.serve_steps.specs.Runs.{AllHadMemory, AreParts, ArePartsButLast, EndsWith, HasCause, HasRun, IsBrokenOff, IsLastAsked, IsWrittenButLast, most_entries, report, spares_board, taken_report}
+use Rattle.serve_steps.specs.Runs.{AllHadMemory, ArePartsButLast, EndsWith, HasCause, HasRun, IsBrokenOff, IsLastAsked, IsWrittenButLast, most_entries, report, spares_board, taken_report}
 use Rattle.serve_pump.specs.Ending.{DroveBy, EndsSoFar, IsCaused, IsFailedSoFar, joined}
 use Rattle.serve_pump.specs.EndLaws.{EndingLaws}
 use Rattle.serve_pump.proofs.Reports.{done_broken, script_broken, written_by}

@@ -11,10 +11,8 @@ use Rattle.machine_sharing.specs.Legal.{turns_of as turns_along}
 use Rattle.machine_steps.specs.Histories.{Turn}
 use Rattle.machine_steps.specs.Machine.{State}
 use Rattle.packet_workers.specs.Adding.{PassView}
-use Rattle.worker_crew.specs.declared.gave_up.GaveUp.{GaveUp}
-use Rattle.worker_crew.specs.declared.gave_up.GaveUp.TheVariants as gave_up
 use Rattle.worker_crew.specs.Tasks.{Worked}
-use Rattle.desk_jobs.specs.Crews.{ended_with, told_memory}
+use Rattle.desk_jobs.specs.Crews.{EndsOf, joined as joined_by, with_memory as memory_by}
 use Rattle.serve_steps.specs.declared.end.ServeEnd.{ServeEnd}
 use Rattle.serve_steps.specs.declared.end.ServeEnd.TheVariants as ends
 use Rattle.serve_steps.specs.declared.end.ServeEnd.TheVariants.{BoardFault, WriteFault}
@@ -130,17 +128,17 @@ end_of stops.Board worn = BoardFault
 end_of stops.Write worn = WriteFault
 end_of stops.Stopped worn = stopped_end worn
 
-abbrev pub gave_up_end : GaveUp → ServeEnd
-gave_up_end gave_up.NoMemory = ends.NoMemory
-gave_up_end gave_up.Worn = ends.Worn
+-- how a run may end, for who gave up
+abbrev pub serve_ends : EndsOf ServeEnd
+serve_ends = record { no_memory = ends.NoMemory; worn = ends.Worn; is_whole = spares_board }
 
 -- by how its workers ended: where it came to its end, as the first of them that gave up
 abbrev pub joined : ServeEnd → Worked → ServeEnd
-joined end outcome = ended_with gave_up_end (spares_board end) end outcome
+joined end outcome = joined_by serve_ends end outcome
 
 -- by whether memory sufficed for the calls of who drove it
 abbrev pub with_memory : ServeEnd → Bool → ServeEnd
-with_memory end had = joined end (told_memory had)
+with_memory end had = memory_by serve_ends end had
 
 -- by how the rest of the report was written, behind a fault of the board
 abbrev pub told_as : Result (Unit {0}) ReportStop → ServeEnd

@@ -1,14 +1,13 @@
 -- A run of `serve`, and what it is at each of its ends.
 use Rattle.std.specs.Prelude.{◌≡◌, ◌≢◌, ◌⊎◌, ℕ, ◌≤◌, Bool, true, false, List, [], ◌∷◌, ◌++◌, length, Some, None}
-use Rattle.std.specs.List.{flat_map, list_all}
+use Rattle.std.specs.List.{list_all}
 use Rattle.maple_io.specs.Fronts.{IsFront}
 use Rattle.maple_io.specs.Views.{SinkView, Wrote, WriteFailed, NoWriteFailed}
 use Rattle.maple_io.specs.declared.act.Act.{Act}
 use Rattle.maple_io.specs.declared.act.Act.TheVariants as acts
 use Rattle.maple_io.specs.Boards.{BoardView, BoardFailed, NoBoardFailed}
 use Rattle.report_text.specs.declared.line.ScriptRefusal.{ScriptRefusal}
-use Rattle.report_text.specs.Report.{spelled}
-use Rattle.machine_steps.specs.Histories.{Leads, Turn, report_of}
+use Rattle.machine_steps.specs.Histories.{Leads, Turn}
 use Rattle.machine_steps.specs.Machine.{State, opening}
 use Rattle.world_steps.specs.Worlds.{World, messages_for}
 use Rattle.world_steps.specs.Runs.{Event as WorldEvent, IsWorldRun}
@@ -19,6 +18,7 @@ use Rattle.serve_steps.specs.declared.end.ServeEnd.TheVariants.{Done, Script, Wr
 use Rattle.sim_steps.specs.Agreeing.{taken_text}
 use Rattle.sim_steps.specs.Deeds.Deed.{Enters as EntersAtBench}
 pub use Rattle.sim_steps.specs.Ends.{AllHadMemory, most_entries}
+use Rattle.sim_steps.specs.Ends.{told_by}
 use Rattle.serve_steps.specs.Deeds.Deed.{Enters, Does}
 use Rattle.serve_steps.specs.Deeds.{Deed, Past, gathered, turns_of, acts_of, is_open}
 use Rattle.serve_steps.specs.Texts.{script_asks, script_quits, ahead_of_refused, first_refused, AreEntriesOf}
@@ -56,7 +56,7 @@ AreParts g first (p ∷ ahead) = IsPart g first ahead p × AreParts g first ahea
 
 -- the lines of the report
 abbrev pub report : Past → List ℕ
-report past = flat_map spelled (report_of (turns_of past))
+report past = told_by (turns_of past)
 
 -- those that were taken
 abbrev pub taken_in : Deed → List ℕ

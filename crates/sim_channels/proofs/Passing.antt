@@ -298,7 +298,7 @@ follows here old mid (JobOpened item) h new f = (heard, fewer here old mid reply
     heard =
         by_crew mid
         (λ alone.
-        (let answers = f.answers alone in
+        (let answers = f.alone alone in
         let (one, waits_now, is, its) = waits here old mid reply h (alone_back old mid h.at.same alone) in
         let by : AllBy (here + 1) mid.desk.now = subst (AllByRecursion (λ (j : Job). j.connection ≡ here + 1)) (sym waits_now) (its, tt) in
         heard_so here old mid reply h new f.tends (over_answers mid new answers (items_stay h.laws mid new h.now_kept f.tends)) (λ none. answers.none)

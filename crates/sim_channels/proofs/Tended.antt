@@ -108,7 +108,7 @@ pub worked_alone : (old : Driver) (desk : DeskView) (item : Waiting) (worked : W
     → (WorksAlone old → WaitsBy (heards.Packet item) old.desk.now.jobs) → Works item worked old.desk desk → IsWhole worked → Attends item old (record old { desk = desk })
 worked_alone old desk item worked plain close kept alone footing waits works whole = record {
   tends = record { meanwhile = worked_between item worked old.desk desk works; rest = refl; same = same_desk old (record old { desk = desk }) refl footing };
-  answers = λ none. answers_by plain close item worked old.desk desk (kept.crew.alone none) (waits none) works whole;
+  alone = λ none. answers_by plain close item worked old.desk desk (kept.crew.alone none) (waits none) works whole;
   hands = no_sights (λ n s t. (handed : Handed) × HandsOver handed item n s t × IsInHand handed) old.desk desk old.crew old.crew alone;
 }
 

@@ -1,5 +1,5 @@
 -- The driver of the machine and devices: the bench that it is with the devices, and what it keeps.
-use Rattle.std.specs.Prelude.{◌≡◌, ℕ, ◌+◌, ◌^◌, ◌<◌, ◌≤◌, true, false, List, [], ◌∷◌, ◌++◌, length, Some, is_some}
+use Rattle.std.specs.Prelude.{◌≡◌, ℕ, ◌+◌, ◌^◌, ◌<◌, ◌≤◌, true, List, [], ◌∷◌, ◌++◌, length, Some}
 use Rattle.std.specs.List.{slice_get}
 use Rattle.maple_base.specs.declared.decision.Settings.{Settings}
 use Rattle.policy_lang.specs.declared.Policy.{Policy}
@@ -7,7 +7,8 @@ use Rattle.of10_stream.specs.Steps.{beginning}
 use Rattle.device_port.specs.Devices.{Meaning}
 use Rattle.machine_desk.specs.Desks.{DeskView}
 use Rattle.machine_desk.specs.Hearing.{IsStaged}
-use Rattle.desk_jobs.specs.Crews.{MayHave, SameCrew}
+use Rattle.desk_jobs.specs.Crews.{MayHave}
+use Rattle.desk_jobs.specs.Homes.{Home, IsAlone, IsSame as IsSameAt, IsTended}
 use Rattle.desk_jobs.specs.Laws.{Meanwhile}
 use Rattle.machine_steps.specs.declared.entry.Entry.{Entry}
 use Rattle.machine_steps.specs.declared.reply.Reply.{Reply}
@@ -57,14 +58,16 @@ pub record IsFresh (k : Channel) : Type 0 where
 
 -- ---- who works beside the driver
 
+abbrev pub home : Home Driver
+home = record { desk = λ (d : Driver). d.desk; crew = λ (d : Driver). d.crew; moved = λ (d : Driver) desk crew. record d { desk = desk; crew = crew } }
+
 -- nobody works beside the driver
 abbrev pub WorksAlone : Driver → Type 0
-WorksAlone driver = is_some driver.crew ≡ false
+WorksAlone driver = IsAlone home driver
 
 -- what no call of the driver but `mark` changes: its footing, and who works beside it
-pub record IsSame (old new : Driver) : Type 0 where
-  pub footing : new.desk.footing ≡ old.desk.footing
-  pub crew : SameCrew old.crew new.crew
+abbrev pub IsSame : Driver → Driver → Type 0
+IsSame old new = IsSameAt home old new
 
 -- ---- what is kept of the machine and the channels
 
@@ -110,10 +113,8 @@ pub record OthersDid (old new : Driver) : Type 0 where
   pub alone : WorksAlone old → new ≡ old
 
 -- the driver and others did what anybody may, of packets that wait, and nothing else changed but the crew's pass
-pub record Tends (old new : Driver) : Type 0 where
-  pub meanwhile : Meanwhile old.desk new.desk
-  pub rest : new ≡ record old { desk = new.desk; crew = new.crew }
-  pub same : IsSame old new
+abbrev pub Tends : Driver → Driver → Type 0
+Tends old new = IsTended home old new
 
 -- ---- an entry of the driver itself
 

@@ -53,3 +53,7 @@ pub record IsCalled (at port : ℕ) (frame : List ℕ) (failed : Bool) (old : Dr
   pub ahead : Driver
   pub others : OthersDid old ahead
   pub called : Called (at + 1) port frame failed (bench ahead before) (bench new after)
+
+-- by what it did with it
+abbrev pub IsAnswered : ℕ → ℕ → List ℕ → Answer → Driver → List Meaning → Driver → List Meaning → Type 0
+IsAnswered at port frame answer old before new after = IsCalled at port frame (is_failed answer) old before new after

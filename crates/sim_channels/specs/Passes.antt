@@ -6,15 +6,13 @@ use Rattle.machine_steps.specs.declared.job.Job.{Job}
 use Rattle.machine_steps.specs.Steps.{item_of}
 use Rattle.machine_steps.specs.Waiting.{Waiting}
 use Rattle.machine_desk.specs.Hearing.{Comes, Hears}
-use Rattle.desk_jobs.specs.declared.tending.Handed.{Handed}
-use Rattle.desk_jobs.specs.Arriving.{HasRoom, is_packet}
-use Rattle.desk_jobs.specs.Crews.{BySights}
-use Rattle.desk_jobs.specs.Tending.{Done, HandsOver, IsInHand, Reaches, Room, Sight}
+use Rattle.desk_jobs.specs.Homes.{Attends as AttendsAt, Beside as BesideAt, Follows as FollowsAt, MakesRoom as MakesRoomAt, MakesRoomFor as MakesRoomForAt}
+use Rattle.desk_jobs.specs.Tending.{Done, Reaches, Sight}
 use Rattle.machine_desk.specs.declared.inbound.Inbound.{Inbound}
 use Rattle.machine_desk.specs.declared.hearing.Heard.{Heard}
 use Rattle.machine_desk.specs.declared.hearing.Heard.TheVariants as heard
 use Rattle.sim_channels.specs.Answering.{Answers}
-use Rattle.sim_channels.specs.Channels.{CarriedOver, IsKept, IsSame, Tends, WorksAlone}
+use Rattle.sim_channels.specs.Channels.{CarriedOver, IsKept, IsSame, Tends, WorksAlone, home}
 use Rattle.sim_channels.specs.Waiting.{IsHeard, IsOffered, NoneWaits, StaysBut}
 use Rattle.sim_channels.specs.declared.channel.Channel.{Channel}
 use Rattle.sim_channels.specs.declared.driver.Driver.{Driver}
@@ -39,18 +37,15 @@ WaitsBy (heard.Packet item) jobs = (j : Job) × (jobs ≡ j ∷ []) × (item ≡
 WaitsBy rest jobs = Unit {0}
 
 abbrev pub Beside : (ℕ → Sight → Sight → Type 0) → Driver → Driver → Type 0
-Beside R old new = BySights R old.desk new.desk old.crew new.crew
+Beside R old new = BesideAt home R old new
 
 -- a packet is answered, or handed over to who works beside
-pub record Attends (item : Waiting) (old new : Driver) : Type 0 where
-  pub tends : Tends old new
-  pub answers : WorksAlone old → Answers old.desk new.desk
-  pub hands : Beside (λ n s t. (handed : Handed) × HandsOver handed item n s t × IsInHand handed) old new
+abbrev pub Attends : Waiting → Driver → Driver → Type 0
+Attends item old new = AttendsAt home Answers item old new
 
 -- what is done about an input
 abbrev pub Follows : Heard → Driver → Driver → Type 0
-Follows (heard.Packet item) old new = Attends item old new
-Follows rest old new = new ≡ old
+Follows heard old new = FollowsAt home (λ item. Answers) heard old new
 
 -- no packet waits, where somebody works beside
 pub record AwaitsAll (old new : Driver) : Type 0 where
@@ -60,18 +55,12 @@ pub record AwaitsAll (old new : Driver) : Type 0 where
   pub asked : Beside (λ n s t. Reaches Done s t) old new
 
 -- there is room for a packet, whatever others do until it is heard
-pub record MakesRoom (old new : Driver) : Type 0 where
-  pub tends : Tends old new
-  pub alone : WorksAlone old → new ≡ old
-  pub room : HasRoom (WorksAlone old) new.desk
-  pub asked : Beside (λ n s t. Reaches Room s t) old new
+abbrev pub MakesRoom : Driver → Driver → Type 0
+MakesRoom old new = MakesRoomAt home old new
 
 -- the same where a packet came
-pub record MakesRoomFor (input : Input) (old new : Driver) : Type 0 where
-  pub tends : Tends old new
-  pub alone : WorksAlone old → new ≡ old
-  pub room : is_packet input ≡ true → HasRoom (WorksAlone old) new.desk
-  pub asked : is_packet input ≡ true → Beside (λ n s t. Reaches Room s t) old new
+abbrev pub MakesRoomFor : Input → Driver → Driver → Type 0
+MakesRoomFor input old new = MakesRoomForAt home input old new
 
 -- what is told of an input
 abbrev pub came_of : Heard → Came

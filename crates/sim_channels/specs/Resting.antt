@@ -31,7 +31,8 @@ pub record DoesAt (here : ℕ) (old new : Driver) : Type 0 where
 pub record RestingLaws : Type 0 where
   -- what leaves the session of a device as it is gives the machine no message for it
   pub taken :
-      (at : ℕ) (old new : Driver) → IsKept old → IsKept new → session_at (at + 1) new.desk.now ≡ session_at (at + 1) old.desk.now → IsTaken at old → IsTaken at new
+      (at : ℕ) (old new : Driver) → IsKept old → IsKept new → session_at (at + 1) new.desk.now ≡ session_at (at + 1) old.desk.now
+      → IsTaken at old → IsTaken at new
   -- what was offered and what was heard stay so as long as the channel does
   pub offered : StandsByChannel IsOffered
   pub heard : StandsByChannel IsHeard
@@ -47,4 +48,6 @@ pub record RestingLaws : Type 0 where
   pub done : (old new : Driver) → IsKept old → OthersDid old new → IsDone old → IsDone new
   -- the bench of a driver at rest is calm, and still where all is done, as it is where nobody can work beside
   pub calm : (driver : Driver) (devices : List Meaning) → IsKept driver → IsAtRest driver → IsCalm (bench driver devices)
-  pub still : (driver : Driver) (devices : List Meaning) → IsKept driver → IsAtRest driver → IsSolo driver.desk.now ⊎ IsDone driver → IsStill (bench driver devices)
+  pub still :
+      (driver : Driver) (devices : List Meaning)
+      → IsKept driver → IsAtRest driver → IsSolo driver.desk.now ⊎ IsDone driver → IsStill (bench driver devices)

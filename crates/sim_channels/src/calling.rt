@@ -48,7 +48,7 @@ impl<'h> Driver<'h> {
         requires plugged { HasStage at Live self.old }
         requires within { at < length devices.old }
         requires short { length frame ≤ most_bytes }
-        ensures called { IfOk result (λ answer. IsCalled at port frame (is_failed answer) self.old (map D.meaning devices.old) self.new (map D.meaning devices.new)) }
+        ensures called { IfOk result (λ answer. IsAnswered at port frame answer self.old (map D.meaning devices.old) self.new (map D.meaning devices.new)) }
         ensures silent { result ≡ Ok Answer.Silent → IsAtRest self.new }
         ensures same { IsSame self.old self.new }
     {

@@ -36,7 +36,7 @@ use Rattle.sim_steps.proofs.Silent.{beside_along}
 use Rattle.sim_driver.specs.declared.drive.SimEnd.{SimEnd}
 use Rattle.sim_driver.specs.declared.drive.SimEnd.TheVariants as ends
 use Rattle.sim_driver.specs.Passes.{DroveAt, DroveBy, EndsAt, joined, untaken, with_memory}
-use Rattle.sim_driver.specs.Runs.{AllHadMemory, Ends, EndsWith, Given, IsAtRefused, IsBrokenOff, IsFollowed, IsFull, IsRunOf, IsToEnd, IsUnwritten, just}
+use Rattle.sim_driver.specs.Runs.{AllHadMemory, Ends, EndsWith, Given, IsAtRefused, IsBrokenOff, IsFollowed, IsFull, IsRunOf, IsUnwritten, is_whole, just}
 use Rattle.sim_driver.specs.Runs.{of_part, opened, orders, report}
 use Rattle.sim_driver.proofs.Going.{Known, report_append, run_of, settings_stay}
 use Rattle.desk_jobs.proofs.HadMemory.{had_at_all, had_joined}
@@ -51,19 +51,19 @@ pub record Told (end : SimEnd) (refused : Option (ℕ × ScriptRefusal)) (old ne
   pub spared : end ≢ ends.WriteFault → NoWriteFailed old new
 
 module _ (refused : Option (ℕ × ScriptRefusal)) (old new : SinkView) where
-  spared_whole : (end : SimEnd) → IsToEnd end → Told end refused old new → NoWriteFailed old new
+  spared_whole : (end : SimEnd) → is_whole end ≡ true → Told end refused old new → NoWriteFailed old new
   spared_whole ends.Done whole told = told.spared (λ e. absurd (cc))
   spared_whole (ends.Script line kind) whole told = told.spared (λ e. absurd (cc))
-  spared_whole end whole told = absurd whole
+  spared_whole end whole told = absurd (cc)
 
   told_short : NoWriteFailed old new → Told ends.NoMemory refused old new
   told_short spared = record { done = λ e. absurd (cc); script = tt; fault = λ e. absurd (cc); spared = λ n. spared }
 
   pub told_memory : (end : SimEnd) (had : Bool) → Told end refused old new → Told (with_memory end had) refused old new
   told_memory ends.Done true told = told
-  told_memory ends.Done false told = told_short (spared_whole ends.Done tt told)
+  told_memory ends.Done false told = told_short (spared_whole ends.Done refl told)
   told_memory (ends.Script line kind) true told = told
-  told_memory (ends.Script line kind) false told = told_short (spared_whole (ends.Script line kind) tt told)
+  told_memory (ends.Script line kind) false told = told_short (spared_whole (ends.Script line kind) refl told)
   told_memory end had told = told
 
 -- ---- where memory ran out
@@ -106,12 +106,12 @@ with_memory_drove end had g refused desk after old new (text, e, wrote) told mem
     ends_so (ends.Script line kind) false e = inl (short_of g after desk.past text e)
     ends_so end had e = e
 
-    had_so : (end : SimEnd) (had : Bool) → IsToEnd (with_memory end had) → had ≡ true
+    had_so : (end : SimEnd) (had : Bool) → is_whole (with_memory end had) ≡ true → had ≡ true
     had_so ends.Done true whole = refl
-    had_so ends.Done false whole = absurd whole
+    had_so ends.Done false whole = absurd (cc)
     had_so (ends.Script line kind) true whole = refl
-    had_so (ends.Script line kind) false whole = absurd whole
-    had_so end had whole = absurd whole
+    had_so (ends.Script line kind) false whole = absurd (cc)
+    had_so end had whole = absurd (cc)
 
 -- ---- what others did behind it
 
@@ -311,19 +311,19 @@ module _ (calls : CallsAreTurns) (nothing : NothingChanges) (stays : MostStays) 
   ends_on ends.Worn outcome after number text (h, full) few worn = (broken_on text h, omega (arith, full, few))
 
 -- a run that came to its end beside workers did so with all of them
-whole_joined : (end : SimEnd) (outcome : Worked) → IsToEnd (joined end outcome) → IsToEnd end × (done : Unit {0}) × (outcome ≡ Ok done)
-whole_joined ends.Done (Ok done) whole = (tt, done, refl)
-whole_joined ends.Done (Err gave_up.NoMemory) whole = absurd whole
-whole_joined ends.Done (Err gave_up.Worn) whole = absurd whole
-whole_joined (ends.Script line kind) (Ok done) whole = (tt, done, refl)
-whole_joined (ends.Script line kind) (Err gave_up.NoMemory) whole = absurd whole
-whole_joined (ends.Script line kind) (Err gave_up.Worn) whole = absurd whole
-whole_joined end outcome whole = absurd whole
+whole_joined : (end : SimEnd) (outcome : Worked) → is_whole (joined end outcome) ≡ true → (is_whole end ≡ true) × (done : Unit {0}) × (outcome ≡ Ok done)
+whole_joined ends.Done (Ok done) whole = (refl, done, refl)
+whole_joined ends.Done (Err gave_up.NoMemory) whole = absurd (cc)
+whole_joined ends.Done (Err gave_up.Worn) whole = absurd (cc)
+whole_joined (ends.Script line kind) (Ok done) whole = (refl, done, refl)
+whole_joined (ends.Script line kind) (Err gave_up.NoMemory) whole = absurd (cc)
+whole_joined (ends.Script line kind) (Err gave_up.Worn) whole = absurd (cc)
+whole_joined end outcome whole = absurd (cc)
 
 joined_memory : (end : SimEnd) (outcome : Worked) (start : State) (budget : ℕ) (mine x : PassView) (account w : Account Waiting)
-    → (IsToEnd end → HadMemory (calls_of (turns_along start mine.seen)) mine.own)
+    → (is_whole end ≡ true → HadMemory (calls_of (turns_along start mine.seen)) mine.own)
     → Toiled (λ item told made. Makes budget item told made) mine account outcome x w → AreAllPositions (length x.seen) x.own
-    → IsToEnd (joined end outcome) → AllHadMemory (turns_along start x.seen)
+    → is_whole (joined end outcome) ≡ true → AllHadMemory (turns_along start x.seen)
 joined_memory end outcome start budget mine x account w memory toiled all whole =
     let is = whole_joined end outcome whole in
     let went_on = subst (λ (o : Worked). Toiled (λ item told made. Makes budget item told made) mine account o x w) is.2 toiled in
@@ -358,7 +358,7 @@ joined_ends calls nothing stays end outcome g known refused start is beside budg
               end outcome after mine.number drove.ends.0 drove.ends.1 (long_enough start x mine.seen rest mine.number since.1 (omega (arith, number, few)))
               (λ worn. long_enough start x mine.seen rest (2 ^ 62) since.1 (omega (arith, toiled.worn worn, few)));
           memory =
-              subst (λ cs. IsToEnd (joined end outcome) → AllHadMemory (turns_along start cs)) since.1
+              subst (λ cs. is_whole (joined end outcome) ≡ true → AllHadMemory (turns_along start cs)) since.1
               (joined_memory end outcome start budget mine x account w drove.memory toiled all);
         },
       ),

@@ -31,9 +31,9 @@ use Rattle.sim_channels.specs.declared.driver.Driver.{Driver}
 use Rattle.sim_channels.specs.Channels.{bench}
 use Rattle.sim_driver.specs.declared.drive.SimEnd.{SimEnd}
 use Rattle.sim_driver.specs.declared.drive.SimEnd.TheVariants as ends
-use Rattle.sim_driver.specs.Passes.{Breaks, DeedLaws, EndsAt, Finished, IsFinished, IsMarked, IsReady, IsReported, IsUnreported, Passed, end_of, is_whole}
+use Rattle.sim_driver.specs.Passes.{Breaks, DeedLaws, EndsAt, Finished, IsFinished, IsMarked, IsReady, IsReported, IsUnreported, Passed, end_of}
 use Rattle.sim_driver.specs.Passes.{untaken}
-use Rattle.sim_driver.specs.Runs.{AllHadMemory, Ends, EndsOver, EndsWith, Given, GoesOnFrom, IsBrokenOff, IsFollowed, IsRunOf, IsToEnd, IsUnwritten, just}
+use Rattle.sim_driver.specs.Runs.{AllHadMemory, Ends, EndsOver, EndsWith, Given, GoesOnFrom, IsBrokenOff, IsFollowed, IsRunOf, IsUnwritten, is_whole, just}
 use Rattle.sim_driver.specs.Runs.{of_part, opened, orders, report}
 use Rattle.sim_driver.proofs.Parting.{Parts, Stands, part_follows, parts_follow, parts_run, parts_then}
 use Rattle.sim_driver.proofs.Taking.{bench_devices}
@@ -368,7 +368,7 @@ never_begun g known after number history none old =
 
 -- a front of it was read
 pub closed : (end : SimEnd) (g : Given) (after : List Meaning) (number : ℕ) (history : List Turn) (old new : SinkView) → number ≤ length history
-    → (IsToEnd end → AllHadMemory history) → EndsOver end g after number history old new → Ends end g after old new
+    → (is_whole end ≡ true → AllHadMemory history) → EndsOver end g after number history old new → Ends end g after old new
 closed end g after number history old new few memory (text, e, wrote) = (text, (history, record { ends = go end e; memory = memory }), wrote)
   where
     go : (end : SimEnd) → EndsWith end g after number history text → EndsWith end g after (length history) history text

@@ -21,7 +21,7 @@ use Rattle.sim_laws.specs.Laws.{AgreeLaw, HistoryLaw, PastLaw, ReportLaw, WorldL
 use Rattle.sim_channels.specs.declared.driver.Driver.{Driver}
 use Rattle.sim_channels.specs.Channels.{EntersNext, Fits, IsAtStart, OthersDid, bench}
 use Rattle.sim_channels.specs.Waiting.{IsAtRest, IsDone}
-use Rattle.desk_jobs.specs.Crews.{ended_with, told_memory}
+use Rattle.desk_jobs.specs.Crews.{EndsOf, joined as joined_by, with_memory as memory_by}
 use Rattle.machine_desk.specs.declared.report.ReportStop.{ReportStop}
 use Rattle.machine_desk.specs.declared.report.ReportStop.TheVariants.{Failed, NoMemory, Worn}
 use Rattle.machine_desk.specs.Desks.{DeskView, HadMemory, calls_of}
@@ -36,10 +36,8 @@ use Rattle.machine_sharing.specs.Legal.{turns_of}
 use Rattle.sim_driver.specs.declared.drive.SimEnd.{SimEnd}
 use Rattle.sim_driver.specs.declared.drive.SimEnd.TheVariants as ends
 use Rattle.sim_driver.specs.declared.drive.SimEnd.TheVariants.{Done, WriteFault}
-use Rattle.sim_driver.specs.Runs.{EndsOver, Given, IsAtRefused, IsToEnd, devices_of, given}
-use Rattle.worker_crew.specs.declared.gave_up.GaveUp.{GaveUp}
-use Rattle.worker_crew.specs.declared.gave_up.GaveUp.TheVariants as gave_up
 use Rattle.worker_crew.specs.Tasks.{Worked}
+use Rattle.sim_driver.specs.Runs.{EndsOver, Given, IsAtRefused, devices_of, given, is_whole}
 
 -- what holds of all deeds
 pub record DeedLaws : Type 0 where
@@ -118,7 +116,7 @@ EndsAt end g desk after old new = EndsOver end g after desk.number desk.past old
 pub record Drove (end : SimEnd) (g : Given) (refused : Option (ℕ × ScriptRefusal)) (after : List Meaning) (number : ℕ) (history : List Turn) (own : List ℕ)
     (old new : SinkView) : Type 0 where
   pub ends : EndsOver end g after number history old new
-  pub memory : IsToEnd end → HadMemory (calls_of history) own
+  pub memory : is_whole end ≡ true → HadMemory (calls_of history) own
   pub done : end ≡ Done → refused ≡ None
   pub script : IsAtRefused end refused
   pub fault : end ≡ WriteFault → WriteFailed old new
@@ -132,24 +130,17 @@ DroveAt end g refused desk after old new = Drove end g refused after desk.number
 abbrev pub DroveBy : SimEnd → Given → Option (ℕ × ScriptRefusal) → State → List Meaning → PassView → SinkView → SinkView → Type 0
 DroveBy end g refused start after k old new = Drove end g refused after k.number (turns_of start k.seen) k.own old new
 
--- the script came to its end, or to a line that is refused
-abbrev pub is_whole : SimEnd → Bool
-is_whole ends.Done = true
-is_whole (ends.Script line kind) = true
-is_whole end = false
-
--- how it ends then at which somebody gave up
-abbrev pub given_up : GaveUp → SimEnd
-given_up gave_up.NoMemory = ends.NoMemory
-given_up gave_up.Worn = ends.Worn
+-- how a run may end, for who gave up
+abbrev pub sim_ends : EndsOf SimEnd
+sim_ends = record { no_memory = ends.NoMemory; worn = ends.Worn; is_whole = is_whole }
 
 -- how a run ends whose workers ended so: where the script came to its end, as the first of them that gave up
 abbrev pub joined : SimEnd → Worked → SimEnd
-joined end outcome = ended_with given_up (is_whole end) end outcome
+joined end outcome = joined_by sim_ends end outcome
 
 -- how a run ends whose lines ended so, by whether memory sufficed for the calls of who drove it
 abbrev pub with_memory : SimEnd → Bool → SimEnd
-with_memory end had = joined end (told_memory had)
+with_memory end had = memory_by sim_ends end had
 
 abbrev pub end_of : ReportStop → SimEnd
 end_of Failed = ends.WriteFault

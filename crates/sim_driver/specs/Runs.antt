@@ -1,15 +1,13 @@
 -- A run of a script over devices, and how it ends.
-use Rattle.std.specs.Prelude.{◌≡◌, ◌⊎◌, ℕ, ◌≤◌, map, List, [], ◌∷◌, ◌++◌, Option, Some, None, length}
-use Rattle.std.specs.List.{flat_map}
+use Rattle.std.specs.Prelude.{◌≡◌, ◌⊎◌, ℕ, ◌≤◌, Bool, true, false, map, List, [], ◌∷◌, ◌++◌, Option, Some, None, length}
 use Rattle.std.specs.declared.vec.Vec.{Vec}
 use Rattle.maple_base.specs.declared.decision.Settings.{Settings}
 use Rattle.maple_io.specs.Views.{SinkView, Wrote}
 use Rattle.policy_lang.specs.declared.Policy.{Policy}
 use Rattle.report_text.specs.declared.line.ScriptRefusal.{ScriptRefusal}
-use Rattle.report_text.specs.Report.{spelled}
 use Rattle.device_port.specs.Devices.{Meaning}
 use Rattle.history_lock.specs.Histories.{StartsWith}
-use Rattle.machine_steps.specs.Histories.{Leads, Turn, report_of}
+use Rattle.machine_steps.specs.Histories.{Leads, Turn}
 use Rattle.machine_steps.specs.Machine.{State, opening}
 use Rattle.script_text.specs.Lines.{ended_lines}
 use Rattle.script_text.specs.Orders.{Order, orders_of, refused_from}
@@ -18,6 +16,7 @@ use Rattle.sim_steps.specs.Agreeing.{AllAgree}
 use Rattle.sim_steps.specs.Benches.{Bench, IsSolo, Slot, opening_bench}
 use Rattle.sim_steps.specs.Deeds.{Event, Runs, turns_of}
 pub use Rattle.sim_steps.specs.Ends.{AllHadMemory, most_entries}
+use Rattle.sim_steps.specs.Ends.{told_by}
 use Rattle.sim_steps.specs.Parts.{Follows, IsPart, IsStill}
 use Rattle.sim_steps.specs.Showing.{AllKeep}
 use Rattle.sim_laws.specs.Laws.{AreWorldRun}
@@ -69,7 +68,7 @@ pub record IsRunOf (g : Given) (es : List Event) (b : Bench) : Type 0 where
 
 -- the lines of the report of the deeds
 abbrev pub report : List Event → List ℕ
-report es = flat_map spelled (report_of (turns_of es))
+report es = told_by (turns_of es)
 
 -- the devices, from place 1 on
 abbrev pub devices_of : Bench → List Meaning
@@ -160,15 +159,15 @@ abbrev pub EndsOver : SimEnd → Given → List Meaning → ℕ → List Turn �
 EndsOver end g after number history old new = (text : List ℕ) × EndsWith end g after number history text × Wrote old new text
 
 -- the script came to its end, or to a line that is refused
-abbrev pub IsToEnd : SimEnd → Type 0
-IsToEnd Done = Unit {0}
-IsToEnd (Script line kind) = Unit {0}
-IsToEnd end = ⊥
+abbrev pub is_whole : SimEnd → Bool
+is_whole Done = true
+is_whole (Script line kind) = true
+is_whole end = false
 
 -- how a run ends that wrote this text, where the machine has this history in the end
 pub record EndsBy (end : SimEnd) (g : Given) (after : List Meaning) (history : List Turn) (text : List ℕ) : Type 0 where
   pub ends : EndsWith end g after (length history) history text
-  pub memory : IsToEnd end → AllHadMemory history
+  pub memory : is_whole end ≡ true → AllHadMemory history
 
 -- where it has some history
 abbrev pub HasEnded : SimEnd → Given → List Meaning → List ℕ → Type 0

@@ -4,13 +4,12 @@ use Rattle.std.specs.Prelude.{Option, Some, None}
 use Rattle.std.specs.List.{AllByRecursion}
 use Rattle.std.proofs.lemmas.Grind.{flat_map-append}
 use Rattle.std.proofs.lemmas.List.Elements.{filter-append}
-use Rattle.machine_steps.specs.declared.entry.Entry.{Entry}
 use Rattle.script_text.specs.Orders.{Order}
 use Rattle.sim_steps.specs.Agreeing.{taken_report, taken_text}
 use Rattle.sim_steps.specs.Benches.{Bench, IsSolo}
 use Rattle.sim_steps.specs.Deeds.{Event, Runs}
 use Rattle.sim_steps.specs.Parts.{FaultsEnd, HadMemory, IsCalm, IsDrained, IsInOrder, IsStill, Obeys, asked_of, failed_in, is_asked}
-use Rattle.sim_steps.specs.Stretches.{Asked, Carried, Obeyed, Stretch}
+use Rattle.sim_steps.specs.Stretches.{Carried, Obeyed, Stretch}
 
 -- ---- lists of deeds
 

@@ -14,7 +14,7 @@ use Rattle.sim_steps.specs.Benches.{Bench}
 use Rattle.sim_steps.specs.Deeds.{CallsAt, EntersAt, Event, Happens, Runs, has_failed, reply_in}
 use Rattle.sim_steps.specs.Deeds.Deed.{Enters, Calls}
 use Rattle.sim_steps.specs.Parts.{FaultsEnd, HadMemory, HearsInOrder, IsDrained, IsFault, IsInOrder, asked_of, asks, failed_in, is_asked}
-use Rattle.sim_steps.specs.Stretches.{Asked, Beside, Carried, Stretch}
+use Rattle.sim_steps.specs.Stretches.{Beside, Carried, Stretch}
 use Rattle.sim_steps.proofs.Joining.{all_append, asked_then, report_then, runs_then}
 use Rattle.sim_steps.proofs.Others.{beside_in_order, beside_silent, beside_skip, beside_unasked}
 

@@ -1,5 +1,5 @@
 -- Turns of the machine that touch no device, one behind the other: reads, and what answers packets.
-use Rattle.std.proofs.Common.{◌≡◌, Bool, true, false, List, [], ◌∷◌, ◌++◌, map, append-nil, refl, sym, ap, ◌∙◌, subst}
+use Rattle.std.proofs.Common.{◌≡◌, true, false, List, [], ◌∷◌, ◌++◌, map, append-nil, refl, sym, ap, ◌∙◌, subst}
 use Rattle.std.specs.List.{AllByRecursion}
 use Rattle.std.proofs.lemmas.List.{append_assoc, map-append}
 use Rattle.history_lock.specs.Histories.{AreAllowed}
@@ -15,10 +15,8 @@ use Rattle.machine_steps.proofs.Changes.{changes}
 use Rattle.machine_sharing.specs.Legal.{call_of}
 use Rattle.machine_sharing.specs.Sharing.{Allows, Call}
 use Rattle.world_steps.specs.Worlds.{lacks_memory}
-use Rattle.sim_steps.specs.Agreeing.{taken_text}
 use Rattle.sim_steps.specs.Benches.{Bench, IsSolo}
 use Rattle.sim_steps.specs.Deeds.{EntersAt, IsSmooth, turn_by}
-use Rattle.sim_steps.specs.Deeds.Deed.{Enters}
 use Rattle.sim_steps.specs.Parts.{asks}
 use Rattle.sim_steps.specs.Stretches.{Beside, Carried}
 use Rattle.sim_steps.proofs.Joining.{carried_none, carried_then, stretch_between}

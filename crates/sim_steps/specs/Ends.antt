@@ -1,12 +1,17 @@
 -- What is said of a whole history at the end of a run, of `sim` and of `serve`.
 use Rattle.std.specs.Prelude.{◌≢◌, ℕ, ◌^◌, List}
-use Rattle.std.specs.List.{AllByRecursion}
-use Rattle.machine_steps.specs.Histories.{Turn}
+use Rattle.std.specs.List.{AllByRecursion, flat_map}
+use Rattle.report_text.specs.Report.{spelled}
+use Rattle.machine_steps.specs.Histories.{Turn, report_of}
 use Rattle.machine_steps.specs.declared.reply.Reply.TheVariants.{NoMemory}
 
 -- memory sufficed for each turn
 abbrev pub AllHadMemory : List Turn → Type 0
 AllHadMemory history = AllByRecursion (λ (t : Turn). t.reply ≢ NoMemory) history
+
+-- the lines of its report
+abbrev pub told_by : List Turn → List ℕ
+told_by history = flat_map spelled (report_of history)
 
 -- the most entries: with so many no further one is taken
 abbrev pub most_entries : ℕ

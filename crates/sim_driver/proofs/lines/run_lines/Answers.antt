@@ -6,7 +6,8 @@ use Rattle.script_text.specs.Steps.{order_with}
 use Rattle.sim_steps.specs.Benches.{Bench}
 use Rattle.sim_channels.proofs.Others.{crew_then, same_crew}
 use Rattle.sim_driver.specs.declared.drive.SimEnd.{SimEnd}
-use Rattle.sim_driver.specs.Passes.{EndsAt, given_at, is_whole}
+use Rattle.sim_driver.specs.Passes.{EndsAt, given_at}
+use Rattle.sim_driver.specs.Runs.{is_whole}
 use Rattle.sim_driver.proofs.Going.{Known, broken_off, followed, marked_hall, stopped_behind, stopped_in, went_further, went_none}
 use Rattle.sim_driver.proofs.lines.run_lines.Goals.{then-is_empty, else-is_empty+in-Err-End, else-is_empty+in-Err-Refused}
 use Rattle.sim_driver.proofs.lines.run_lines.Goals as goal
