@@ -1,10 +1,11 @@
 -- A driver of any kind, by its desk and by who works beside it: what it does with others about packets that wait.
-use Rattle.std.specs.Prelude.{◌≡◌, ℕ, true, false, Option, is_some}
+use Rattle.std.specs.Prelude.{◌≡◌, ℕ, true, false, [], length, Option, Some, None, is_some}
 use Rattle.machine_steps.specs.declared.entry.Input.{Input}
 use Rattle.machine_steps.specs.Waiting.{Waiting}
 use Rattle.machine_desk.specs.Desks.{DeskView}
 use Rattle.machine_desk.specs.declared.hearing.Heard.{Heard}
 use Rattle.machine_desk.specs.declared.hearing.Heard.TheVariants as heard
+use Rattle.machine_desk.specs.declared.inbound.Inbound.{Inbound}
 use Rattle.desk_jobs.specs.declared.crew.Crew.{Crew}
 use Rattle.desk_jobs.specs.declared.tending.Handed.{Handed}
 use Rattle.desk_jobs.specs.Arriving.{HasRoom, is_packet}
@@ -34,6 +35,10 @@ abbrev pub Beside : {D : Type 0} → Home D → (ℕ → Sight → Sight → Typ
 Beside home R old new = BySights R (home.desk old) (home.desk new) (home.crew old) (home.crew new)
 
 -- ---- packets that wait
+
+-- none waits for an answer
+abbrev pub NoneWaits : DeskView → Type 0
+NoneWaits desk = desk.now.jobs ≡ []
 
 -- it and others did what anybody may, of packets that wait, and nothing else changed but the crew's pass
 pub record IsTended {D : Type 0} (home : Home D) (old new : D) : Type 0 where
@@ -65,3 +70,8 @@ pub record Attends {D : Type 0} (home : Home D) (Answers : DeskView → DeskView
 abbrev pub Follows : {D : Type 0} → Home D → (Waiting → DeskView → DeskView → Type 0) → Heard → D → D → Type 0
 Follows home Answers (heard.Packet item) old new = Attends home (Answers item) item old new
 Follows home Answers rest old new = new ≡ old
+
+-- how many bytes that came of a connection are to be heard yet, if there is one
+abbrev pub rest_of : {K : Type 0} → (K → Inbound) → Option K → ℕ
+rest_of inbound None = 0
+rest_of inbound (Some k) = length (inbound k).from.stream.rest

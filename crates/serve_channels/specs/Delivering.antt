@@ -21,6 +21,7 @@ use Rattle.machine_desk.specs.Hearing.{is_live}
 use Rattle.machine_desk.specs.Hearing.{Closes as EndsSession}
 use Rattle.machine_desk.specs.Orders.{Asks}
 use Rattle.world_steps.specs.Worlds.{messages_for}
+use Rattle.desk_jobs.specs.Homes.{NoneWaits}
 use Rattle.serve_steps.specs.Deeds.{Past, acts_of, last_answer, takes_out, turns_of}
 use Rattle.serve_steps.specs.Deeds.Deed.{Does}
 use Rattle.serve_steps.specs.Parts.{Given}
@@ -115,18 +116,18 @@ AllTaken s = (at : ℕ) → TakenAt at s
 
 -- no packet waits, and the machine has nothing for an open session: so it stays, whatever anybody else does
 pub record IsStill (s : Server) : Type 0 where
-  pub none : s.desk.now.jobs ≡ []
+  pub none : NoneWaits s.desk
   pub taken : AllTaken s
 
 -- no packet waits behind it; and where no send failed nothing waits for this connection, nor for another for which nothing did
 pub record Empties (at : ℕ) (failed : Bool) (old new : Server) : Type 0 where
-  pub none : new.desk.now.jobs ≡ []
+  pub none : NoneWaits new.desk
   pub own : failed ≡ false → TakenAt at new
   pub others : failed ≡ false → (n : ℕ) → n ≢ at → TakenAt n old → TakenAt n new
 
 -- the same of all
 pub record EmptiesAll (failed : Bool) (new : Server) : Type 0 where
-  pub none : new.desk.now.jobs ≡ []
+  pub none : NoneWaits new.desk
   pub all : failed ≡ false → AllTaken new
 
 -- what the machine has for the connection with this index was taken out, and stands behind what wasn't sent yet

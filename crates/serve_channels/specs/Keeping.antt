@@ -11,6 +11,7 @@ use Rattle.machine_steps.specs.Machine.{opening}
 use Rattle.machine_steps.specs.Machine.{was_opened as was_session}
 use Rattle.machine_desk.specs.Hearing.{is_live, was_begun}
 use Rattle.desk_jobs.specs.Crews.{MayHave}
+use Rattle.desk_jobs.specs.Homes.{NoneWaits}
 use Rattle.sim_steps.specs.Agreeing.{AreCut}
 use Rattle.serve_steps.specs.Deeds.{Past, acts_of, bytes_of, has_failed, inputs_of, is_open, is_over, taken_of, turns_of, was_accepted, was_cut}
 use Rattle.serve_steps.specs.Parts.{Given}
@@ -83,7 +84,7 @@ pub record Keeps (g : Given) (before : List Act) (past : Past) (log : List Act) 
 
 -- with nobody beside the server none waits
 abbrev pub IsKept : Given → List Act → Past → List Act → Server → Type 0
-IsKept g before past log s = Keeps g before past log s (WorksAlone s → s.desk.now.jobs ≡ [])
+IsKept g before past log s = Keeps g before past log s (WorksAlone s → NoneWaits s.desk)
 
 -- so it is of some deeds
 pub record IsServing (log : List Act) (s : Server) : Type 0 where

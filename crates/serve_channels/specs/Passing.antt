@@ -1,5 +1,5 @@
 -- One message that is heard: room for the packet in it, the entry, and what is done about its reply.
-use Rattle.std.specs.Prelude.{◌≡◌, ℕ, ◌<◌, true, false, List, [], ◌++◌, length, map, set, Option, Some, None, IfSome}
+use Rattle.std.specs.Prelude.{◌≡◌, ℕ, ◌<◌, true, false, List, [], ◌++◌, map, set, Option, Some, IfSome}
 use Rattle.std.specs.List.{slice_get}
 use Rattle.maple_io.specs.declared.act.Act.{Act}
 use Rattle.machine_steps.specs.declared.entry.Entry.{Entry}
@@ -14,7 +14,7 @@ use Rattle.machine_desk.specs.declared.hearing.Heard.TheVariants as heard
 use Rattle.machine_desk.specs.declared.inbound.Inbound.{Inbound}
 use Rattle.packet_workers.specs.declared.worked.Worked.{Worked}
 use Rattle.desk_jobs.specs.Crews.{IsCrew}
-use Rattle.desk_jobs.specs.Homes.{Attends as AttendsAt, Follows as FollowsAt, MakesRoom as MakesRoomAt, MakesRoomFor as MakesRoomForAt, IsTended}
+use Rattle.desk_jobs.specs.Homes.{Attends as AttendsAt, Follows as FollowsAt, MakesRoom as MakesRoomAt, MakesRoomFor as MakesRoomForAt, IsTended, rest_of}
 use Rattle.desk_jobs.specs.Tending.{IsWhole}
 use Rattle.sim_steps.specs.Agreeing.{AreCut}
 use Rattle.serve_steps.specs.Deeds.{Past, bytes_of, inputs_of, is_open, was_accepted}
@@ -76,8 +76,7 @@ came_of rest = came.Message
 
 -- how many bytes of a connection are to be heard yet
 abbrev pub rest_in : Option Connection → ℕ
-rest_in None = 0
-rest_in (Some k) = length k.inbound.from.stream.rest
+rest_in k = rest_of (λ (c : Connection). c.inbound) k
 
 abbrev pub rest_at : ℕ → Server → ℕ
 rest_at at s = rest_in (slice_get s.connections.items at)

@@ -1,5 +1,5 @@
 -- How a run ends, as who drove it knows: what others do behind the driver's last call is still to come.
-use Rattle.std.specs.Prelude.{◌≡◌, ◌≢◌, ℕ, ◌≤◌, Bool, true, false, List, [], ◌++◌, Some, Result, Ok, Err}
+use Rattle.std.specs.Prelude.{◌≡◌, ◌≢◌, ℕ, Bool, true, false, List, [], ◌++◌, Some, Result, Ok, Err}
 use Rattle.maple_io.specs.declared.act.Act.{Act}
 use Rattle.maple_io.specs.Boards.{BoardFailed, BoardView, NoBoardFailed}
 use Rattle.maple_io.specs.Views.{NoWriteFailed, SinkView, WriteFailed, Wrote}
@@ -19,7 +19,7 @@ use Rattle.serve_steps.specs.declared.end.ServeEnd.TheVariants.{BoardFault, Writ
 use Rattle.serve_steps.specs.Deeds.{Past, acts_of, turns_of}
 use Rattle.serve_steps.specs.Laws.{IsScriptOnly}
 use Rattle.serve_steps.specs.Parts.{AreCutAtTurns, AreOpenedOnce, Given, Part, deeds_of, has_ended, state_of}
-use Rattle.serve_steps.specs.Runs.{AreParts, ArePartsButLast, IsAtRest, IsBrokenOff, IsLastAsked, most_entries, report, spares_board, taken_report}
+use Rattle.serve_steps.specs.Runs.{AreParts, ArePartsButLast, IsAtRest, IsBrokenOff, IsFull, IsLastAsked, report, spares_board, taken_report}
 use Rattle.serve_steps.specs.Texts.{first_refused, script_asks}
 use Rattle.serve_pump.specs.declared.pump.Pump.{Pump}
 use Rattle.serve_pump.specs.declared.pump.TurnStop.{TurnStop}
@@ -65,7 +65,7 @@ EndsSoFar ends.Done g number first parts text = IsDoneSoFar g first parts text
 EndsSoFar (ends.Script line kind) g number first parts text = IsRefusedSoFar line kind g first parts text
 EndsSoFar WriteFault g number first parts text = IsBrokenOff g first parts text
 EndsSoFar BoardFault g number first parts text = IsFailedSoFar g first parts text
-EndsSoFar ends.Worn g number first parts text = IsBrokenOff g first parts text × (most_entries ≤ number)
+EndsSoFar ends.Worn g number first parts text = IsBrokenOff g first parts text × IsFull number
 EndsSoFar ends.NoMemory g number first parts text = IsBrokenOff g first parts text
 
 -- the history and the board's log are cut into these parts, and it ended so

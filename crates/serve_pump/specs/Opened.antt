@@ -1,5 +1,5 @@
 -- A hall that was just opened, and its desk.
-use Rattle.std.specs.Prelude.{◌≡◌, ◌≢◌, [], Option, Some, None, IfSome}
+use Rattle.std.specs.Prelude.{◌≡◌, [], Option, Some, None, IfSome}
 use Rattle.maple_io.specs.Boards.{BoardView}
 use Rattle.maple_io.specs.Views.{SinkView}
 use Rattle.machine_desk.specs.declared.opening.Opening.{Opening}
@@ -7,6 +7,7 @@ use Rattle.machine_desk.specs.Desks.{DeskView}
 use Rattle.machine_desk.specs.Openings.{IsAhead, IsMachineOf}
 use Rattle.machine_steps.specs.Machine.{opening}
 use Rattle.packet_workers.specs.Adding.{PassView}
+use Rattle.sim_steps.specs.Benches.{IsSolo}
 use Rattle.serve_steps.specs.declared.end.ServeEnd.{ServeEnd}
 use Rattle.serve_steps.specs.Parts.{Given}
 use Rattle.serve_pump.specs.declared.startup.Startup.{Startup}
@@ -32,7 +33,7 @@ given_over o startup = given_by o.start.value startup
 -- the pass is of a hall that was just opened with these, whose settings have workers
 pub record IsReadyWith (o : Opening) (k : PassView) : Type 0 where
   pub opened : IsOpening k o
-  pub beside : o.start.value.settings.workers ≢ 0
+  pub beside : IsSolo o.start.value → ⊥
 
 -- the run hasn't begun yet
 abbrev pub IsReadyBeside : Option Opening → PassView → Type 0

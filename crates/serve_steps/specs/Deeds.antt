@@ -13,12 +13,14 @@ use Rattle.machine_steps.specs.declared.entry.Entry.TheVariants as entries
 use Rattle.machine_steps.specs.declared.entry.Input.{Input}
 use Rattle.machine_steps.specs.declared.reply.Reply.{Reply}
 use Rattle.machine_steps.specs.declared.reply.Reply.TheVariants as replies
+pub use Rattle.machine_steps.specs.Effects.{tells_end}
 use Rattle.machine_steps.specs.Histories.{Turn}
 use Rattle.machine_sharing.specs.Legal.{call_of}
 use Rattle.machine_sharing.specs.Sharing.{Call}
 use Rattle.machine_steps.specs.Machine.{State}
 use Rattle.sim_steps.specs.Agreeing.{heard_in}
 use Rattle.sim_steps.specs.Deeds.Deed.{Enters as EntersAtBench}
+use Rattle.sim_steps.specs.Parts.{is_shared}
 
 pub data Deed : Type 0 where
   -- the machine is given an entry, and replies
@@ -78,12 +80,7 @@ is_asked entry = false
 
 -- one that a thread beside the driver may make
 abbrev pub is_others : Entry → Bool
-is_others (entries.ReadCell cell) = true
-is_others entries.ReadPolicy = true
-is_others entries.OpenJobs = true
-is_others (entries.Commit job run) = true
-is_others (entries.Decide job) = true
-is_others entry = false
+is_others entry = is_shared entry
 
 -- one at which the session of this connection can end
 abbrev pub is_of : ℕ → Entry → Bool
@@ -93,10 +90,6 @@ is_of c (entries.Gone d fault) = d == c
 is_of c entry = false
 
 -- ---- the session of a connection, read off the replies
-
-abbrev pub tells_end : Reply → Bool
-tells_end (replies.Ended end) = true
-tells_end reply = false
 
 abbrev pub tells_link_end : Reply → Bool
 tells_link_end (replies.Ended LinkEnd) = true

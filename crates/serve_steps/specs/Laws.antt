@@ -1,12 +1,10 @@
 -- What holds of all runs.
 use Rattle.std.specs.Prelude.{◌≡◌, ◌↔◌, ℕ, Bool, if◌then◌else◌, true, false, map, List, [], ◌∷◌, ◌++◌, None}
-use Rattle.std.specs.List.{flat_map}
 use Rattle.std.specs.Option.{option_to_list}
 use Rattle.maple_io.specs.Fronts.{IsFront}
 use Rattle.maple_io.specs.declared.act.Act.{Act}
 use Rattle.maple_io.specs.declared.board.Turn.TheVariants as turn
 use Rattle.maple_io.specs.Boards.{sent}
-use Rattle.report_text.specs.Report.{spelled}
 use Rattle.board_lines.specs.declared.control_item.ControlItem.{ControlItem}
 use Rattle.board_lines.specs.ControlItems.{items_of}
 use Rattle.board_lines.specs.KeptTexts.{kept_text}
@@ -14,6 +12,7 @@ use Rattle.board_lines.specs.Laws.{given_by, held_behind}
 use Rattle.board_lines.specs.Readings.{beginning, last_item}
 use Rattle.of10_stream.specs.Cut.{IsOpen}
 use Rattle.sim_steps.specs.Agreeing.{AreCut}
+use Rattle.sim_steps.specs.Ends.{untaken}
 use Rattle.machine_steps.specs.declared.entry.Entry.{Entry}
 use Rattle.machine_steps.specs.declared.entry.Entry.TheVariants as entries
 use Rattle.machine_steps.specs.Histories.{Turn, IsTurn, Leads}
@@ -196,7 +195,7 @@ TakenStaysInEnd = (ended : Bool) → TakenStaysIn (λ (g : Given) (first : Past)
 abbrev pub ReportIsTold : Type 0
 ReportIsTold =
     (g : Given) (past : Past) (last : State) → Leads (opening g.policy g.settings) (turns_of past) last
-    → report past ≡ taken_report past ++ flat_map spelled last.lines
+    → report past ≡ taken_report past ++ untaken last
 
 -- ---- the control text, as it comes
 

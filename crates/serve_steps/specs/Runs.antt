@@ -1,5 +1,5 @@
 -- A run of `serve`, and what it is at each of its ends.
-use Rattle.std.specs.Prelude.{◌≡◌, ◌≢◌, ◌⊎◌, ℕ, ◌≤◌, Bool, true, false, List, [], ◌∷◌, ◌++◌, length, Some, None}
+use Rattle.std.specs.Prelude.{◌≡◌, ◌≢◌, ◌⊎◌, ℕ, Bool, true, false, List, [], ◌∷◌, ◌++◌, length, Some, None}
 use Rattle.std.specs.List.{list_all}
 use Rattle.maple_io.specs.Fronts.{IsFront}
 use Rattle.maple_io.specs.Views.{SinkView, Wrote, WriteFailed, NoWriteFailed}
@@ -17,7 +17,7 @@ use Rattle.serve_steps.specs.declared.end.ServeEnd.{ServeEnd}
 use Rattle.serve_steps.specs.declared.end.ServeEnd.TheVariants.{Done, Script, WriteFault, BoardFault, Worn, NoMemory}
 use Rattle.sim_steps.specs.Agreeing.{taken_text}
 use Rattle.sim_steps.specs.Deeds.Deed.{Enters as EntersAtBench}
-pub use Rattle.sim_steps.specs.Ends.{AllHadMemory, most_entries}
+pub use Rattle.sim_steps.specs.Ends.{AllHadMemory, IsFull, most_entries}
 use Rattle.sim_steps.specs.Ends.{told_by}
 use Rattle.serve_steps.specs.Deeds.Deed.{Enters, Does}
 use Rattle.serve_steps.specs.Deeds.{Deed, Past, gathered, turns_of, acts_of, is_open}
@@ -123,7 +123,7 @@ pub record IsFailed (g : Given) (first : Past) (parts : List Part) (text : List 
 -- the history is so long that no further entry is taken
 pub record IsWorn (g : Given) (first : Past) (parts : List Part) (text : List ℕ) : Type 0 where
   pub broken : IsBrokenOff g first parts text
-  pub long : most_entries ≤ length (turns_of (deeds_of first parts))
+  pub long : IsFull (length (turns_of (deeds_of first parts)))
 
 abbrev pub EndsWith : ServeEnd → Given → Past → List Part → List ℕ → Type 0
 EndsWith Done g first parts text = IsDone g first parts text

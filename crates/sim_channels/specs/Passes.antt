@@ -1,12 +1,12 @@
 -- One message that is heard: what comes next on a channel, what its reply brings about, and what is known behind both.
-use Rattle.std.specs.Prelude.{◌≡◌, ◌⊎◌, ℕ, ◌<◌, Bool, true, false, List, [], ◌∷◌, length, set, Option, Some, None}
+use Rattle.std.specs.Prelude.{◌≡◌, ◌⊎◌, ℕ, ◌<◌, Bool, true, false, List, [], ◌∷◌, set, Option, Some, None}
 use Rattle.std.specs.List.{slice_get}
 use Rattle.machine_steps.specs.declared.entry.Input.{Input}
 use Rattle.machine_steps.specs.declared.job.Job.{Job}
 use Rattle.machine_steps.specs.Steps.{item_of}
 use Rattle.machine_steps.specs.Waiting.{Waiting}
 use Rattle.machine_desk.specs.Hearing.{Comes, Hears}
-use Rattle.desk_jobs.specs.Homes.{Attends as AttendsAt, Beside as BesideAt, Follows as FollowsAt, MakesRoom as MakesRoomAt, MakesRoomFor as MakesRoomForAt}
+use Rattle.desk_jobs.specs.Homes.{Attends as AttendsAt, Beside as BesideAt, Follows as FollowsAt, MakesRoom as MakesRoomAt, MakesRoomFor as MakesRoomForAt, rest_of}
 use Rattle.desk_jobs.specs.Tending.{Done, Reaches, Sight}
 use Rattle.machine_desk.specs.declared.inbound.Inbound.{Inbound}
 use Rattle.machine_desk.specs.declared.hearing.Heard.{Heard}
@@ -116,8 +116,7 @@ pub record HasHeard (here : ℕ) (made : Bool) (old new : Driver) : Type 0 where
 
 -- how many bytes are to be heard from a place yet
 abbrev pub rest_in : Option Channel → ℕ
-rest_in None = 0
-rest_in (Some k) = length k.inbound.from.stream.rest
+rest_in k = rest_of (λ (c : Channel). c.inbound) k
 
 abbrev pub rest_at : ℕ → Driver → ℕ
 rest_at here driver = rest_in (slice_get driver.channels.items here)

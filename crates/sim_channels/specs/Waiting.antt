@@ -1,7 +1,7 @@
 -- What is left to do at a place, of those whose session is open: what the machine has for the device, what was taken out for it, what came from it.
 use Rattle.std.specs.Prelude.{◌≡◌, ◌⊎◌, ℕ, ◌+◌, [], Some}
 use Rattle.std.specs.List.{slice_get}
-use Rattle.machine_desk.specs.Desks.{DeskView}
+pub use Rattle.desk_jobs.specs.Homes.{NoneWaits}
 use Rattle.machine_steps.specs.Machine.{session_at}
 use Rattle.world_steps.specs.Worlds.{messages_for}
 use Rattle.sim_steps.specs.Parts.{IsHeardOut}
@@ -9,10 +9,6 @@ use Rattle.sim_channels.specs.declared.channel.Channel.{Channel}
 use Rattle.machine_desk.specs.declared.inbound.Stage.TheVariants.{Live, Over}
 use Rattle.sim_channels.specs.declared.driver.Driver.{Driver}
 use Rattle.sim_channels.specs.Channels.{WorksAlone}
-
--- no packet waits for an answer
-abbrev pub NoneWaits : DeskView → Type 0
-NoneWaits desk = desk.now.jobs ≡ []
 
 -- it holds of the channel with this index, where its session is open
 abbrev pub WhilePlugged : (Channel → Type 0) → ℕ → Driver → Type 0

@@ -1,9 +1,7 @@
 -- One order is followed, and the report is taken and written behind it.
 use Rattle.std.specs.Prelude.{◌≡◌, ◌≢◌, ◌⊎◌, ℕ, Bool, true, false, List, [], Option, None, Result, Ok, Err}
-use Rattle.std.specs.List.{flat_map}
 use Rattle.maple_io.specs.Views.{NoWriteFailed, SinkView, WriteFailed, Wrote}
 use Rattle.report_text.specs.declared.line.ScriptRefusal.{ScriptRefusal}
-use Rattle.report_text.specs.Report.{spelled}
 use Rattle.device_port.specs.Devices.{Meaning}
 use Rattle.machine_steps.specs.Histories.{Turn}
 use Rattle.machine_steps.specs.Sound.{AreInRange}
@@ -14,6 +12,7 @@ use Rattle.script_text.specs.Steps.{order_with}
 use Rattle.sim_steps.specs.Agreeing.{taken_report}
 use Rattle.sim_steps.specs.Benches.{Bench, IsSolo, opening_bench}
 use Rattle.sim_steps.specs.Deeds.{Event}
+pub use Rattle.sim_steps.specs.Ends.{untaken}
 use Rattle.sim_steps.specs.Parts.{IsPart, IsStill}
 use Rattle.sim_steps.specs.Showing.{AllIdle}
 use Rattle.sim_steps.specs.Stretches.{Carried}
@@ -46,10 +45,6 @@ pub record DeedLaws : Type 0 where
   pub agree : AgreeLaw
   pub world : WorldLaw
   pub past : PastLaw
-
--- the lines of the report that weren't taken yet
-abbrev pub untaken : State → List ℕ
-untaken m = flat_map spelled m.lines
 
 abbrev pub waiting : Driver → List ℕ
 waiting driver = untaken driver.desk.now

@@ -1,5 +1,5 @@
 -- A run of a script over devices, and how it ends.
-use Rattle.std.specs.Prelude.{◌≡◌, ◌⊎◌, ℕ, ◌≤◌, Bool, true, false, map, List, [], ◌∷◌, ◌++◌, Option, Some, None, length}
+use Rattle.std.specs.Prelude.{◌≡◌, ◌⊎◌, ℕ, Bool, true, false, map, List, [], ◌∷◌, ◌++◌, Option, Some, None, length}
 use Rattle.std.specs.declared.vec.Vec.{Vec}
 use Rattle.maple_base.specs.declared.decision.Settings.{Settings}
 use Rattle.maple_io.specs.Views.{SinkView, Wrote}
@@ -15,7 +15,7 @@ use Rattle.script_text.specs.Orders.Order.{Nothing}
 use Rattle.sim_steps.specs.Agreeing.{AllAgree}
 use Rattle.sim_steps.specs.Benches.{Bench, IsSolo, Slot, opening_bench}
 use Rattle.sim_steps.specs.Deeds.{Event, Runs, turns_of}
-pub use Rattle.sim_steps.specs.Ends.{AllHadMemory, most_entries}
+pub use Rattle.sim_steps.specs.Ends.{AllHadMemory, IsFull, most_entries}
 use Rattle.sim_steps.specs.Ends.{told_by}
 use Rattle.sim_steps.specs.Parts.{Follows, IsPart, IsStill}
 use Rattle.sim_steps.specs.Showing.{AllKeep}
@@ -141,10 +141,6 @@ pub record IsUnwritten (g : Given) (after : List Meaning) (history : List Turn) 
   pub text_is : text ≡ report events ++ front
   pub devices : devices_of last ≡ after
   pub beside : order ≡ None → IsSolo last.machine → ⊥
-
--- the hall read so many entries that it has room for no more
-abbrev pub IsFull : ℕ → Type 0
-IsFull number = most_entries ≤ number
 
 -- how a run ends that wrote this text, where the machine has this history, and so many entries were read of it; memory may run out as a report is written
 abbrev pub EndsWith : SimEnd → Given → List Meaning → ℕ → List Turn → List ℕ → Type 0

@@ -1,11 +1,9 @@
 -- What holds of all deeds.
 use Rattle.std.specs.Prelude.{◌≡◌, List, ◌++◌}
-use Rattle.std.specs.List.{flat_map}
 use Rattle.maple_base.specs.declared.decision.Settings.{Settings}
 use Rattle.policy_lang.specs.declared.Policy.{Policy}
-use Rattle.report_text.specs.Report.{spelled}
 use Rattle.device_port.specs.Devices.{Meaning}
-use Rattle.machine_steps.specs.Histories.{Leads, report_of}
+use Rattle.machine_steps.specs.Histories.{Leads}
 use Rattle.machine_steps.specs.Machine.{opening}
 use Rattle.machine_steps.specs.Sound.{AreInRange}
 use Rattle.world_steps.specs.Worlds.{World}
@@ -14,6 +12,7 @@ use Rattle.world_steps.specs.Right.{IsRight}
 use Rattle.sim_steps.specs.Benches.{Bench, opening_bench}
 use Rattle.sim_steps.specs.Deeds.{Event, Runs, turns_of}
 use Rattle.sim_steps.specs.Agreeing.{AllAgree, taken_report}
+use Rattle.sim_steps.specs.Ends.{told_by, untaken}
 use Rattle.sim_steps.specs.Showing.{AllIdle, AllKeep, AreSwitches, Shows}
 
 -- the machine's turns are a legal history
@@ -30,7 +29,7 @@ PastLaw = (a : Bench) (es : List Event) (b : Bench) → Runs a es b → b.past �
 abbrev pub ReportLaw : Type 0
 ReportLaw =
     (policy : Policy) (settings : Settings) (devices : List Meaning) (es : List Event) (b : Bench) → Runs (opening_bench policy settings devices) es b
-    → flat_map spelled (report_of (turns_of es)) ≡ taken_report es ++ flat_map spelled b.machine.lines
+    → told_by (turns_of es) ≡ taken_report es ++ untaken b.machine
 
 -- each device agrees with the deeds
 abbrev pub AgreeLaw : Type 0
