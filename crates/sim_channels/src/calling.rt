@@ -5,7 +5,7 @@ ghost use Rattle.machine_desk.specs.Hearing.{IsSameSession};
 ghost use Rattle.machine_desk.specs.declared.inbound.Stage.TheVariants.{Live};
 ghost use Rattle.script_text.specs.Grammar.{most_bytes};
 ghost use Rattle.sim_channels.specs.Channels.{Fits, IsSame};
-ghost use Rattle.sim_channels.specs.Looking.{IsCalled, LooksUpBy, is_failed, is_failure};
+ghost use Rattle.sim_channels.specs.Looking.{IsAnswered, LooksUpBy, is_failed, is_failure};
 ghost use Rattle.sim_channels.specs.Staging.{HasStage};
 ghost use Rattle.sim_channels.specs.Waiting.{IsAtRest};
 
