@@ -1,3 +1,4 @@
+pub mod Crewed
 pub mod HadMemory
 pub mod Lists
 pub mod Meanwhile

@@ -5,6 +5,8 @@ use Rattle.worker_crew.specs.declared.gave_up.GaveUp.{GaveUp}
 use Rattle.worker_crew.specs.declared.gave_up.GaveUp.TheVariants.{NoMemory, Worn}
 use Rattle.worker_crew.specs.Takers.{IsTakerOf, places, shares}
 use Rattle.worker_crew.specs.Tasks.{Worked as Told}
+use Rattle.machine_desk.specs.declared.report.ReportStop.{ReportStop}
+use Rattle.machine_desk.specs.declared.report.ReportStop.TheVariants as stops
 use Rattle.machine_desk.specs.Desks.{DeskView}
 use Rattle.desk_jobs.specs.declared.crew.Crew.{Crew}
 use Rattle.desk_jobs.specs.Tending.{Sight, at}
@@ -48,8 +50,9 @@ sight desk crew = at desk crew.taker.now
 
 -- ---- ends
 
--- how a run may end: where somebody gave up, by why, and at which ends all was done that it was asked for
+-- how a run may end: where the report couldn't be written, or somebody gave up, by why, and at which ends all was done that it was asked for
 pub record EndsOf (E : Type 0) : Type 0 where
+  pub write_fault : E
   pub no_memory : E
   pub worn : E
   pub is_whole : E → Bool
@@ -57,6 +60,12 @@ pub record EndsOf (E : Type 0) : Type 0 where
 abbrev pub given_up : {E : Type 0} → EndsOf E → GaveUp → E
 given_up ends NoMemory = ends.no_memory
 given_up ends Worn = ends.worn
+
+-- by why the report wasn't written
+abbrev pub unwritten : {E : Type 0} → EndsOf E → ReportStop → E
+unwritten ends stops.Failed = ends.write_fault
+unwritten ends stops.NoMemory = ends.no_memory
+unwritten ends stops.Worn = ends.worn
 
 -- how a run ends by what was told of the work done for it: where it came to its end, but somebody gave up, by that
 abbrev pub ended_with : {E : Type 0} → (GaveUp → E) → Bool → E → Told → E

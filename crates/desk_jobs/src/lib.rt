@@ -10,6 +10,6 @@ pub mod tending;
 
 pub use arriving::is_packet;
 pub use crew::{Crew, MOST_WORKERS, QUEUE_PLACES};
-pub use laws::tending_laws;
+pub use laws::{driving_laws, tending_laws};
 pub use stopped::{Stopped, answered};
 pub use tending::{Broken, Handed, Tender};

@@ -2,6 +2,7 @@ pub mod Admitted
 pub mod AtWork
 pub mod Entering
 pub mod Memory
+pub mod Opened
 pub mod Rested
 pub mod Rounds
 pub mod Staged

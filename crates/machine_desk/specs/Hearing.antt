@@ -1,8 +1,8 @@
 -- What one connection sends is heard at the desk.
-use Rattle.std.specs.Prelude.{◌≡◌, Bool, true, false, List, Option, Some, None, is_some}
+use Rattle.std.specs.Prelude.{◌≡◌, ℕ, Bool, true, false, List, Option, Some, None, is_some}
 use Rattle.of10_stream.specs.declared.reassembly.Next.{Next}
 use Rattle.of10_stream.specs.declared.reassembly.Next.TheVariants as next
-use Rattle.of10_stream.specs.Steps.{Held, Tells}
+use Rattle.of10_stream.specs.Steps.{Held, Tells, fed}
 use Rattle.machine_moves.specs.Told.{is_end}
 use Rattle.machine_steps.specs.declared.entry.Entry.TheVariants as entries
 use Rattle.machine_steps.specs.declared.entry.Input.{Input}
@@ -13,6 +13,8 @@ use Rattle.machine_steps.specs.Histories.{Leads, Turn}
 use Rattle.machine_steps.specs.Machine.{State as MachineState, session_at, was_opened}
 use Rattle.history_lock.specs.Histories.{AreAllowed}
 use Rattle.machine_sharing.specs.Sharing.{Allows, Call}
+use Rattle.machine_desk.specs.declared.hearing.Came.{Came}
+use Rattle.machine_desk.specs.declared.hearing.Came.TheVariants as came
 use Rattle.machine_desk.specs.declared.hearing.Heard.{Heard}
 use Rattle.machine_desk.specs.declared.hearing.Heard.TheVariants.{Packet, Ended, State, Other}
 use Rattle.machine_desk.specs.declared.inbound.Inbound.{Inbound}
@@ -36,6 +38,10 @@ ComesAt stage found old new = (found ≡ None) × (new ≡ old)
 abbrev pub IsSameSession : Inbound → Inbound → Type 0
 IsSameSession i j = (j.connection ≡ i.connection) × (j.stage ≡ i.stage)
 
+-- these bytes came, behind those before
+abbrev pub Feeds : List ℕ → Inbound → Inbound → Type 0
+Feeds bytes i j = (j.from.stream ≡ fed bytes i.from.stream) × IsSameSession i j
+
 abbrev pub Comes : Option Input → Inbound → Inbound → Type 0
 Comes found i j = ComesAt i.stage found i.from j.from × IsSameSession i j
 
@@ -51,6 +57,18 @@ heard_by (replies.Job item) = Packet item
 heard_by (replies.Ended end) = Ended
 heard_by (replies.NewState state pruned) = State
 heard_by reply = Other
+
+-- what is told of it to who hears one input after the other
+abbrev pub came_of : Heard → Came
+came_of Ended = came.Ended
+came_of State = came.State
+came_of heard = came.Message
+
+-- more may be to be heard
+abbrev pub goes_on : Came → Bool
+goes_on came.Nothing = false
+goes_on came.Ended = false
+goes_on other = true
 
 -- ---- what becomes of a session
 

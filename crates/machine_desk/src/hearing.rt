@@ -5,7 +5,7 @@ ghost use Rattle.machine_steps.specs.Admitting.{IsHeard};
 ghost use Rattle.machine_steps.specs.declared.entry.Entry.TheVariants as entries;
 ghost use Rattle.machine_steps.specs.Machine.{was_opened};
 ghost use Rattle.machine_desk.specs.Desks.{WearsOut};
-ghost use Rattle.machine_desk.specs.Hearing.{Closes, Hears, IsStaged, Opens, heard_by, stage_heard, stage_opened, was_begun};
+ghost use Rattle.machine_desk.specs.Hearing.{Closes, Hears, IsStaged, Opens, came_of, goes_on, heard_by, stage_heard, stage_opened, was_begun};
 ghost use Rattle.machine_desk.specs.Orders.{Stops};
 
 use crate::laws::staging_laws;
@@ -24,6 +24,39 @@ pub enum Heard {
     State,
     /// None of these.
     Other,
+}
+
+/// What came next of a connection.
+#[derive(Clone, Copy, Debug, PartialEq, Eq)]
+pub enum Came {
+    /// Nothing that could be heard.
+    Nothing,
+    /// What ended the session.
+    Ended,
+    /// A message, and the machine told of no new state.
+    Message,
+    /// A message that made a state, as the machine told.
+    State,
+}
+
+impl Came {
+    /// What came, by what the machine made of it.
+    pub fn of(heard: &Heard) -> Came
+        ensures { result ≡ came_of heard.now }
+    {
+        match heard {
+            Heard::Ended => Came::Ended,
+            Heard::State => Came::State,
+            Heard::Packet(_) | Heard::Other => Came::Message,
+        }
+    }
+
+    /// Whether more may be to be heard.
+    pub fn goes_on(self) -> bool
+        ensures { result ≡ goes_on self }
+    {
+        matches!(self, Came::Message | Came::State)
+    }
 }
 
 impl<'h> Desk<'h> {

@@ -1,10 +1,10 @@
 // What comes of one connection.
 ghost use Rattle.std.specs.Prelude.{◌≡◌, IfOk, IfSome, OnErr, OnOk, None};
 ghost use Rattle.of10_stream.specs.declared.reassembly.Next.TheVariants as answers;
-ghost use Rattle.of10_stream.specs.Steps.{Tells, beginning, fed};
+ghost use Rattle.of10_stream.specs.Steps.{Tells, beginning};
 ghost use Rattle.machine_steps.specs.Admitting.{IsHeard};
 ghost use Rattle.machine_desk.specs.declared.inbound.Stage.TheVariants.{Unopened};
-ghost use Rattle.machine_desk.specs.Hearing.{Comes, IsSameSession, LacksMemoryFor, told_as};
+ghost use Rattle.machine_desk.specs.Hearing.{Comes, Feeds, IsSameSession, LacksMemoryFor, told_as};
 
 use core_machine::Input;
 use maple_base::NoMemory;
@@ -65,7 +65,7 @@ impl Inbound {
     ///
     /// `NoMemory`, also where it would be 2^64 bytes or more; none of them came.
     pub fn feed(&mut self, piece: &[u8]) -> Result<(), NoMemory>
-        ensures ok { OnOk result (self.new.from.stream ≡ fed piece.now self.old.from.stream) }
+        ensures ok { OnOk result (Feeds piece.now self.old self.new) }
         ensures err { OnErr result (self.new.from.stream ≡ self.old.from.stream) }
         ensures whole { OnErr result (self.old.from.stream.broken ≡ None) }
         ensures session { IsSameSession self.old self.new }

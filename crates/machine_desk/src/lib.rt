@@ -12,7 +12,7 @@ pub mod resting;
 
 pub use asking::DeskStop;
 pub use desk::{Desk, Worn};
-pub use hearing::Heard;
+pub use hearing::{Came, Heard};
 pub use inbound::{Inbound, Stage};
 pub use laws::{desk_laws, hearing_laws, working_laws};
 pub use opening::{Opening, close_hall, open_hall};

@@ -16,7 +16,7 @@ use Rattle.serve_steps.specs.declared.end.ServeEnd.{ServeEnd}
 use Rattle.serve_steps.specs.declared.end.ServeEnd.TheVariants as ends
 use Rattle.serve_steps.specs.Deeds.{Past}
 use Rattle.serve_steps.specs.Parts.{Given as ServeGiven, Part, given as serve_given}
-use Rattle.serve_steps.specs.Runs.{AreParts, HasEnded as HasServeEnded, HasRun as HasServed, spares_board}
+use Rattle.serve_steps.specs.Runs.{AreParts, HasEnded as HasServeEnded, HasRun as HasServed, is_whole}
 use Rattle.serve_steps.specs.Texts.{first_refused, script_asks}
 use Rattle.command_words.specs.declared.words.Command.TheVariants.{Sim, Check, Gen, Serve}
 use Rattle.maple_top.specs.declared.status.Status.{Status}
@@ -131,7 +131,7 @@ served_at end g before after text h = tt
 
 pub served : (policy : Policy) (settings : Settings) (listen control : ℕ) (texts : Texts) (before after : BoardView) (old mid new : SinkView) (end : ServeEnd) (result : Status)
     → HasServed end (serve_given policy settings texts.script texts.first_line listen control) before after old mid
-    → (end ≡ ends.BoardFault → BoardFailed before after) → (spares_board end ≡ true → NoBoardFailed before after) → ClosesBy end mid new result
+    → (end ≡ ends.BoardFault → BoardFailed before after) → (is_whole end ≡ true → NoBoardFailed before after) → ClosesBy end mid new result
     → EndsServing (Serve listen control settings) policy texts before after old new result
 served policy settings listen control texts before after old mid new end result (report, ended, wrote) failed spared closes devices =
     let (text, written, w) = closes_written old mid new report wrote end result closes in (

@@ -4,7 +4,7 @@ use Rattle.maple_io.specs.Views.{NoWriteFailed, SinkView, WriteFailed, Wrote}
 use Rattle.maple_io.proofs.Pieces.{wrote_nothing, wrote_then}
 use Rattle.serve_steps.specs.declared.end.ServeEnd.{ServeEnd}
 use Rattle.serve_steps.specs.declared.end.ServeEnd.TheVariants as ends
-use Rattle.serve_steps.specs.Runs.{spares_board}
+use Rattle.serve_steps.specs.Runs.{is_whole}
 use Rattle.maple_top.specs.declared.status.Status.{Status}
 use Rattle.maple_top.specs.declared.status.Status.TheVariants as status
 use Rattle.maple_top.specs.Ends.{ClosesBy, Ends, IsBoardSpared, IsCutting, IsGiven, IsOrCut, WroteFront, WroteSome, closing, status_of}
@@ -103,7 +103,7 @@ module _ (old new : SinkView) (text : List ℕ) where
   unspared due status.NoMemory e s = absurd s
   unspared due result e s = subst IsBoardSpared e.0 s
 
-pub closes_spared : (old new : SinkView) (end : ServeEnd) (result : Status) → ClosesBy end old new result → IsBoardSpared result → spares_board end ≡ true
+pub closes_spared : (old new : SinkView) (end : ServeEnd) (result : Status) → ClosesBy end old new result → IsBoardSpared result → is_whole end ≡ true
 closes_spared old new ends.Done result e s = refl
 closes_spared old new (ends.Script line kind) result e s = refl
 closes_spared old new ends.WriteFault result e s = absurd (subst IsBoardSpared e.0 s)

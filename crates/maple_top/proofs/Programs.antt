@@ -2,6 +2,7 @@
 use Rattle.std.proofs.Common.{◌≡◌, ℕ, zero, suc, true, List, [], ◌∷◌, ◌++◌, length, map, refl, sym, ap, ◌∙◌, subst, inl, inr, append-nil, arith}
 use Rattle.std.specs.List.{AllByRecursion}
 use Rattle.std.proofs.lemmas.List.{append_cancel_left}
+use Rattle.serve_steps.specs.Runs.{is_whole}
 use Rattle.maple_io.specs.Answers.{ends as tells_end, fails, given}
 use Rattle.maple_io.specs.declared.act.Act.{Act}
 use Rattle.maple_io.specs.declared.answer.Answer.{Answer}
@@ -87,31 +88,25 @@ pub record Promises (source left : SourceView) (old new : SinkView) (before afte
 
 -- ---- what is right
 
--- it came to its end, or to a refused line
-abbrev IsToEnd : ServeEnd → Type 0
-IsToEnd ends.Done = Unit {0}
-IsToEnd (ends.Script line kind) = Unit {0}
-IsToEnd end = ⊥
+to_end : (end : ServeEnd) → IsReporting (status_of end) → is_whole end ≡ true
+to_end ends.Done h = refl
+to_end (ends.Script line kind) h = refl
+to_end end h = absurd h
 
-to_end : (end : ServeEnd) → IsReporting (status_of end) → IsToEnd end
-to_end ends.Done h = tt
-to_end (ends.Script line kind) h = tt
-to_end end h = h
-
-right_report : (end : SimEnd) (g : SimGiven) (after : List Meaning) (history : List Turn) (report : List ℕ) → AllKeep g.devices → IsToEnd (end_of end) → EndsBy end g after history report
+right_report : (end : SimEnd) (g : SimGiven) (after : List Meaning) (history : List Turn) (report : List ℕ) → AllKeep g.devices → is_whole (end_of end) ≡ true → EndsBy end g after history report
     → IsRightReport g report
 right_report sims.Done g after history report keep to e =
     record { after = after; history = history; followed = e.ends; memory = e.memory refl; world = e.ends.run.world keep }
 right_report (sims.Script line kind) g after history report keep to e =
     record { after = after; history = history; followed = e.ends; memory = e.memory refl; world = e.ends.run.world keep }
-right_report end g after history report keep to e = absurd to
+right_report end g after history report keep to e = absurd (cc)
 
-right_of : (command : Command) (end : ServeEnd) (policy : Policy) (texts : Texts) (board : BoardView) (after : Switches) (report : List ℕ) → IsToEnd end
+right_of : (command : Command) (end : ServeEnd) (policy : Policy) (texts : Texts) (board : BoardView) (after : Switches) (report : List ℕ) → is_whole end ≡ true
     → Did command end policy texts (switches program_devices board) after report → IsRight command end policy texts board.log after.board.log report
 right_of (Sim settings) end policy texts board after report to d =
-    right_report d.sim_end (sim_given policy settings program_devices texts.script texts.first_line) after.devices d.ended.0 report devices_keep (subst IsToEnd d.end_is to) d.ended.1
+    right_report d.sim_end (sim_given policy settings program_devices texts.script texts.first_line) after.devices d.ended.0 report devices_keep (subst (λ (e : ServeEnd). is_whole e ≡ true) d.end_is to) d.ended.1
 right_of (Gen number settings) end policy texts board after report to d =
-    right_report d.sim_end (sim_given policy settings program_devices texts.script texts.first_line) after.devices d.ended.0 report devices_keep (subst IsToEnd d.end_is to) d.ended.1
+    right_report d.sim_end (sim_given policy settings program_devices texts.script texts.first_line) after.devices d.ended.0 report devices_keep (subst (λ (e : ServeEnd). is_whole e ≡ true) d.end_is to) d.ended.1
 right_of Check end policy texts board after report to d = d.2
 right_of (Serve listen control settings) end policy texts board after report to d = d.ended
 

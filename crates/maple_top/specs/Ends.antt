@@ -4,6 +4,7 @@ use Rattle.maple_io.specs.Fronts.{IsFront}
 use Rattle.maple_io.specs.Answers.{fails}
 use Rattle.maple_io.specs.Views.{Heard, NoReadFailed, SinkView, SourceView, WriteFailed, Wrote}
 use Rattle.serve_steps.specs.declared.end.ServeEnd.{ServeEnd}
+use Rattle.sim_steps.specs.Ends.{Writes}
 use Rattle.serve_steps.specs.declared.end.ServeEnd.TheVariants as ends
 use Rattle.maple_top.specs.declared.status.Status.{Status}
 use Rattle.maple_top.specs.declared.status.Status.TheVariants as status
@@ -15,7 +16,7 @@ use Rattle.maple_top.specs.Statuses.{last_line}
 
 -- a text of this kind was written
 abbrev pub WroteSome : SinkView → SinkView → (List ℕ → Type 0) → Type 0
-WroteSome old new Told = (text : List ℕ) × Told text × Wrote old new text
+WroteSome old new Told = Writes Told old new
 
 -- a front of this text was
 abbrev pub WroteFront : SinkView → SinkView → List ℕ → Type 0

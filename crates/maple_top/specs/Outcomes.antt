@@ -16,7 +16,7 @@ use Rattle.sim_driver.specs.Runs.{HasEnded as HasSimEnded, given as sim_given}
 use Rattle.serve_steps.specs.declared.end.ServeEnd.{ServeEnd}
 use Rattle.serve_steps.specs.declared.end.ServeEnd.TheVariants as ends
 use Rattle.serve_steps.specs.Parts.{Given as ServeGiven, given as serve_given}
-use Rattle.serve_steps.specs.Runs.{HasEnded as HasServeEnded, spares_board}
+use Rattle.serve_steps.specs.Runs.{HasEnded as HasServeEnded, is_whole}
 use Rattle.command_words.specs.declared.words.Command.{Command}
 use Rattle.command_words.specs.declared.words.Command.TheVariants.{Sim, Check, Gen, Serve}
 use Rattle.maple_top.specs.declared.status.Status.{Status}
@@ -56,7 +56,7 @@ pub record Simulates (end : ServeEnd) (policy : Policy) (settings : Settings) (t
 pub record Serves (end : ServeEnd) (g : ServeGiven) (before after : Switches) (report : List ℕ) : Type 0 where
   pub ended : HasServeEnded end g before.board.log after.board.log report
   pub board : end ≡ ends.BoardFault → BoardFailed before.board after.board
-  pub no_board : spares_board end ≡ true → NoBoardFailed before.board after.board
+  pub no_board : is_whole end ≡ true → NoBoardFailed before.board after.board
   pub uncalled : after.devices ≡ before.devices
 
 -- what a command does: `sim` and `gen` run the script over the devices; `check` prints the policy; `serve` serves the switches of the board

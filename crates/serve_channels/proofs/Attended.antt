@@ -1,6 +1,7 @@
 -- What is done with others about packets that wait.
 use Rattle.std.proofs.Common.{◌≡◌, ℕ, true, false, List, [], ◌++◌, append-nil, refl, sym, ap, ◌∙◌, subst, inl, inr}
 use Rattle.std.specs.Prelude.{Option, None, Some, is_some}
+use Rattle.desk_jobs.proofs.Crewed.{same_crew}
 use Rattle.maple_io.specs.declared.act.Act.{Act}
 use Rattle.machine_steps.specs.Waiting.{Waiting}
 use Rattle.machine_steps.specs.Histories.{Turn}
@@ -23,7 +24,7 @@ use Rattle.serve_channels.specs.Serving.{ServingLaws}
 use Rattle.serve_channels.specs.Keeping.{Are, Goes}
 use Rattle.serve_channels.proofs.Alike.{IsAlike}
 use Rattle.serve_channels.proofs.Entering.{begins, goes_beside, is_over_now}
-use Rattle.serve_channels.proofs.Kept.{same_crew, same_desk, kept_but, same_self, same_then}
+use Rattle.serve_channels.proofs.Kept.{same_desk, kept_but, same_self, same_then}
 use Rattle.serve_channels.proofs.Others.{AreOthers, DidBeside, bytes_entered, entered_ahead, lawful, meanwhile_lawful, others_alike, worked_meanwhile, IsLawful, others_jobs}
 use Rattle.serve_channels.proofs.Stretching.{goes_then, went_nowhere}
 

@@ -1,32 +1,31 @@
 -- What came next of a connection: nothing, and what is known behind an input.
 use Rattle.std.proofs.Common.{◌≡◌, ℕ, ◌<◌, get_or, length, refl, sym, subst, true, List, [], append-nil, set, ap, ◌∙◌, inr}
 use Rattle.std.specs.Vec.{with_item}
-use Rattle.std.specs.Prelude.{IfOk, None, OnOk, Result, Ok, Err, Some, is_some}
+use Rattle.std.specs.Prelude.{None, Some, is_some}
 use Rattle.std.specs.List.{slice_get}
 use Rattle.maple_io.specs.declared.act.Act.{Act}
 use Rattle.of10_stream.specs.Cut.{IsOpen}
 use Rattle.machine_steps.specs.declared.entry.Input.{Input}
 use Rattle.machine_desk.specs.Desks.{DeskLaw, DeskView}
-use Rattle.machine_desk.specs.Hearing.{Comes, IsSameSession, IsStaged, is_live}
+use Rattle.machine_desk.specs.Hearing.{Comes, IsSameSession, IsStaged, came_of, is_live}
 use Rattle.machine_desk.specs.Working.{RoundsClose}
 use Rattle.machine_desk.specs.declared.hearing.Heard.{Heard}
 use Rattle.machine_desk.specs.declared.inbound.Inbound.{Inbound}
-use Rattle.desk_jobs.specs.declared.stopped.Stopped.{Stopped}
 use Rattle.sim_steps.specs.Agreeing.{AreCut}
 use Rattle.serve_steps.specs.Deeds.{Past, bytes_of, inputs_of}
 use Rattle.serve_steps.specs.Parts.{Given}
 use Rattle.serve_channels.specs.declared.connection.Connection.{Connection}
-use Rattle.serve_channels.specs.declared.hearing.Came.{Came}
-use Rattle.serve_channels.specs.declared.hearing.Came.TheVariants as came
+use Rattle.machine_desk.specs.declared.hearing.Came.{Came}
+use Rattle.machine_desk.specs.declared.hearing.Came.TheVariants as came
 use Rattle.serve_channels.specs.declared.server.Server.{Server}
 use Rattle.serve_channels.specs.Keeping.{ServesSome, Went, Agrees, IsHeardTo, IsKept}
-use Rattle.serve_channels.specs.Passing.{Follows, HasCrew, HearsAt, HearsInput, HearsSome, MakesRoomFor, came_of}
-use Rattle.serve_channels.specs.Servers.{IsSame, SameNumbers, number_of}
+use Rattle.serve_channels.specs.Passing.{Follows, HasCrew, HearsAt, HearsInput, HearsSome, MakesRoomFor}
+use Rattle.serve_channels.specs.Servers.{IsSame, SameNumbers, number_of, with_inbound}
 use Rattle.serve_channels.specs.Serving.{ServingLaws}
 use Rattle.serve_channels.proofs.Alike.{alike_same}
 use Rattle.serve_channels.proofs.Kept.{number_there, still_crew, same_connections, IsLeft, IsSessionStill, IsTold, kept_at, kept_but, kept_whole}
 use Rattle.serve_channels.proofs.Numbered.{numbers_at, numbers_then, there_at, numbers_of}
-use Rattle.serve_channels.proofs.OneHeard.{with_inbound, comes_none}
+use Rattle.serve_channels.proofs.OneHeard.{comes_none}
 use Rattle.serve_channels.proofs.Others.{lawful}
 use Rattle.serve_channels.proofs.Passing.{HasCome, fewer_left, went_on}
 use Rattle.serve_channels.proofs.Stretching.{went_nowhere}
@@ -147,7 +146,6 @@ module _ (here : ℕ) (old : Server) (k : Connection) (j : Inbound) (within : he
           fewer_left laws close (has_come follows) (lawful law) serves.1.kept told;
     }
 
-    -- by what the call that follows tells
-    pub told_at : (result : Result Came Stopped) → IfOk result (λ k. k ≡ came_of heard) → OnOk result (Follows heard mid new) → IfOk result (λ k. HearsAt here k old new)
-    told_at (Err stopped) is follows = tt
-    told_at (Ok k) is follows = subst (λ x. HearsAt here x old new) (sym is) (hears_at follows)
+    -- by what is told of it
+    pub told_at : (k : Came) → k ≡ came_of heard → Follows heard mid new → HearsAt here k old new
+    told_at k is follows = subst (λ x. HearsAt here x old new) (sym is) (hears_at follows)

@@ -43,14 +43,14 @@ module _ (laws : ServingLaws) where
   -- with no packet waiting others change nothing
   pub nothing_beside : (a b : DeskView) → IsLawful a → Meanwhile a b → a.now.jobs ≡ [] → b.now ≡ a.now
   nothing_beside a b law h none =
-      laws.frozen (map call_of a.past) (map call_of h.turns) a.now b.now none (laws.calls a.now h.turns b.now law.sound h.leads).replays h.allowed
+      laws.driving.nothing (map call_of a.past) (map call_of h.turns) a.now b.now none (laws.driving.calls a.now h.turns b.now law.sound h.leads).replays h.allowed
 
   module _ (a b : DeskView) (d : ℕ) (bytes : List ℕ) (law : IsLawful a) (h : EntersNext (entries.TakeOut d) (replies.Out bytes) a b) where
     still : (c : ℕ) → is_some (session_at c b.now) ≡ is_some (session_at c a.now)
     still c = (next_session laws law h c (λ e. absurd (cc)) refl).live
 
     is_there : (c : ℕ) (s : Session) → session_at c a.now ≡ Some s → IsThere c d s b
-    is_there c s e = by (laws.moves a.now (entries.TakeOut d) (replies.Out bytes) b.now law.sound tt h.made.steps c s e)
+    is_there c s e = by (laws.driving.moves a.now (entries.TakeOut d) (replies.Out bytes) b.now law.sound tt h.made.steps c s e)
       where
         by : Fares c a.now (entries.TakeOut d) (replies.Out bytes) b.now s → IsThere c d s b
         by (inl lacks) = absurd (cc lacks.0)
@@ -58,7 +58,7 @@ module _ (laws : ServingLaws) where
         by (inr (inr stays)) = record { behind = stays.behind; there = stays.there; takes = stays.moves }
 
     messages_behind : (c : ℕ) (s : Session) → session_at c b.now ≡ Some s → messages_for c b.now ≡ s.outbox
-    messages_behind c s e = ap outbox_of (laws.kept b.now c s (next_lawful laws law h).sound e)
+    messages_behind c s e = ap outbox_of (laws.driving.kept b.now c s (next_lawful laws law h).sound e)
 
     -- its own
     pub none_wait : is_some (session_at d a.now) ≡ true → messages_for d b.now ≡ []
@@ -74,7 +74,7 @@ module _ (laws : ServingLaws) where
         let found = some_at (session_at c a.now) plugged in
         let now = is_there c found.0 found.1 in
         let takes : TakesBy false found.0 now.behind = subst (λ (x : Bool). TakesBy x found.0 now.behind) other now.takes in
-        messages_behind c now.behind now.there ∙ ap (λ (t : Session). t.outbox) takes ∙ sym (ap outbox_of (laws.kept a.now c found.0 law.sound found.1))
+        messages_behind c now.behind now.there ∙ ap (λ (t : Session). t.outbox) takes ∙ sym (ap outbox_of (laws.driving.kept a.now c found.0 law.sound found.1))
 
 -- ---- what was taken out, where no packet waits
 
@@ -102,7 +102,7 @@ module _ (laws : ServingLaws) {log : List Act} {at : ℕ} {a b : Server} (servin
   lawful_behind = next_lawful laws mid_law next
 
   none_behind : b.desk.now.jobs ≡ []
-  none_behind = laws.none mid.now (entries.TakeOut c) (replies.Out takes.bytes) b.desk.now (ap (λ (m : State). m.jobs) same_now ∙ none) refl next.made.steps
+  none_behind = laws.driving.none mid.now (entries.TakeOut c) (replies.Out takes.bytes) b.desk.now (ap (λ (m : State). m.jobs) same_now ∙ none) refl next.made.steps
 
   -- its session, and any other, stands as the connection tells
   plugged : (n : ℕ) (k : Connection) → slice_get a.connections.items n ≡ Some k → is_live k.inbound.stage ≡ true → is_some (session_at (number_of k) mid.now) ≡ true
@@ -151,18 +151,18 @@ module _ (laws : ServingLaws) {log : List Act} {at : ℕ} {a b : Server} (servin
       none = none_sent;
       own = λ fine k there live.
           ap (λ (x : DeskView). messages_for (number_of k) x.now) same_desk ∙ ap (λ (i : Inbound). messages_for i.connection b.desk.now) (same_inbound k there)
-          ∙ own_behind (sym (ap (λ (i : Inbound). is_live i.stage) (same_inbound k there)) ∙ live);
+          ∙ own_behind (sym (ap (λ (i : Inbound). is_live i.stage) (same_inbound k there)) ∙ ap is_live live);
       others = λ fine n other taken k there live.
           ap (λ (x : DeskView). messages_for (number_of k) x.now) same_desk
-          ∙ others_behind n k other (was_there n k other there) live (taken k (was_there n k other there) live);
+          ∙ others_behind n k other (was_there n k other there) (ap is_live live) (taken k (was_there n k other there) live);
     }
 
 -- the session ends by its link
 pub none_left : ServingLaws → {at : ℕ} {d e : Server} → IsLawful d.desk → d.desk.now.jobs ≡ [] → Leaves at true d e → e.desk.now.jobs ≡ []
 none_left laws {d = d} {e = e} law none leaves =
-    let enters = leaves.closes.enters in
+    let enters = leaves.does.enters in
     let same : enters.between ≡ d.desk.now = nothing_beside laws d.desk (ahead enters) law (meanwhile_ahead enters) none in
-    laws.none enters.between (entries.Gone (number_of leaves.connection) true) leaves.closes.reply e.desk.now (ap (λ (m : State). m.jobs) same ∙ none) refl enters.made.steps
+    laws.driving.none enters.between (entries.Gone (number_of leaves.connection) true) leaves.does.reply e.desk.now (ap (λ (m : State). m.jobs) same ∙ none) refl enters.made.steps
 
 pub empties_left : ServingLaws → {log : List Act} {at : ℕ} {a b d e : Server} {from to : BoardView} → IsServing log a → IsLawful a.desk → TakesOut at a b
     → SendsOut at true b d from to → Leaves at true d e → a.desk.now.jobs ≡ [] → Empties at true a e
@@ -199,7 +199,7 @@ empties_cut log at s k serving there cut none =
     record {
       none = none;
       own = λ fine l is live.
-          (let same : is_live k.inbound.stage ≡ true = ap (λ (x : Connection). is_live x.inbound.stage) (same_Some k l (sym there ∙ is)) ∙ live in
+          (let same : is_live k.inbound.stage ≡ true = ap (λ (x : Connection). is_live x.inbound.stage) (same_Some k l (sym there ∙ is)) ∙ ap is_live live in
           absurd (cc (sym over ∙ ap not same)));
       others = λ fine n other taken. taken;
     }

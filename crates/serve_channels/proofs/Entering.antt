@@ -2,6 +2,7 @@
 use Rattle.std.proofs.Common.{◌≡◌, ℕ, true, false, not, ◌&&◌, List, [], ◌∷◌, ◌++◌, Option, Some, None, append-nil, refl, sym, ap, ◌∙◌, subst, ⊎_elim}
 use Rattle.std.specs.Prelude.{is_some}
 use Rattle.std.proofs.lemmas.Bool.{cases_Bool, eq-eqb}
+use Rattle.desk_jobs.proofs.Crewed.{same_crew}
 use Rattle.maple_io.specs.declared.act.Act.{Act}
 use Rattle.machine_steps.specs.declared.entry.Entry.{Entry}
 use Rattle.machine_steps.specs.declared.entry.Entry.TheVariants as entries
@@ -23,7 +24,7 @@ use Rattle.serve_channels.specs.Servers.{IsSame, IsUnknown, WorksAlone}
 use Rattle.serve_channels.specs.Serving.{ServingLaws}
 use Rattle.serve_channels.specs.Stretches.{IsAside, Owes}
 use Rattle.serve_channels.proofs.Alike.{Spares, alike_turn, aside_turn, is_about, spares_another}
-use Rattle.serve_channels.proofs.Kept.{IsKeptBut, IsLeft, IsSessionStill, IsTold, kept_but, kept_whole, same_crew}
+use Rattle.serve_channels.proofs.Kept.{IsKeptBut, IsLeft, IsSessionStill, IsTold, kept_but, kept_whole}
 use Rattle.serve_channels.proofs.Others.{DidBeside, IsLawful, entered_ahead, leads_then, meanwhile_others, others_aside, others_kept, others_lawful, others_owe}
 use Rattle.serve_channels.proofs.Stretching.{aside_nothing, nothing_done}
 use Rattle.serve_channels.proofs.Told.{taken_others}
@@ -67,13 +68,13 @@ ends_none c e r other = refl
 module _ (laws : ServingLaws) {a b : DeskView} {e : Entry} {r : Reply} (law : IsLawful a) (h : EntersNext e r a b) where
   some_still : (c : ℕ) → (e ≡ entries.Open c → ⊥) → (may_end c e && is_end r) ≡ false → (o p : Option Session) → session_at c a.now ≡ o → session_at c b.now ≡ p
       → is_some (session_at c b.now) ≡ is_some (session_at c a.now)
-  some_still c opens ends (Some s) p i j = laws.ends a.now e r b.now law.sound h.made.steps c s i ∙ ap not ends ∙ sym (ap is_some i)
+  some_still c opens ends (Some s) p i j = laws.driving.ends a.now e r b.now law.sound h.made.steps c s i ∙ ap not ends ∙ sym (ap is_some i)
   some_still c opens ends None None i j = ap is_some j ∙ sym (ap is_some i)
-  some_still c opens ends None (Some t) i j = absurd (opens (laws.sessions a.now e r b.now law.sound h.made.steps c t i j).entry_is)
+  some_still c opens ends None (Some t) i j = absurd (opens (laws.driving.sessions a.now e r b.now law.sound h.made.steps c t i j).entry_is)
 
   pub next_opened : (c : ℕ) → (e ≡ entries.Open c → ⊥) → was_session c b.now ≡ was_session c a.now
   next_opened c opens =
-      let only = laws.connections a.now e r b.now h.made.steps in
+      let only = laws.driving.connections a.now e r b.now h.made.steps in
       ⊎_elim (λ was. only.stay c was ∙ sym was)
       (λ was. ⊎_elim (λ is. absurd (opens (only.others c was is))) (λ is. is ∙ sym was) (cases_Bool (was_session c b.now))) (cases_Bool (was_session c a.now))
 
@@ -83,7 +84,7 @@ module _ (laws : ServingLaws) {a b : DeskView} {e : Entry} {r : Reply} (law : Is
 
   pub next_lawful : IsLawful b
   next_lawful = record {
-    sound = laws.keeps a.now e r b.now law.sound h.made.admitted h.made.steps;
+    sound = laws.driving.keeps a.now e r b.now law.sound h.made.admitted h.made.steps;
     legal =
         subst (λ (f : Footing). Leads f.start b.past b.now) (sym h.footing) (subst (λ ts. Leads a.footing.start ts b.now) (sym h.past)
         (leads_then a.footing.start a.past (turn a.now e r b.now ∷ []) a.now b.now law.legal (refl, h.made, refl)));
@@ -101,7 +102,7 @@ module _ (laws : ServingLaws) {g : Given} {before : List Act} {past : Past} {log
     same = same;
     turns = h.past ∙ ap (λ (ts : List Turn). ts ++ this ∷ []) kept.turns;
     acts = kept.acts ∙ ap (λ (acts : List Act). before ++ acts) (sym (append-nil (acts_of past)));
-    settings = (laws.grow a.desk.now e r b.desk.now h.made.steps).settings;
+    settings = (laws.driving.grow a.desk.now e r b.desk.now h.made.steps).settings;
   }
 
   -- nothing is done with a connection that it isn't about

@@ -71,7 +71,7 @@ module _ (a b : Server) {e : Entry} {r : Reply} (h : EntersDesk a.desk e r b.des
   -- no packet waits behind it where none did
   pub entry_jobs : ServingLaws → IsLawful a.desk → IsSame a b → is_heard e ≡ false → (WorksAlone a → a.desk.now.jobs ≡ []) → WorksAlone b → b.desk.now.jobs ≡ []
   entry_jobs laws law same other jobs alone =
-      laws.none h.between e r b.desk.now (meanwhile_none laws law others_ahead.meanwhile (jobs (alone_back same alone))) other h.made.steps
+      laws.driving.none h.between e r b.desk.now (meanwhile_none laws law others_ahead.meanwhile (jobs (alone_back same alone))) other h.made.steps
 
 -- ---- in a call
 

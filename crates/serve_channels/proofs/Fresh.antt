@@ -30,12 +30,12 @@ module _ (g : Given) (log : List Act) (s : Server) (h : IsFresh s) (opens : s.de
   none_there at k there = none-some k (subst (λ (ks : List Connection). slice_get ks at ≡ Some k) h.alone there)
 
   now_is : s.desk.now ≡ opening g.policy g.settings
-  now_is = h.now ∙ opens
+  now_is = sym h.opened.footing ∙ opens
 
   fresh_kept : IsKept g log [] log s
   fresh_kept = record {
     start = opens;
-    turns = h.none;
+    turns = h.opened.start.none;
     acts = sym (append-nil log);
     sorted = λ i j c d up a b. absurd (none_there i a.connection a.there);
     agree = λ at k there. absurd (none_there at k there);

@@ -10,8 +10,9 @@ use Rattle.machine_steps.specs.declared.entry.Input.{Input}
 use Rattle.sim_steps.specs.Agreeing.{AreCut}
 use Rattle.serve_steps.specs.Deeds.{Past, bytes_of, ends, inputs_of, is_open, is_over, was_accepted}
 use Rattle.serve_channels.specs.declared.connection.Connection.{Connection}
-use Rattle.serve_channels.specs.declared.hearing.Came.{Came}
-use Rattle.serve_channels.specs.declared.hearing.Came.TheVariants.{Nothing, Message, Ended}
+use Rattle.machine_desk.specs.declared.hearing.Came.{Came}
+use Rattle.machine_desk.specs.declared.hearing.Came.TheVariants.{Nothing, Message, Ended}
+use Rattle.machine_desk.specs.Hearing.{goes_on}
 use Rattle.serve_channels.specs.declared.server.Server.{Server}
 use Rattle.serve_channels.specs.Hearing.{Hears, HearsWhile, UpTo}
 use Rattle.serve_channels.specs.Keeping.{Agrees, Goes, ServesSome}
@@ -57,8 +58,8 @@ stays_over c more past e = list_any-append (ends c) more past ∙ or_right (is_o
 
 up_to_end : (k : Came) (c : ℕ) (past : Past) (rest : List ℕ) → is_over c past ≡ true → UpTo k c past rest
 up_to_end Nothing c past rest over = inl over
-up_to_end Message c past rest over = tt
 up_to_end Ended c past rest over = over
+up_to_end k c past rest over = tt
 
 -- ---- some, and then more
 
@@ -132,17 +133,31 @@ hears_none c past k a e = record {
 
 -- ---- all
 
-is_up_to : (k : Came) (c : ℕ) (past : Past) (rest : List ℕ) → (k ≡ Message → ⊥) → UpTo k c past rest → UpTo Nothing c past rest
-is_up_to Nothing c past rest other h = h
-is_up_to Message c past rest other h = absurd (other refl)
-is_up_to Ended c past rest other h = inl h
+is_up_to : (k : Came) (c : ℕ) (past : Past) (rest : List ℕ) → goes_on k ≡ false → UpTo k c past rest → UpTo Nothing c past rest
+is_up_to Nothing c past rest last h = h
+is_up_to Ended c past rest last h = inl h
+is_up_to k c past rest last h = absurd (cc)
 
-hears_all : (c : ℕ) (k : Came) → (k ≡ Message → ⊥) → (past : Past) (own : List Entry) (done : Past) → HearsSome c k past own done → Hears c Nothing past own done
-hears_all c k other past own done h = go (is_open c past) refl
+hears_all : (c : ℕ) (k : Came) → goes_on k ≡ false → (past : Past) (own : List Entry) (done : Past) → HearsSome c k past own done → Hears c Nothing past own done
+hears_all c k last past own done h = go (is_open c past) refl
   where
     go : (b : Bool) → is_open c past ≡ b → HearsWhile b c Nothing past own done
-    go true e = record { inputs = h.inputs; rest = h.rest; entries_are = h.entries_are; cut = h.cut e; up_to = is_up_to k c (done ++ past) h.rest other (h.up_to e) }
+    go true e = record { inputs = h.inputs; rest = h.rest; entries_are = h.entries_are; cut = h.cut e; up_to = is_up_to k c (done ++ past) h.rest last (h.up_to e) }
     go false e = h.entries_are ∙ ap (map (entries.Heard c)) (h.silent e)
+
+-- more may come
+hears_more : (c : ℕ) (k : Came) (past : Past) (own : List Entry) (done : Past) → HearsSome c k past own done → HearsSome c Message past own done
+hears_more c k past own done h = record {
+  inputs = h.inputs;
+  rest = h.rest;
+  entries_are = h.entries_are;
+  heard = h.heard;
+  bytes = h.bytes;
+  accepted = h.accepted;
+  silent = h.silent;
+  cut = h.cut;
+  up_to = λ was. tt;
+}
 
 -- ---- a call under way
 
@@ -176,19 +191,19 @@ module _ (c at : ℕ) (k : Came) (old now new : Server) (h : HearsOn c at old no
   pub same_now : IsSame old new
   same_now = same_then h.same same
 
-  -- a message more
-  pub on_more : k ≡ Message → HearsOn c at old new
-  on_more is = record {
+  -- what came is heard, and more may come
+  pub on_more : HearsOn c at old new
+  on_more = record {
     there = (numbers at c).0 h.there;
     serves = (h.serves.0, serving_on (HearsSome c k) now new h.serves.0 h.serves.0 (next.goes c h.there h.serves.0) h.serves.1);
-    goes = λ log. subst (λ x. Goes (HearsSome c x) old log new log) is (goes_now log);
+    goes = λ log. goes_so (λ past. Unit {0}) (HearsSome c k) (HearsSome c Message) old new log log (hears_more c k) (goes_now log);
     numbers = numbers_now;
     same = same_now;
   }
 
   -- no more
-  pub on_last : (k ≡ Message → ⊥) → (log : List Act) → Goes (Hears c Nothing) old log new log
-  on_last other log = goes_so (λ past. Unit {0}) (HearsSome c k) (Hears c Nothing) old new log log (hears_all c k other) (goes_now log)
+  pub on_last : goes_on k ≡ false → (log : List Act) → Goes (Hears c Nothing) old log new log
+  on_last last log = goes_so (λ past. Unit {0}) (HearsSome c k) (Hears c Nothing) old new log log (hears_all c k last) (goes_now log)
 
 -- of a number that isn't there
 pub heard_missing : (c : ℕ) (s : Server) → IsMissing c s.connections.items → (log : List Act) → Goes (Hears c Nothing) s log s log

@@ -94,13 +94,13 @@ module _ {at : ℕ} {fault : Bool} {a b : Server} (h : Leaves at fault a b) wher
   abbrev pub gone : Entry
   gone = entries.Gone (number_of k) fault
 
-  abbrev pub gone_enters : EntersDesk a.desk gone h.closes.reply b.desk
-  gone_enters = h.closes.enters
+  abbrev pub gone_enters : EntersDesk a.desk gone h.does.reply b.desk
+  gone_enters = h.does.enters
 
   abbrev mid : Server
   mid = between a b gone_enters
 
-  next : EntersNext gone h.closes.reply mid.desk b.desk
+  next : EntersNext gone h.does.reply mid.desk b.desk
   next = next_ahead a b gone_enters
 
   abbrev pub gone_turn : Turn
@@ -108,22 +108,22 @@ module _ {at : ℕ} {fault : Bool} {a b : Server} (h : Leaves at fault a b) wher
 
   set_so : b.connections.items ≡ set a.connections.items at (left_so k)
   set_so =
-      h.connections
-      ∙ ap (λ (i : Inbound). set a.connections.items at (record k { inbound = i; cut = k.cut || is_live k.inbound.stage })) h.closes.stage
+      h.all
+      ∙ ap (λ (i : Inbound). set a.connections.items at (record k { inbound = i; cut = k.cut || is_live k.inbound.stage })) h.does.stage
 
   module _ (laws : ServingLaws) (law : IsLawful a.desk) (same : IsSame a b) where
     module _ {g : Given} {before : List Act} {past : Past} {log : List Act} (kept : IsKeptBut g before past log mid) (lawful_mid : IsLawful mid.desk) where
-      told_gone : IsGone (is_live k.inbound.stage) fault h.closes.reply
-      told_gone = gone_by (number_of k) fault (is_live k.inbound.stage) mid.desk.now h.closes.reply b.desk.now (kept.sessions.staged at k h.there).live next.made.steps
+      told_gone : IsGone (is_live k.inbound.stage) fault h.does.reply
+      told_gone = gone_by (number_of k) fault (is_live k.inbound.stage) mid.desk.now h.does.reply b.desk.now (kept.sessions.staged at k h.there).live next.made.steps
 
       here : Agrees (Enters gone_turn ∷ past) (left_so k)
-      here = left_agrees past k fault mid.desk.now b.desk.now h.closes.reply (kept.agree at k h.there) told_gone
+      here = left_agrees past k fault mid.desk.now b.desk.now h.does.reply (kept.agree at k h.there) told_gone
 
       shut : (live : Bool) → is_live k.inbound.stage ≡ live → is_some (session_at (number_of k) b.desk.now) ≡ false
       shut true is =
           (let some = some_at (session_at (number_of k) mid.desk.now) ((kept.sessions.staged at k h.there).live ∙ is) in
-          laws.ends mid.desk.now gone h.closes.reply b.desk.now lawful_mid.sound next.made.steps (number_of k) some.0 some.1
-          ∙ ap (λ x. not (x && is_end h.closes.reply)) (eq-eqb (number_of k) (number_of k) refl) ∙ ap not (told_gone.told_is ∙ is))
+          laws.driving.ends mid.desk.now gone h.does.reply b.desk.now lawful_mid.sound next.made.steps (number_of k) some.0 some.1
+          ∙ ap (λ x. not (x && is_end h.does.reply)) (eq-eqb (number_of k) (number_of k) refl) ∙ ap not (told_gone.told_is ∙ is))
       shut false is =
           (next_session laws lawful_mid next (number_of k) (λ e. absurd (cc))
           (ap (λ x. (number_of k == number_of k) && x) (told_gone.told_is ∙ is) ∙ and-false (number_of k == number_of k))).live
@@ -144,7 +144,7 @@ module _ {at : ℕ} {fault : Bool} {a b : Server} (h : Leaves at fault a b) wher
     goes_gone {past = past} {to = to} {done = done} u keeps =
         let v = ahead_now laws u b gone_enters in
         goes_with_one laws u b gone_enters same (unheard a b gone_enters to (entered gone_enters.others done ++ past) refl refl keeps
-        (gone_enough (number_of k) fault mid.desk.now h.closes.reply b.desk.now next.made.steps)) refl at k (left_so k) h.there set_so refl
+        (gone_enough (number_of k) fault mid.desk.now h.does.reply b.desk.now next.made.steps)) refl at k (left_so k) h.there set_so refl
         (λ n other. ne_eqb (number_of k) n (λ e. other (sym e))) (λ agrees. here v.kept v.law) (staged v.kept v.law)
 
     pub gone_jobs : (WorksAlone a → a.desk.now.jobs ≡ []) → WorksAlone b → b.desk.now.jobs ≡ []

@@ -30,7 +30,7 @@ use Rattle.serve_steps.specs.Deeds.{Past, acts_of, bytes_of, inputs_of, is_open,
 use Rattle.serve_steps.specs.Deeds.Deed.{Enters}
 use Rattle.serve_channels.specs.declared.connection.Connection.{Connection}
 use Rattle.serve_channels.specs.Keeping.{Agrees, IsHeardTo, is_message}
-use Rattle.serve_channels.specs.Servers.{number_of}
+use Rattle.serve_channels.specs.Servers.{number_of, with_inbound}
 use Rattle.serve_channels.proofs.Alike.{or_first}
 
 -- ---- bytes are cut on: further inputs stand behind messages
@@ -69,10 +69,6 @@ cut_fault inputs place bad bytes rest all cut at is =
     cut_then 0 inputs (Bad place bad ∷ []) bytes rest rest all cut (λ q e. (sym (same_place q place bytes rest at e), is, refl, refl))
 
 -- ---- what comes next
-
--- the connection with another inbound
-abbrev pub with_inbound : Inbound → Connection → Connection
-with_inbound j k = record k { inbound = j }
 
 -- where no fault was met
 answers_so : (s t : Stream) (n : Next) → s.broken ≡ None → Tells n s t → Answers n s t

@@ -153,11 +153,11 @@ module _ (laws : ServingLaws) where
     meanwhile_others = are_others (map call_of a.past) h.turns h.allowed
 
     pub meanwhile_stays : Stays a.now b.now
-    meanwhile_stays = laws.stays (map call_of a.past) (map call_of h.turns) a.now b.now (laws.calls a.now h.turns b.now law.sound h.leads).replays h.allowed
+    meanwhile_stays = laws.driving.stays (map call_of a.past) (map call_of h.turns) a.now b.now (laws.driving.calls a.now h.turns b.now law.sound h.leads).replays h.allowed
 
     pub meanwhile_lawful : b.footing ≡ a.footing → IsLawful b
     meanwhile_lawful footing = record {
-      sound = laws.sound a.now (map call_of h.turns) b.now law.sound (laws.calls a.now h.turns b.now law.sound h.leads).replays;
+      sound = laws.driving.legal a.now (map call_of h.turns) b.now law.sound (laws.driving.calls a.now h.turns b.now law.sound h.leads).replays;
       legal =
           subst (λ (f : Footing). Leads f.start b.past b.now) (sym footing)
           (subst (λ ts. Leads a.footing.start ts b.now) (sym h.past) (leads_then a.footing.start a.past h.turns a.now b.now law.legal h.leads));

@@ -5,6 +5,8 @@ use Rattle.std.specs.List.{slice_get}
 use Rattle.std.proofs.lemmas.Bool.{ne_eqb}
 use Rattle.std.proofs.lemmas.List.{set-set}
 use Rattle.std.proofs.lemmas.Option.{same_Some}
+use Rattle.desk_jobs.proofs.Crewed.{some_crew}
+use Rattle.desk_jobs.specs.Homes.{rest_of}
 use Rattle.maple_io.specs.declared.act.Act.{Act}
 use Rattle.machine_steps.specs.declared.entry.Entry.{Entry}
 use Rattle.machine_steps.specs.declared.entry.Entry.TheVariants as entries
@@ -15,7 +17,7 @@ use Rattle.machine_steps.specs.declared.reply.Reply.TheVariants.{Ended, Job as J
 use Rattle.machine_steps.specs.Histories.{Turn}
 use Rattle.machine_moves.specs.Told.{WaitsAs}
 use Rattle.machine_desk.specs.Desks.{DeskView, Enters as EntersDesk}
-use Rattle.machine_desk.specs.Hearing.{Comes, IsStaged, heard_by, is_live, stage_heard}
+use Rattle.machine_desk.specs.Hearing.{Comes, IsStaged, came_of, goes_on, heard_by, is_live, stage_heard}
 use Rattle.machine_desk.specs.Working.{RoundsClose}
 use Rattle.machine_desk.specs.declared.hearing.Heard.{Heard}
 use Rattle.machine_desk.specs.declared.inbound.Inbound.{Inbound}
@@ -27,12 +29,11 @@ use Rattle.serve_steps.specs.Deeds.Deed.{Enters}
 use Rattle.serve_steps.specs.Laws.{entered}
 use Rattle.serve_steps.specs.Parts.{Given, is_overload}
 use Rattle.serve_channels.specs.declared.connection.Connection.{Connection}
-use Rattle.serve_channels.specs.declared.hearing.Came.TheVariants as came
 use Rattle.serve_channels.specs.declared.server.Server.{Server}
 use Rattle.serve_channels.specs.Hearing.{UpTo}
 use Rattle.serve_channels.specs.Keeping.{IsKept, Went}
-use Rattle.serve_channels.specs.Passing.{Follows, HearsInput, HearsSome, MakesRoomFor, came_of, rest_at, rest_in}
-use Rattle.serve_channels.specs.Servers.{IsSame, WorksAlone, number_of}
+use Rattle.serve_channels.specs.Passing.{Follows, HearsInput, HearsSome, MakesRoomFor, rest_at}
+use Rattle.serve_channels.specs.Servers.{IsSame, WorksAlone, number_of, with_inbound}
 use Rattle.serve_channels.specs.Serving.{ServingLaws}
 use Rattle.serve_channels.proofs.Alike.{IsAlike, alike_open, alike_then}
 use Rattle.serve_channels.proofs.Answered.{answered}
@@ -40,8 +41,8 @@ use Rattle.serve_channels.proofs.Attended.{alike_beside, beside_none, beside_of,
 use Rattle.serve_channels.proofs.Entering.{IsUnderWay, begins, goes_beside, is_over_now}
 use Rattle.serve_channels.proofs.Entries.{ahead_now, between, goes_with_one, others_ahead, own_turn}
 use Rattle.serve_channels.proofs.HeardReply.{Tells, tells_so}
-use Rattle.serve_channels.proofs.Kept.{alone_back, some_crew}
-use Rattle.serve_channels.proofs.OneHeard.{HeardBy, comes_live, cut_now, fewer_now, inputs_are, one_agrees, over_now, was_open, with_inbound}
+use Rattle.serve_channels.proofs.Kept.{alone_back}
+use Rattle.serve_channels.proofs.OneHeard.{HeardBy, comes_live, cut_now, fewer_now, inputs_are, one_agrees, over_now, was_open}
 use Rattle.serve_channels.proofs.Others.{DidBeside, IsLawful, meanwhile_others, others_jobs}
 use Rattle.serve_channels.proofs.Replies.{had_memory}
 
@@ -56,7 +57,7 @@ up_to_by : (reply : Reply) (c : ℕ) (past : Past) (rest : List ℕ) → (tells_
 up_to_by (Ended end) c past rest over = over refl
 up_to_by reply c past rest over = tt
 
-pub goes_on_by : (reply : Reply) → came_of (heard_by reply) ≡ came.Message → tells_end reply ≡ false
+pub goes_on_by : (reply : Reply) → goes_on (came_of (heard_by reply)) ≡ true → tells_end reply ≡ false
 goes_on_by (Ended end) e = absurd (cc)
 goes_on_by reply e = refl
 
@@ -83,7 +84,7 @@ module _ (laws : ServingLaws) (close : RoundsClose) {here : ℕ} {old source roo
   entry = entries.Heard c input
 
   abbrev reply : Reply
-  reply = hears.hears.reply
+  reply = hears.does.0.reply
 
   -- the server there, as if the connection were as it was
   abbrev roomy : Server
@@ -105,18 +106,18 @@ module _ (laws : ServingLaws) (close : RoundsClose) {here : ℕ} {old source roo
 
   l_is : with_inbound hears.behind hears.connection ≡ l
   l_is =
-      ap (λ i. with_inbound i hears.connection) hears.hears.stage
-      ∙ ap (λ x. with_inbound (record hears.connection.inbound { stage = stage_heard x hears.connection.inbound.stage }) hears.connection) hears.hears.heard_is
+      ap (λ i. with_inbound i hears.connection) hears.does.0.stage
+      ∙ ap (λ x. with_inbound (record hears.connection.inbound { stage = stage_heard x hears.connection.inbound.stage }) hears.connection) hears.does.0.heard_is
       ∙ ap (λ (x : Connection). with_inbound (record x.inbound { stage = stage_heard (heard_by reply) x.inbound.stage }) x) was
 
   set_is : mid.connections.items ≡ set old.connections.items here l
-  set_is = hears.connections ∙ ap (set room.connections.items here) l_is ∙ ap (λ ks. set ks here l) items ∙ set-set old.connections.items here (with_inbound j k) l
+  set_is = hears.all ∙ ap (set room.connections.items here) l_is ∙ ap (λ ks. set ks here l) items ∙ set-set old.connections.items here (with_inbound j k) l
 
   -- ---- the entry
 
   entered_so : EntersDesk room.desk entry reply mid.desk
   entered_so =
-      subst (λ n. EntersDesk room.desk (entries.Heard n input) reply mid.desk) (ap (λ (x : Connection). x.inbound.connection) was ∙ comes.1.0) hears.hears.asks.enters
+      subst (λ n. EntersDesk room.desk (entries.Heard n input) reply mid.desk) (ap (λ (x : Connection). x.inbound.connection) was ∙ comes.1.0) hears.does.0.asks.enters
 
   -- behind what others did ahead of it
   abbrev ready : Server
@@ -135,7 +136,7 @@ module _ (laws : ServingLaws) (close : RoundsClose) {here : ℕ} {old source roo
   roomy_same = record { footing = same.footing; crew = same.crew }
 
   memory : lacks_memory reply ≡ false
-  memory = had_memory reply hears.hears.asks.memory
+  memory = had_memory reply hears.does.0.asks.memory
 
   tells : Tells input before_it.now reply
   tells = tells_so c input before_it.now reply mid.desk.now entered_so.made.steps
@@ -189,7 +190,7 @@ module _ (laws : ServingLaws) (close : RoundsClose) {here : ℕ} {old source roo
     open_ahead = was_open by
 
     waits : WorksAlone roomy → WaitsAs c reply mid.desk.now.jobs
-    waits alone = laws.jobs before_it.now c input reply mid.desk.now (none_ahead alone) entered_so.made.steps
+    waits alone = laws.driving.jobs before_it.now c input reply mid.desk.now (none_ahead alone) entered_so.made.steps
 
     fits : is_overload reply ≡ false
     fits =
@@ -213,7 +214,7 @@ module _ (laws : ServingLaws) (close : RoundsClose) {here : ℕ} {old source roo
     staged_room = subst (λ (x : Connection). IsStaged x.inbound room.desk.now) (sym was) (subst (λ (i : Inbound). IsStaged i room.desk.now) session_is staged_now)
 
     staged_mid : IsStaged l.inbound mid.desk.now
-    staged_mid = subst (λ (x : Connection). IsStaged x.inbound mid.desk.now) l_is (hears.staged staged_room)
+    staged_mid = subst (λ (x : Connection). IsStaged x.inbound mid.desk.now) l_is (hears.does.1 staged_room)
 
     abbrev done3 : Past
     done3 = Enters this ∷ done2
@@ -243,7 +244,7 @@ module _ (laws : ServingLaws) (close : RoundsClose) {here : ℕ} {old source roo
     follow_by other is f waiting = nothing_more f waiting
 
     followed : Followed
-    followed = follow_by reply refl (subst (λ x. Follows x mid new) hears.hears.heard_is follows) waits
+    followed = follow_by reply refl (subst (λ x. Follows x mid new) hears.does.0.heard_is follows) waits
 
     abbrev done4 : Past
     done4 = entered followed.0.meanwhile.turns done3
@@ -271,13 +272,12 @@ module _ (laws : ServingLaws) (close : RoundsClose) {here : ℕ} {old source roo
     pub went_on : Went g before (HearsSome c (came_of heard) past) past log new
     went_on =
         is_over_now (HearsSome c (came_of heard) past) fourth
-        (subst (λ x. HearsSome c (came_of x) past (entry ∷ []) done4) (sym hears.hears.heard_is) hears_some) followed.1
+        (subst (λ x. HearsSome c (came_of x) past (entry ∷ []) done4) (sym hears.does.0.heard_is) hears_some) followed.1
 
-    -- fewer bytes are left behind a message
-    pub fewer_left : came_of heard ≡ came.Message → rest_at here new < rest_at here old
+    -- fewer bytes are left where more may be to be heard
+    pub fewer_left : goes_on (came_of heard) ≡ true → rest_at here new < rest_at here old
     fewer_left told =
-        let goes_on = goes_on_by reply (ap came_of (sym hears.hears.heard_is) ∙ told) in
-        let fewer = fewer_now by goes_on in
-        let was_left : rest_at here old ≡ length k.inbound.from.stream.rest = ap rest_in there in
-        let left : rest_at here new ≡ length j.from.stream.rest = ap rest_in (ap (λ ks. slice_get ks here) (followed.0.connections ∙ set_is) ∙ set_there old.connections.items here k l there) in
+        let fewer = fewer_now by (goes_on_by reply (ap (λ x. goes_on (came_of x)) (sym hears.does.0.heard_is) ∙ told)) in
+        let was_left : rest_at here old ≡ length k.inbound.from.stream.rest = ap (rest_of (λ (x : Connection). x.inbound)) there in
+        let left : rest_at here new ≡ length j.from.stream.rest = ap (rest_of (λ (x : Connection). x.inbound)) (ap (λ ks. slice_get ks here) (followed.0.connections ∙ set_is) ∙ set_there old.connections.items here k l there) in
         omega (arith, fewer, was_left, left)

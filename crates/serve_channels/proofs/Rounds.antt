@@ -164,7 +164,7 @@ taken_unfailed {at} {a} {b} h =
 left_unfailed : {at : ℕ} {fault : Bool} {d e : Server} → Leaves at fault d e → unfailed e ≡ unfailed d
 left_unfailed {at} {fault} {d} {e} h =
     same_count (unfailed e) (unfailed d) (cond (not h.connection.queue.failed) 1 0)
-    (unfailed_set d e at h.connection (record h.connection { inbound = h.behind; cut = h.connection.cut || is_live h.connection.inbound.stage }) h.there h.connections)
+    (unfailed_set d e at h.connection (record h.connection { inbound = h.behind; cut = h.connection.cut || is_live h.connection.inbound.stage }) h.there h.all)
 
 one_fewer : (failed : Bool) (b d : Server) → unfailed d + 1 ≡ unfailed b + cond (not failed) 1 0 → FewerUnfailed failed b d
 one_fewer true b d e = omega (arith, e)
@@ -207,7 +207,7 @@ others_sent {at} {a = a} {b = b} takes sends n other =
 
 pub others_left : {at : ℕ} {a b d e : Server} {from to : BoardView} → TakesOut at a b → SendsOut at true b d from to → Leaves at true d e → OthersStay at a e
 others_left {at} {d = d} takes sends leaves n other =
-    ap (λ (ks : List Connection). slice_get ks n) leaves.connections
+    ap (λ (ks : List Connection). slice_get ks n) leaves.all
     ∙ set_beside d.connections.items at n
     (record leaves.connection { inbound = leaves.behind; cut = leaves.connection.cut || is_live leaves.connection.inbound.stage }) other
     ∙ others_sent takes sends n other
@@ -244,4 +244,4 @@ empties_all count failed s long h = record {
 
 -- no send failed in the last round
 pub still_now : (failed : Bool) (s : Server) → failed ≡ false → EmptiesAll failed s → IsStill s
-still_now failed s fine h = record { none = h.none; taken = h.all fine }
+still_now failed s fine h = record { jobs = h.none; taken = h.all fine }

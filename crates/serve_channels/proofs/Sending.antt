@@ -8,6 +8,7 @@ use Rattle.std.proofs.lemmas.Bool.{and_parts, ne_eqb}
 use Rattle.std.proofs.lemmas.Grind.{flat_map-append}
 use Rattle.std.proofs.lemmas.List.{append_cancel_left}
 use Rattle.std.proofs.lemmas.List.Folds.{list_any-append}
+use Rattle.desk_jobs.proofs.Crewed.{same_crew}
 use Rattle.maple_io.specs.Fronts.{IsFront}
 use Rattle.maple_io.specs.declared.act.Act.{Act}
 use Rattle.maple_io.specs.declared.act.Act.TheVariants as acts
@@ -29,7 +30,7 @@ use Rattle.serve_channels.specs.Stretches.{IsAside, Owes, Stretch}
 use Rattle.serve_channels.proofs.Acts.{acts_did, agrees_on, alike_of, did, did_last, did_on, is_quiet_act, stays_did, stays_one, stays_then, turns_did, unread_did}
 use Rattle.serve_channels.proofs.Alike.{IsAlike, alike_same, alike_then}
 use Rattle.serve_channels.proofs.Entering.{IsUnderWay}
-use Rattle.serve_channels.proofs.Kept.{IsKeptBut, kept_at, same_crew, set_unknown}
+use Rattle.serve_channels.proofs.Kept.{IsKeptBut, kept_at, set_unknown}
 use Rattle.serve_channels.proofs.Others.{IsLawful}
 
 -- ---- one act in a stretch

@@ -158,7 +158,7 @@ module _ {g : Given} {before : List Act} {past done : Past} (from to : BoardView
     told = entries.Gone (number_of leaves.connection) true
 
     abbrev behind : Past
-    behind = Enters (gone_turn leaves) ∷ entered leaves.closes.enters.others deeds
+    behind = Enters (gone_turn leaves) ∷ entered leaves.does.enters.others deeds
 
     not_own : entry_if (true && not (ends_due (Some (number_of k)) told)) told ≡ []
     not_own = ap (λ (x : Bool). entry_if (true && not (x && true)) told) own
@@ -173,28 +173,28 @@ module _ {g : Given} {before : List Act} {past done : Past} (from to : BoardView
     left = record leaves.connection { inbound = leaves.behind; cut = leaves.connection.cut || is_live leaves.connection.inbound.stage }
 
     there_left : slice_get e.connections.items at ≡ Some left
-    there_left = ap (λ (ks : List Connection). slice_get ks at) leaves.connections ∙ set_there d.connections.items at leaves.connection left leaves.there
+    there_left = ap (λ (ks : List Connection). slice_get ks at) leaves.all ∙ set_there d.connections.items at leaves.connection left leaves.there
 
     number_left : number_of left ≡ number_of k
-    number_left = ap (λ (i : Inbound). i.connection) leaves.closes.stage ∙ ap number_of is_left
+    number_left = ap (λ (i : Inbound). i.connection) leaves.does.stage ∙ ap number_of is_left
 
     another_left : (n : ℕ) (x : Connection) → n ≢ at → slice_get e.connections.items n ≡ Some x → number_of x ≢ number_of k
     another_left n x other is same = apart e.connections.items under_way_left.kept.sorted at n left x there_left is other (same ∙ sym number_left)
 
     taken_left : list_any (takes_out (number_of k)) behind ≡ true
     taken_left =
-        any_more (takes_out (number_of k)) (Enters (gone_turn leaves)) (entered leaves.closes.enters.others deeds)
-        (any_entered (takes_out (number_of k)) leaves.closes.enters.others deeds
+        any_more (takes_out (number_of k)) (Enters (gone_turn leaves)) (entered leaves.does.enters.others deeds)
+        (any_entered (takes_out (number_of k)) leaves.does.enters.others deeds
         (any_more (takes_out (number_of k)) (Does failing) (did more done) (any_did (takes_out (number_of k)) more done so_far.taken)))
 
-    are_others : AreOthers leaves.closes.enters.others
-    are_others = meanwhile_others laws due_now.law (meanwhile_ahead leaves.closes.enters)
+    are_others : AreOthers leaves.does.enters.others
+    are_others = meanwhile_others laws due_now.law (meanwhile_ahead leaves.does.enters)
 
     aside_left : (c : ℕ) → c ≢ number_of k → IsAside c behind
     aside_left c other =
-        aside_turn c (gone_turn leaves) (entered leaves.closes.enters.others deeds)
+        aside_turn c (gone_turn leaves) (entered leaves.does.enters.others deeds)
         (spares_another c (gone_turn leaves) (ne_eqb (number_of leaves.connection) c (λ e. other (sym e ∙ ap number_of is_left))))
-        (others_aside c leaves.closes.enters.others deeds are_others
+        (others_aside c leaves.does.enters.others deeds are_others
         (aside_one (number_of k) c failing (did more done) (send_to (number_of k) (number_of k) [] sends.Failed (eq-eqb (number_of k) (number_of k) refl)) other
         (aside_good (number_of k) c more done good other (so_far.aside c other))))
 

@@ -65,11 +65,11 @@ module _ (laws : ServingLaws) (a : Server) (d : DeskView) (old new : SinkView) (
   -- with no packet waiting the machine is as it was, but for the report
   pub still_reported : IsStill a → IsStill b
   still_reported still =
-      let same = nothing_beside laws a.desk (ahead h.enters) (lawful law) (meanwhile_ahead h.enters) still.none in
+      let same = nothing_beside laws a.desk (ahead h.enters) (lawful law) (meanwhile_ahead h.enters) still.jobs in
       let behind : d.now ≡ record a.desk.now { lines = [] }
       = ⊎_elim (λ taken. taken.1 ∙ ap (λ (m : State). record m { lines = [] }) same) (λ lacks. absurd (cc lacks.0)) h.enters.made.steps in
       record {
-        none = ap (λ (m : State). m.jobs) behind ∙ still.none;
+        jobs = ap (λ (m : State). m.jobs) behind ∙ still.jobs;
         taken = λ at k there live. ap (messages_for (number_of k)) behind ∙ still.taken at k there live;
       }
 

@@ -32,7 +32,7 @@ use Rattle.serve_channels.specs.Keeping.{Agrees, IsHeardTo, IsKept, is_message}
 use Rattle.serve_channels.specs.Servers.{IsKnown, IsSame, number_of}
 use Rattle.serve_channels.proofs.Acts.{act_alike}
 use Rattle.serve_channels.proofs.Alike.{IsAlike, unused_alike}
-use Rattle.serve_channels.proofs.Kept.{IsKeptBut, IsLeft, IsTold, alone_back, kept_at, kept_but, kept_same, kept_whole, same_connections, same_server}
+use Rattle.serve_channels.proofs.Kept.{IsKeptBut, IsLeft, IsTold, alone_back, kept_at, kept_but, kept_same, kept_whole, number_there, same_connections, same_server}
 
 -- ---- what a turn leaves of a connection
 
@@ -127,21 +127,24 @@ module _ {g : Given} {before : List Act} {past : Past} {log : List Act} {a : Ser
   -- bytes on a connection that is there
   module _ {new_log : List Act} {b : Server} (c n : ℕ) (bytes : List ℕ) (log_is : new_log ≡ log ++ acts.Gives (turn.Bytes c n) bytes ∷ []) (h : FeedsOne c bytes a b) where
     abbrev k : Connection
-    k = h.connection
+    k = h.feeds.connection
+
+    number : number_of k ≡ c
+    number = number_there h.at c k a.connections.items h.feeds.there h.is
 
     abbrev behind_it : Past
     behind_it = Does (acts.Gives (turn.Bytes c n) bytes) ∷ past
 
     agrees : Agrees past k
-    agrees = kept.agree h.at k h.there
+    agrees = kept.agree h.at k h.feeds.there
 
     alike : IsAlike (number_of k) past behind_it
     alike = given_alike (number_of k) (turn.Bytes c n) bytes past
 
     came : bytes_of (number_of k) behind_it ≡ bytes_of (number_of k) past ++ bytes
-    came = (let e : (c == number_of k) ≡ true = ap (λ m. c == m) h.number ∙ eq-eqb c c refl in rw e refl)
+    came = (let e : (c == number_of k) ≡ true = ap (λ m. c == m) number ∙ eq-eqb c c refl in rw e refl)
 
-    fed_agrees : Agrees behind_it (record k { inbound = record k.inbound { from = h.behind.from } })
+    fed_agrees : Agrees behind_it (record k { inbound = record k.inbound { from = h.feeds.behind.from } })
     fed_agrees = record {
       queue = agrees.queue;
       begun = agrees.begun;
@@ -151,34 +154,34 @@ module _ {g : Given} {before : List Act} {past : Past} {log : List Act} {a : Ser
       step = append-nil (taken_of (number_of k) past) ∙ agrees.step ∙ ap (λ xs. xs ++ k.queue.rest) (sym alike.sent_is);
       failed = agrees.failed;
       heard = λ live.
-          subst (IsHeardTo (number_of k) behind_it) (sym h.stream)
+          subst (IsHeardTo (number_of k) behind_it) (sym h.feeds.does.0)
           (heard_more (number_of k) past behind_it k.inbound.from.stream bytes alike.inputs came (agrees.heard live));
       opened = alike.opened agrees.opened;
       closed = alike.closed ∙ agrees.closed;
     }
 
-    behind_is : record k.inbound { from = h.behind.from } ≡ h.behind
-    behind_is = λ i. record { connection = sym h.session.0 i; stage = sym h.session.1 i; from = h.behind.from }
+    behind_is : record k.inbound { from = h.feeds.behind.from } ≡ h.feeds.behind
+    behind_is = λ i. record { connection = sym h.feeds.does.1.0 i; stage = sym h.feeds.does.1.1 i; from = h.feeds.behind.from }
 
-    here : Agrees behind_it (record k { inbound = h.behind })
+    here : Agrees behind_it (record k { inbound = h.feeds.behind })
     here = subst (λ (x : Inbound). Agrees behind_it (record k { inbound = x })) behind_is fed_agrees
 
     desk_is : b.desk ≡ a.desk
-    desk_is = ap (λ (s : Server). s.desk) h.rest
+    desk_is = ap (λ (s : Server). s.desk) h.feeds.rest
 
     same_is : IsSame a b
-    same_is = same_connections a b h.rest
+    same_is = same_connections a b h.feeds.rest
 
-    staged_is : IsStaged h.behind b.desk.now
+    staged_is : IsStaged h.feeds.behind b.desk.now
     staged_is =
-        subst (λ d. IsStaged h.behind d.now) (sym desk_is)
-        (subst (λ (x : Inbound). IsStaged x a.desk.now) behind_is (still_staged k.inbound h.behind.from a.desk.now (kept.sessions.staged h.at k h.there)))
+        subst (λ d. IsStaged h.feeds.behind d.now) (sym desk_is)
+        (subst (λ (x : Inbound). IsStaged x a.desk.now) behind_is (still_staged k.inbound h.feeds.behind.from a.desk.now (kept.sessions.staged h.at k h.feeds.there)))
 
     fed_kept : IsKept g before behind_it new_log b
     fed_kept =
         whole (turn.Bytes c n) bytes log_is desk_is same_is
-        (kept_at (kept_but kept) (told (turn.Bytes c n) bytes log_is desk_is same_is) h.at k (record k { inbound = h.behind }) h.there h.connections h.session.0 here staged_is
-        (λ m other. left (turn.Bytes c n) bytes log_is desk_is m (λ known. ne_eqb c m (λ e. other (sym e ∙ sym h.number)))))
+        (kept_at (kept_but kept) (told (turn.Bytes c n) bytes log_is desk_is same_is) h.at k (record k { inbound = h.feeds.behind }) h.feeds.there h.feeds.all h.feeds.does.1.0 here staged_is
+        (λ m other. left (turn.Bytes c n) bytes log_is desk_is m (λ known. ne_eqb c m (λ e. other (sym e ∙ sym number)))))
 
   -- a connection was opened
   is_new : {b : Server} (c : ℕ) (bytes : List ℕ) → was_opened c log ≡ false → b ≡ a → IsNew (turn.Opened c) (Does (acts.Gives (turn.Opened c) bytes) ∷ past) b

@@ -20,7 +20,7 @@ use Rattle.machine_desk.specs.declared.inbound.Inbound.{Inbound}
 use Rattle.machine_desk.specs.Hearing.{is_live}
 use Rattle.machine_desk.specs.Hearing.{Closes as EndsSession}
 use Rattle.machine_desk.specs.Orders.{Asks}
-use Rattle.world_steps.specs.Worlds.{messages_for}
+use Rattle.desk_jobs.specs.Connections.{IsDone, IsTaken, Moves, OthersStay as OthersStayAt}
 use Rattle.desk_jobs.specs.Homes.{NoneWaits}
 use Rattle.serve_steps.specs.Deeds.{Past, acts_of, last_answer, takes_out, turns_of}
 use Rattle.serve_steps.specs.Deeds.Deed.{Does}
@@ -29,7 +29,7 @@ use Rattle.serve_steps.specs.Runs.{taken_report}
 use Rattle.serve_channels.specs.declared.connection.Connection.{Connection}
 use Rattle.serve_channels.specs.declared.server.Server.{Server}
 use Rattle.serve_channels.specs.Keeping.{IsBegun, IsKept}
-use Rattle.serve_channels.specs.Servers.{IsUnknown, number_of}
+use Rattle.serve_channels.specs.Servers.{IsUnknown, links, number_of}
 use Rattle.serve_channels.specs.Stretches.{IsAside, Stretch}
 
 -- ---- a turn of the board
@@ -99,7 +99,7 @@ pub record ServesAt (at : ℕ) (new : Server) (past : Past) (own : List Entry) (
 
 -- the others are as they were
 abbrev pub OthersStay : ℕ → Server → Server → Type 0
-OthersStay at old new = (n : ℕ) → n ≢ at → slice_get new.connections.items n ≡ slice_get old.connections.items n
+OthersStay at old new = OthersStayAt links at old new
 
 -- all were
 abbrev pub ServesAll : Server → Past → List Entry → Past → Type 0
@@ -107,17 +107,15 @@ ServesAll new past own done = (own ≡ []) × ((at : ℕ) (k : Connection) → s
 
 -- nothing waits in the machine for the connection with this index, if its session is open
 abbrev pub TakenAt : ℕ → Server → Type 0
-TakenAt at s =
-    (k : Connection) → slice_get s.connections.items at ≡ Some k → is_live k.inbound.stage ≡ true → messages_for (number_of k) s.desk.now ≡ []
+TakenAt at s = IsTaken links at s
 
 -- nor for any
 abbrev pub AllTaken : Server → Type 0
 AllTaken s = (at : ℕ) → TakenAt at s
 
 -- no packet waits, and the machine has nothing for an open session: so it stays, whatever anybody else does
-pub record IsStill (s : Server) : Type 0 where
-  pub none : NoneWaits s.desk
-  pub taken : AllTaken s
+abbrev pub IsStill : Server → Type 0
+IsStill s = IsDone links s
 
 -- no packet waits behind it; and where no send failed nothing waits for this connection, nor for another for which nothing did
 pub record Empties (at : ℕ) (failed : Bool) (old new : Server) : Type 0 where
@@ -165,16 +163,13 @@ abbrev pub FewerUnfailed : Bool → Server → Server → Type 0
 FewerUnfailed true old new = unfailed new < unfailed old
 FewerUnfailed false old new = unfailed new ≤ unfailed old
 
--- the session of the connection with this index was ended, with a fault of its link or without; it was cut by its link where it was open
-pub record Leaves (at : ℕ) (fault : Bool) (old new : Server) : Type 0 where
-  pub connection : Connection
-  pub there : slice_get old.connections.items at ≡ Some connection
-  pub behind : Inbound
-  pub closes : EndsSession fault old.desk connection.inbound new.desk behind
-  pub rest : new ≡ record old { desk = new.desk; connections = new.connections }
-  pub connections :
-      new.connections.items
-      ≡ set old.connections.items at (record connection { inbound = behind; cut = connection.cut || is_live connection.inbound.stage })
+-- a connection of which this came, cut by its link where its session was open
+abbrev pub cut_with : Inbound → Connection → Connection
+cut_with i k = record k { inbound = i; cut = k.cut || is_live k.inbound.stage }
+
+-- the session of the connection with this index was ended, with a fault of its link or without; it was cut where it was open
+abbrev pub Leaves : ℕ → Bool → Server → Server → Type 0
+Leaves at fault old new = Moves links cut_with at (EndsSession fault) old new
 
 -- ---- closing
 

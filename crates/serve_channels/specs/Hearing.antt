@@ -8,14 +8,14 @@ use Rattle.board_lines.specs.declared.control_item.ControlItem.{ControlItem}
 use Rattle.sim_steps.specs.Agreeing.{AreCut}
 use Rattle.serve_steps.specs.Deeds.{Past, bytes_of, inputs_of, is_open, is_over}
 use Rattle.serve_steps.specs.Texts.{AreEntriesOf, asked_by}
-use Rattle.serve_channels.specs.declared.hearing.Came.{Came}
-use Rattle.serve_channels.specs.declared.hearing.Came.TheVariants.{Nothing, Message, Ended}
+use Rattle.machine_desk.specs.declared.hearing.Came.{Came}
+use Rattle.machine_desk.specs.declared.hearing.Came.TheVariants.{Nothing, Ended}
 
 -- nothing more is to be heard where nothing came, or the session ended
 abbrev pub UpTo : Came → ℕ → Past → List ℕ → Type 0
 UpTo Nothing c after rest = (is_over c after ≡ true) ⊎ IsOpen rest
 UpTo Ended c after rest = is_over c after ≡ true
-UpTo Message c after rest = Unit {0}
+UpTo came c after rest = Unit {0}
 
 -- what came next was heard: these inputs are what comes next in what all that came is cut into, and by what came no more is to be heard
 pub record HearsNext (c : ℕ) (came : Came) (past : Past) (own : List Entry) (done : Past) : Type 0 where

@@ -1,30 +1,27 @@
 -- One message that is heard: room for the packet in it, the entry, and what is done about its reply.
-use Rattle.std.specs.Prelude.{◌≡◌, ℕ, ◌<◌, true, false, List, [], ◌++◌, map, set, Option, Some, IfSome}
-use Rattle.std.specs.List.{slice_get}
+use Rattle.std.specs.Prelude.{◌≡◌, ℕ, ◌<◌, true, false, List, [], ◌++◌, map, IfSome}
 use Rattle.maple_io.specs.declared.act.Act.{Act}
 use Rattle.machine_steps.specs.declared.entry.Entry.{Entry}
 use Rattle.machine_steps.specs.declared.entry.Entry.TheVariants as entries
 use Rattle.machine_steps.specs.declared.entry.Input.{Input}
 use Rattle.machine_steps.specs.Waiting.{Waiting}
 use Rattle.machine_desk.specs.Desks.{DeskView}
-use Rattle.machine_desk.specs.Hearing.{Hears as HearsAtDesk, IsStaged}
+use Rattle.machine_desk.specs.declared.hearing.Came.{Came}
+use Rattle.machine_desk.specs.Hearing.{Hears as HearsAtDesk, IsStaged, goes_on}
 use Rattle.machine_desk.specs.Working.{Works}
 use Rattle.machine_desk.specs.declared.hearing.Heard.{Heard}
-use Rattle.machine_desk.specs.declared.hearing.Heard.TheVariants as heard
 use Rattle.machine_desk.specs.declared.inbound.Inbound.{Inbound}
 use Rattle.packet_workers.specs.declared.worked.Worked.{Worked}
 use Rattle.desk_jobs.specs.Crews.{IsCrew}
-use Rattle.desk_jobs.specs.Homes.{Attends as AttendsAt, Follows as FollowsAt, MakesRoom as MakesRoomAt, MakesRoomFor as MakesRoomForAt, IsTended, rest_of}
+use Rattle.desk_jobs.specs.Connections.{Moves, rest_at as rest_at_index}
+use Rattle.desk_jobs.specs.Homes.{Attends as AttendsAt, Follows as FollowsAt, MakesRoom as MakesRoomAt, MakesRoomFor as MakesRoomForAt, IsTended}
 use Rattle.desk_jobs.specs.Tending.{IsWhole}
 use Rattle.sim_steps.specs.Agreeing.{AreCut}
 use Rattle.serve_steps.specs.Deeds.{Past, bytes_of, inputs_of, is_open, was_accepted}
-use Rattle.serve_channels.specs.declared.connection.Connection.{Connection}
-use Rattle.serve_channels.specs.declared.hearing.Came.{Came}
-use Rattle.serve_channels.specs.declared.hearing.Came.TheVariants as came
 use Rattle.serve_channels.specs.declared.server.Server.{Server}
 use Rattle.serve_channels.specs.Hearing.{UpTo}
 use Rattle.serve_channels.specs.Keeping.{Goes}
-use Rattle.serve_channels.specs.Servers.{IsAt, home}
+use Rattle.serve_channels.specs.Servers.{IsAt, home, links, with_inbound}
 
 -- ---- who works beside
 
@@ -59,27 +56,17 @@ Follows heard old new = FollowsAt home IsWorked heard old new
 
 -- ---- a message
 
--- an input of the connection with this index was heard; it alone changes, and its session may end
-pub record HearsInput (at : ℕ) (input : Input) (heard : Heard) (old new : Server) : Type 0 where
-  pub connection : Connection
-  pub there : slice_get old.connections.items at ≡ Some connection
-  pub behind : Inbound
-  pub hears : HearsAtDesk input heard old.desk connection.inbound new.desk behind
-  pub staged : IsStaged connection.inbound old.desk.now → IsStaged behind new.desk.now
-  pub rest : new ≡ record old { desk = new.desk; connections = new.connections }
-  pub connections : new.connections.items ≡ set old.connections.items at (record connection { inbound = behind })
+-- an input was heard at the desk, and the session stands as its stage says if it did so before
+abbrev pub HearsStaged : Input → Heard → DeskView → Inbound → DeskView → Inbound → Type 0
+HearsStaged input heard a i b j = HearsAtDesk input heard a i b j × (IsStaged i a.now → IsStaged j b.now)
 
--- what is told of an input
-abbrev pub came_of : Heard → Came
-came_of heard.Ended = came.Ended
-came_of rest = came.Message
+-- an input of the connection with this index was heard; it alone changes, and its session may end
+abbrev pub HearsInput : ℕ → Input → Heard → Server → Server → Type 0
+HearsInput at input heard old new = Moves links with_inbound at (HearsStaged input heard) old new
 
 -- how many bytes of a connection are to be heard yet
-abbrev pub rest_in : Option Connection → ℕ
-rest_in k = rest_of (λ (c : Connection). c.inbound) k
-
 abbrev pub rest_at : ℕ → Server → ℕ
-rest_at at s = rest_in (slice_get s.connections.items at)
+rest_at at s = rest_at_index links at s
 
 -- some inputs were heard of a connection, none where its session wasn't open, and by what came no more is to be heard
 pub record HearsSome (c : ℕ) (k : Came) (past : Past) (own : List Entry) (done : Past) : Type 0 where
@@ -93,7 +80,7 @@ pub record HearsSome (c : ℕ) (k : Came) (past : Past) (own : List Entry) (done
   pub cut : is_open c past ≡ true → AreCut 0 (inputs_of c past ++ inputs) (bytes_of c past) rest
   pub up_to : is_open c past ≡ true → UpTo k c (done ++ past) rest
 
--- what came next of the connection with this index was heard; behind a message fewer bytes are left
+-- what came next of the connection with this index was heard; where more may be to be heard fewer bytes are left
 pub record HearsAt (at : ℕ) (k : Came) (old new : Server) : Type 0 where
   pub goes : (c : ℕ) → IsAt at c old.connections.items → (log : List Act) → Goes (HearsSome c k) old log new log
-  pub fewer : k ≡ came.Message → rest_at at new < rest_at at old
+  pub fewer : goes_on k ≡ true → rest_at at new < rest_at at old

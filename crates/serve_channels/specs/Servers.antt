@@ -2,7 +2,9 @@
 use Rattle.std.specs.Prelude.{◌≡◌, ℕ, ◌<◌, ◌≤◌, false, List, length, Some, is_some}
 use Rattle.std.specs.List.{slice_get}
 use Rattle.machine_steps.specs.Machine.{State, session_at}
-use Rattle.machine_desk.specs.Hearing.{IsStaged}
+use Rattle.machine_desk.specs.Desks.{SameHall}
+use Rattle.machine_desk.specs.declared.inbound.Inbound.{Inbound}
+use Rattle.desk_jobs.specs.Connections.{AreStaged, Connections}
 use Rattle.desk_jobs.specs.Crews.{SameCrew}
 use Rattle.desk_jobs.specs.Homes.{Home, IsAlone, IsSame as IsSameAt}
 use Rattle.serve_channels.specs.declared.connection.Connection.{Connection}
@@ -44,7 +46,7 @@ pub record IsGap (at c : ℕ) (ks : List Connection) : Type 0 where
 
 -- the sessions of the machine are those of these connections
 pub record AreSessions (ks : List Connection) (m : State) : Type 0 where
-  pub staged : (at : ℕ) (k : Connection) → slice_get ks at ≡ Some k → IsStaged k.inbound m
+  pub staged : AreStaged (λ (k : Connection). k.inbound) ks m
   pub alone : (c : ℕ) → IsUnknown c ks → is_some (session_at c m) ≡ false
 
 -- ---- what no call changes
@@ -52,16 +54,28 @@ pub record AreSessions (ks : List Connection) (m : State) : Type 0 where
 abbrev pub home : Home Server
 home = record { desk = λ (s : Server). s.desk; crew = λ (s : Server). s.crew; moved = λ (s : Server) desk crew. record s { desk = desk; crew = crew } }
 
+-- where it has its connections
+abbrev pub links : Connections Server Connection
+links = record {
+  home = home;
+  all = λ (s : Server). s.connections.items;
+  number = λ (at : ℕ) (k : Connection). number_of k;
+  inbound = λ (k : Connection). k.inbound;
+  moved = λ (old new : Server). record old { desk = new.desk; connections = new.connections };
+  filled = λ (old new : Server). record old { connections = new.connections };
+}
+
+-- a connection of which this came
+abbrev pub with_inbound : Inbound → Connection → Connection
+with_inbound i k = record k { inbound = i }
+
 -- whose hall it is, and who works beside
 abbrev pub IsSame : Server → Server → Type 0
 IsSame old new = IsSameAt home old new
 
 -- the same, but for what is marked of the turns
 pub record IsSameHall (old new : Server) : Type 0 where
-  pub place : new.desk.footing.place ≡ old.desk.footing.place
-  pub name : new.desk.footing.name ≡ old.desk.footing.name
-  pub start : new.desk.footing.start ≡ old.desk.footing.start
-  pub parts : new.desk.footing.parts ≡ old.desk.footing.parts
+  pub hall : SameHall old.desk.footing new.desk.footing
   pub crew : SameCrew old.crew new.crew
 
 -- the same connections are there

@@ -1,27 +1,9 @@
 -- The laws that a server rests on.
-use Rattle.machine_desk.specs.Hearing.{StagesStay}
-use Rattle.machine_moves.specs.MoveLaws.{ConnectionsOpen, OpenIsKept, SessionsMove, SessionsOpen, StatesGrow}
-use Rattle.machine_moves.specs.Told.{EndsAreTold, JobsAreTold, NoneElseWaits, OpensAreTold}
-use Rattle.machine_sharing.specs.Between.{MostStays, NothingChanges}
-use Rattle.machine_sharing.specs.Legal.{StatesAreSound, TurnsAreCalls}
-use Rattle.machine_steps.specs.Laws.{KeepsSound}
+use Rattle.desk_jobs.specs.Driving.{DrivingLaws}
 use Rattle.serve_steps.specs.Laws.{AllowedAreOthers, OthersAreFree}
 
+-- those of the machine; and where what others do may stand in a run
 pub record ServingLaws : Type 0 where
-  pub keeps : KeepsSound
-  pub sound : StatesAreSound
-  pub calls : TurnsAreCalls
-  pub ends : EndsAreTold
-  pub opens : OpensAreTold
-  pub sessions : SessionsOpen
-  pub moves : SessionsMove
-  pub kept : OpenIsKept
-  pub connections : ConnectionsOpen
-  pub grow : StatesGrow
-  pub none : NoneElseWaits
-  pub jobs : JobsAreTold
-  pub stays : MostStays
-  pub frozen : NothingChanges
-  pub staged : StagesStay
+  pub driving : DrivingLaws
   pub allowed : AllowedAreOthers
   pub free : OthersAreFree

@@ -5,6 +5,7 @@ use Rattle.maple_io.specs.declared.act.Act.TheVariants as acts
 use Rattle.maple_io.specs.declared.board.Started.{Started}
 use Rattle.maple_io.specs.declared.board.Started.TheVariants as started
 use Rattle.maple_io.specs.Boards.{BoardFailed, BoardView, NoBoardFailed}
+use Rattle.machine_desk.specs.Openings.{IsOpenedAt}
 use Rattle.machine_steps.specs.Machine.{opening}
 use Rattle.desk_jobs.specs.Crews.{MayHave}
 use Rattle.serve_steps.specs.Deeds.{Past}
@@ -17,9 +18,7 @@ use Rattle.serve_channels.specs.Keeping.{IsKept}
 
 -- the machine is ahead of its first entry, and there is no connection
 pub record IsFresh (s : Server) : Type 0 where
-  pub opens : s.desk.footing.start ≡ opening s.desk.footing.start.policy s.desk.footing.start.settings
-  pub now : s.desk.now ≡ s.desk.footing.start
-  pub none : s.desk.past ≡ []
+  pub opened : IsOpenedAt s.desk
   pub alone : s.connections.items ≡ []
   pub crew : MayHave s.crew s.desk.footing.parts s.desk.now
 

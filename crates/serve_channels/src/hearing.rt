@@ -3,29 +3,18 @@ ghost use Rattle.std.specs.Prelude.{◌≡◌, ◌<◌, IfOk, List, OnOk, length
 ghost use Rattle.maple_io.specs.declared.act.Act.{Act};
 ghost use Rattle.machine_steps.specs.Admitting.{IsHeard};
 ghost use Rattle.serve_channels.specs.Hearing.{Hears};
-ghost use Rattle.serve_channels.specs.declared.hearing.Came.TheVariants.{Nothing};
+ghost use Rattle.machine_desk.specs.declared.hearing.Came.TheVariants.{Nothing};
 ghost use Rattle.serve_channels.specs.Keeping.{Goes, ServesSome};
-ghost use Rattle.serve_channels.specs.Passing.{Follows, HasCrew, HearsAt, HearsInput, MakesRoomFor, came_of};
+ghost use Rattle.serve_channels.specs.Passing.{Follows, HasCrew, HearsAt, HearsInput, MakesRoomFor};
 ghost use Rattle.serve_channels.specs.Servers.{IsSame, SameNumbers};
 
 use crate::Server;
 use crate::laws::serving_laws;
 use core_machine::Input;
 use desk_jobs::{Stopped, is_packet};
-use machine_desk::{Heard, working_laws};
+use machine_desk::{Came, Heard, working_laws};
 use packet_workers::Gate;
 use std::sync::Wait;
-
-/// What came next of a connection.
-#[derive(Clone, Copy, Debug, PartialEq, Eq)]
-pub enum Came {
-    /// Nothing that could be heard.
-    Nothing,
-    /// A message.
-    Message,
-    /// What ended the session.
-    Ended,
-}
 
 impl<'h> Server<'h> {
     /// All that came of a connection is heard, message by message, until its session ends; a packet is answered, or handed
@@ -44,9 +33,9 @@ impl<'h> Server<'h> {
             return Ok(());
         };
         loop {
-            match self.hear_next(rt, gate, at)? {
-                Came::Message => {}
-                _ => return Ok(()),
+            let came = self.hear_next(rt, gate, at)?;
+            if !came.goes_on() {
+                return Ok(());
             }
         }
     }
@@ -68,7 +57,9 @@ impl<'h> Server<'h> {
         };
         self.make_room_for(rt, gate, &input)?;
         let heard = self.hear_input(rt, at, input)?;
-        self.follow(rt, gate, heard)
+        let came = Came::of(&heard);
+        self.follow(rt, gate, heard)?;
+        Ok(came)
     }
 
     // Where a packet came: waits until the machine takes it in.
@@ -104,20 +95,15 @@ impl<'h> Server<'h> {
     }
 
     // The packet that was heard is answered, or handed over.
-    fn follow<R: Wait, G: Gate>(&mut self, rt: &R, gate: &G, heard: Heard) -> Result<Came, Stopped>
+    fn follow<R: Wait, G: Gate>(&mut self, rt: &R, gate: &G, heard: Heard) -> Result<(), Stopped>
         requires crew { HasCrew self.old }
-        ensures came { IfOk result (λ came. came ≡ came_of heard) }
         ensures follows { OnOk result (Follows heard self.old self.new) }
         ensures connections { self.new.connections.items ≡ self.old.connections.items }
         ensures same { IsSame self.old self.new }
     {
         match heard {
-            Heard::Packet(item) => {
-                self.attend(rt, gate, item)?;
-                Ok(Came::Message)
-            }
-            Heard::Ended => Ok(Came::Ended),
-            Heard::State | Heard::Other => Ok(Came::Message),
+            Heard::Packet(item) => self.attend(rt, gate, item),
+            Heard::Ended | Heard::State | Heard::Other => Ok(()),
         }
     }
 }

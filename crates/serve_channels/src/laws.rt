@@ -2,24 +2,15 @@
 ghost use Rattle.serve_channels.specs.Serving.{ServingLaws};
 ghost use Rattle.serve_channels.specs.Starting.{FreshIsKept};
 
-use machine_desk::hearing_laws;
-use machine_moves::{growth_laws, reply_laws, session_laws};
-use machine_sharing::{between_laws, legal_laws};
-use machine_steps::machine_laws;
+use desk_jobs::driving_laws;
 use serve_steps::run_laws;
 
 /// What each entry does to the machine's sessions, what its reply tells, and what others leave of it; and where what these do may stand in a run.
 pub fn serving_laws()
     ensures { ServingLaws }
 {
-    between_laws();
-    growth_laws();
-    hearing_laws();
-    legal_laws();
-    machine_laws();
-    reply_laws();
+    driving_laws();
     run_laws();
-    session_laws();
 }
 
 /// A server that has done nothing yet keeps all.

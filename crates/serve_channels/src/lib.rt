@@ -6,7 +6,7 @@ mod closing;
 pub mod connection;
 mod controlling;
 mod delivering;
-pub mod hearing;
+mod hearing;
 pub mod laws;
 mod obeying;
 mod receiving;
@@ -18,7 +18,6 @@ mod starting;
 mod waiting;
 
 pub use connection::Connection;
-pub use hearing::Came;
 pub use laws::{fresh_law, serving_laws};
 pub use scripting::ScriptEnd;
 pub use server::Server;

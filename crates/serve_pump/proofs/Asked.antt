@@ -20,7 +20,7 @@ use Rattle.serve_steps.specs.Parts.{AreCutAtTurns, AreHeard, Asks, Given, Part, 
 use Rattle.serve_steps.specs.Texts.{Ask, AreEntriesOf, control_quits, quits}
 use Rattle.serve_channels.specs.Controlling.{IsReading}
 use Rattle.serve_channels.specs.Hearing.{HearsWhile}
-use Rattle.serve_channels.specs.declared.hearing.Came.TheVariants.{Nothing}
+use Rattle.machine_desk.specs.declared.hearing.Came.TheVariants.{Nothing}
 use Rattle.serve_channels.proofs.Items.{last_asked, more_asks}
 use Rattle.serve_channels.proofs.Stretching.{gathered_then}
 use Rattle.serve_pump.specs.Turning.{Entered, ReadsBy}

@@ -36,7 +36,7 @@ use Rattle.serve_steps.specs.Deeds.{Past, acts_of, turns_of}
 use Rattle.serve_steps.specs.Deeds.Deed.{Enters}
 use Rattle.serve_steps.specs.Laws.{first_entered, parts_entered}
 use Rattle.serve_steps.specs.Parts.{AreCutAtTurns, AreOpenedOnce, Given, Part, deeds_of, is_overload}
-use Rattle.serve_steps.specs.Runs.{AllHadMemory, ArePartsButLast, EndsWith, HasCause, HasRun, IsBrokenOff, IsLastAsked, spares_board, taken_in, taken_report}
+use Rattle.serve_steps.specs.Runs.{AllHadMemory, ArePartsButLast, EndsWith, HasCause, HasRun, IsBrokenOff, IsLastAsked, is_whole, taken_in, taken_report}
 use Rattle.serve_pump.specs.Ending.{DroveBy, IsCaused, joined, told_as}
 use Rattle.serve_pump.specs.EndLaws.{EndingLaws}
 use Rattle.serve_pump.specs.Resting.{RestsBy, RestsSo}
@@ -48,7 +48,7 @@ use Rattle.serve_pump.proofs.Whole.{lines_taken}
 -- ---- by how the workers ended
 
 -- a run that came to its end beside workers did so with all of them
-whole_joined : (end : ServeEnd) (outcome : Worked) → spares_board (joined end outcome) ≡ true → (spares_board end ≡ true) × (done : Unit {0}) × (outcome ≡ Ok done)
+whole_joined : (end : ServeEnd) (outcome : Worked) → is_whole (joined end outcome) ≡ true → (is_whole end ≡ true) × (done : Unit {0}) × (outcome ≡ Ok done)
 whole_joined ends.Done (Ok done) whole = (refl, done, refl)
 whole_joined ends.Done (Err gave_up.NoMemory) whole = absurd (cc)
 whole_joined ends.Done (Err gave_up.Worn) whole = absurd (cc)
@@ -60,7 +60,7 @@ whole_joined end outcome whole = absurd (cc)
 module _ (old_board new_board : BoardView) (old new : SinkView) where
   gives_up : (end other : ServeEnd) → end ≢ ends.BoardFault → end ≢ ends.WriteFault → other ≢ ends.BoardFault → other ≢ ends.WriteFault
       → IsCaused end old_board new_board old new → IsCaused other old_board new_board old new
-  gives_up end other a b c d h = caused_well other old_board new_board old new c d (h.spared a) (h.no_write b)
+  gives_up end other a b c d h = caused_well other old_board new_board old new c d (h.spared a) (h.writes.spared b)
 
   pub caused_joined : (end : ServeEnd) (outcome : Worked) → IsCaused end old_board new_board old new → IsCaused (joined end outcome) old_board new_board old new
   caused_joined ends.Done (Ok done) h = h
@@ -107,7 +107,7 @@ module _ (laws : EndingLaws) (g : Given) (start : State) (is : start ≡ Opens g
         subst (λ (ts : List Turn). n ≤ length ts) (sym turns_now)
         (let a = ap length since.1 in let b = turns_length start (mine.seen ++ rest) in omega (arith, a, b, few))
 
-    memory_now : AreAllPositions (length x.seen) x.own → spares_board (joined end outcome) ≡ true → AllHadMemory (turns_of (deeds_of first_now parts_now))
+    memory_now : AreAllPositions (length x.seen) x.own → is_whole (joined end outcome) ≡ true → AllHadMemory (turns_of (deeds_of first_now parts_now))
     memory_now positions whole =
         let so = whole_joined end outcome whole in
         let went_on = subst (λ (o : Worked). Toiled (λ item told made. Makes budget item told made) mine account o x w) so.2 toiled in
@@ -298,25 +298,25 @@ rest_cause (Ok done) old_board new_board old mid to h failed spared = record {
   board = λ e. h.board refl;
   no_board = λ e. absurd (cc);
   write = λ e. absurd (cc);
-  no_write = λ n. spared (λ e. absurd (cc)) ∙ h.no_write (λ e. absurd (cc));
+  no_write = λ n. spared (λ e. absurd (cc)) ∙ h.writes.spared (λ e. absurd (cc));
 }
 rest_cause (Err reports.Failed) old_board new_board old mid to h failed spared = record {
   board = λ e. absurd (cc);
   no_board = λ e. absurd (cc);
-  write = λ e. subst (λ (n : ℕ). HasRisen n to.failed) (h.no_write (λ e. absurd (cc))) (failed refl);
+  write = λ e. subst (λ (n : ℕ). HasRisen n to.failed) (h.writes.spared (λ e. absurd (cc))) (failed refl);
   no_write = λ n. absurd (n refl);
 }
 rest_cause (Err reports.NoMemory) old_board new_board old mid to h failed spared = record {
   board = λ e. absurd (cc);
   no_board = λ e. absurd (cc);
   write = λ e. absurd (cc);
-  no_write = λ n. spared (λ e. absurd (cc)) ∙ h.no_write (λ e. absurd (cc));
+  no_write = λ n. spared (λ e. absurd (cc)) ∙ h.writes.spared (λ e. absurd (cc));
 }
 rest_cause (Err reports.Worn) old_board new_board old mid to h failed spared = record {
   board = λ e. absurd (cc);
   no_board = λ e. absurd (cc);
   write = λ e. absurd (cc);
-  no_write = λ n. spared (λ e. absurd (cc)) ∙ h.no_write (λ e. absurd (cc));
+  no_write = λ n. spared (λ e. absurd (cc)) ∙ h.writes.spared (λ e. absurd (cc));
 }
 
 -- ---- all of it

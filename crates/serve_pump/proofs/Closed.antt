@@ -23,7 +23,7 @@ use Rattle.serve_steps.specs.declared.end.ServeEnd.TheVariants as ends
 use Rattle.serve_steps.specs.Deeds.{Past, acts_of, turns_of}
 use Rattle.serve_steps.specs.Laws.{OthersGoOn, first_entered, parts_entered}
 use Rattle.serve_steps.specs.Parts.{AreCutAtTurns, AreOpenedOnce, Given, Part, deeds_of, has_ended, state_of}
-use Rattle.serve_steps.specs.Runs.{AllHadMemory, ArePartsButLast, EndsWith, HasCause, HasRun, IsBrokenOff, IsLastAsked, IsWrittenButLast, most_entries, report, spares_board, taken_report}
+use Rattle.serve_steps.specs.Runs.{AllHadMemory, ArePartsButLast, EndsWith, HasCause, HasRun, IsBrokenOff, IsLastAsked, IsWrittenButLast, most_entries, report, is_whole, taken_report}
 use Rattle.serve_pump.specs.Ending.{DroveBy, EndsSoFar, IsCaused, IsFailedSoFar, joined}
 use Rattle.serve_pump.specs.EndLaws.{EndingLaws}
 use Rattle.serve_pump.proofs.Reports.{done_broken, script_broken, written_by}
@@ -33,9 +33,9 @@ use Rattle.serve_pump.proofs.Reports.{done_broken, script_broken, written_by}
 pub cause_of : (end : ServeEnd) (old_board new_board : BoardView) (old new : SinkView) → IsCaused end old_board new_board old new → HasCause end old_board new_board old new
 cause_of end old_board new_board old new h = record {
   board = h.board;
-  no_board = λ spares. h.spared (λ e. let f : spares_board ends.BoardFault ≡ true = subst (λ (x : ServeEnd). spares_board x ≡ true) e spares in absurd (cc));
-  write = h.write;
-  no_write = h.no_write;
+  no_board = λ spares. h.spared (λ e. let f : is_whole ends.BoardFault ≡ true = subst (λ (x : ServeEnd). is_whole x ≡ true) e spares in absurd (cc));
+  write = h.writes.fault;
+  no_write = h.writes.spared;
 }
 
 -- ---- what was broken off
@@ -92,7 +92,7 @@ module _ (laws : EndingLaws) (g : Given) where
 
   ends_whole : (end : ServeEnd) (number : ℕ) (first : Past) (parts : List Part) (text : List ℕ) (last : State) → Leads (Opens g) (turns_of (deeds_of first parts)) last
       → EndsSoFar end g number first parts text → number ≤ length (turns_of (deeds_of first parts))
-      → (spares_board end ≡ true → AllHadMemory (turns_of (deeds_of first parts))) → EndsWith end g first parts text
+      → (is_whole end ≡ true → AllHadMemory (turns_of (deeds_of first parts))) → EndsWith end g first parts text
   ends_whole ends.Done number first parts text last legal h few memory =
       record { all = h.all; ended = h.ended; rest = h.rest; memory = memory refl; text_is = h.text_is }
   ends_whole (ends.Script line kind) number first parts text last legal h few memory = record {
@@ -185,7 +185,7 @@ module _ (laws : EndingLaws) (g : Given) where
     -- but for a fault of the board
     pub ends_on : (end : ServeEnd) (outcome : Worked) (number : ℕ) (text : List ℕ) → end ≢ ends.BoardFault → EndsSoFar end g number first parts text
         → number ≤ length (turns_of (deeds_of first_on parts_on)) → (outcome ≡ Err gave_up.Worn → most_entries ≤ length (turns_of (deeds_of first_on parts_on)))
-        → (spares_board (joined end outcome) ≡ true → AllHadMemory (turns_of (deeds_of first_on parts_on))) → EndsWith (joined end outcome) g first_on parts_on text
+        → (is_whole (joined end outcome) ≡ true → AllHadMemory (turns_of (deeds_of first_on parts_on))) → EndsWith (joined end outcome) g first_on parts_on text
     ends_on ends.Done (Ok done) number text other h few worn memory = record {
       all = laws.parts g first parts others go h.all;
       ended = laws.ended true g first parts others go h.ended;

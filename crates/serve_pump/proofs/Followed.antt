@@ -14,7 +14,7 @@ use Rattle.serve_steps.specs.Texts.{asks_of}
 use Rattle.serve_channels.specs.declared.connection.Connection.{Connection}
 use Rattle.serve_channels.specs.declared.server.Server.{Server}
 use Rattle.serve_channels.specs.Delivering.{IsNew}
-use Rattle.serve_channels.specs.declared.hearing.Came.TheVariants.{Nothing}
+use Rattle.machine_desk.specs.declared.hearing.Came.TheVariants.{Nothing}
 use Rattle.serve_channels.specs.Controlling.{Answers}
 use Rattle.serve_channels.specs.Hearing.{Hears}
 use Rattle.serve_channels.specs.Keeping.{Are, Goes, GoesFrom, IsBegun, IsKept, IsServing, ServesSome}

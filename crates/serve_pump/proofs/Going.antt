@@ -2,6 +2,7 @@
 use Rattle.std.proofs.Common.{◌≡◌, ℕ, Bool, true, false, List, [], ◌∷◌, ◌++◌, append-nil, refl, sym, ap, ◌∙◌, subst, inl, inr}
 use Rattle.std.specs.Prelude.{◌≢◌, Option}
 use Rattle.std.specs.List.{flat_map}
+use Rattle.desk_jobs.proofs.Crewed.{crew_then, same_crew}
 use Rattle.maple_io.specs.declared.act.Act.{Act}
 use Rattle.maple_io.specs.declared.act.Act.TheVariants as acts
 use Rattle.maple_io.specs.Boards.{BoardFailed, BoardView, NoBoardFailed}
@@ -25,7 +26,6 @@ use Rattle.serve_channels.specs.declared.server.Server.{Server}
 use Rattle.serve_channels.specs.Keeping.{IsKept}
 use Rattle.serve_channels.specs.Servers.{IsSame, IsSameHall}
 use Rattle.serve_channels.specs.Starting.{IsFresh}
-use Rattle.serve_channels.proofs.Kept.{crew_then, same_crew}
 use Rattle.serve_channels.proofs.Stretching.{gathered_then}
 use Rattle.serve_pump.specs.declared.pump.Pump.{Pump}
 use Rattle.serve_pump.specs.declared.pump.TurnStop.{TurnStop}
@@ -33,7 +33,7 @@ use Rattle.serve_pump.specs.declared.pump.TurnStop.TheVariants as stops
 use Rattle.serve_pump.specs.declared.startup.Begun.TheVariants as begun
 use Rattle.serve_pump.specs.Beginning.{BeginLaws, BreaksAtFirst, FailsAtStart, HasBegun}
 use Rattle.serve_pump.specs.Ending.{DroveAt, EndsSoFar, IsCaused, IsUnderWay, RanAt, end_of, with_memory}
-use Rattle.serve_pump.specs.Opened.{IsOpenedAt}
+use Rattle.machine_desk.specs.Openings.{IsOpenedAt}
 use Rattle.serve_pump.specs.Running.{AreMore, BreaksOff, FailsAtBoard, GoesOn, RunsOn}
 use Rattle.serve_pump.proofs.Reports.{but_last, done_broken, script_broken, written_behind}
 use Rattle.serve_pump.proofs.Whole.{legal, state_is}
@@ -271,19 +271,19 @@ pub caused_by : (stop : TurnStop) (worn : Bool) (old_board new_board : BoardView
     → (stop ≢ stops.Board → NoBoardFailed old_board new_board) → (stop ≡ stops.Write → WriteFailed old new) → (stop ≢ stops.Write → NoWriteFailed old new)
     → IsCaused (end_of stop worn) old_board new_board old new
 caused_by stops.Board worn old_board new_board old new board spared write no_write =
-    record { board = λ e. board refl; spared = λ n. absurd (n refl); write = λ e. absurd (cc); no_write = λ n. no_write (λ e. absurd (cc)) }
+    record { board = λ e. board refl; spared = λ n. absurd (n refl); writes = record { fault = λ e. absurd (cc); spared = λ n. no_write (λ e. absurd (cc)) } }
 caused_by stops.Write worn old_board new_board old new board spared write no_write =
-    record { board = λ e. absurd (cc); spared = λ n. spared (λ e. absurd (cc)); write = λ e. write refl; no_write = λ n. absurd (n refl) }
+    record { board = λ e. absurd (cc); spared = λ n. spared (λ e. absurd (cc)); writes = record { fault = λ e. write refl; spared = λ n. absurd (n refl) } }
 caused_by stops.Stopped true old_board new_board old new board spared write no_write =
-    record { board = λ e. absurd (cc); spared = λ n. spared (λ e. absurd (cc)); write = λ e. absurd (cc); no_write = λ n. no_write (λ e. absurd (cc)) }
+    record { board = λ e. absurd (cc); spared = λ n. spared (λ e. absurd (cc)); writes = record { fault = λ e. absurd (cc); spared = λ n. no_write (λ e. absurd (cc)) } }
 caused_by stops.Stopped false old_board new_board old new board spared write no_write =
-    record { board = λ e. absurd (cc); spared = λ n. spared (λ e. absurd (cc)); write = λ e. absurd (cc); no_write = λ n. no_write (λ e. absurd (cc)) }
+    record { board = λ e. absurd (cc); spared = λ n. spared (λ e. absurd (cc)); writes = record { fault = λ e. absurd (cc); spared = λ n. no_write (λ e. absurd (cc)) } }
 
 -- nothing failed, so an end that isn't for a failure is right
 pub caused_well : (end : ServeEnd) (old_board new_board : BoardView) (old new : SinkView) → end ≢ ends.BoardFault → end ≢ ends.WriteFault → NoBoardFailed old_board new_board
     → NoWriteFailed old new → IsCaused end old_board new_board old new
 caused_well end old_board new_board old new other another spared no_write =
-    record { board = λ e. absurd (other e); spared = λ n. spared; write = λ e. absurd (another e); no_write = λ n. no_write }
+    record { board = λ e. absurd (other e); spared = λ n. spared; writes = record { fault = λ e. absurd (another e); spared = λ n. no_write } }
 
 -- nothing failed before
 pub caused_behind : (end : ServeEnd) (old_board mid_board new_board : BoardView) (old mid new : SinkView) → NoBoardFailed old_board mid_board → NoWriteFailed old mid
@@ -291,8 +291,11 @@ pub caused_behind : (end : ServeEnd) (old_board mid_board new_board : BoardView)
 caused_behind end old_board mid_board new_board old mid new spared no_write h = record {
   board = λ e. subst (λ (n : ℕ). HasRisen n new_board.failed) spared (h.board e);
   spared = λ n. h.spared n ∙ spared;
-  write = λ e. subst (λ (n : ℕ). HasRisen n new.failed) no_write (h.write e);
-  no_write = λ n. h.no_write n ∙ no_write;
+  writes =
+      record {
+        fault = λ e. subst (λ (n : ℕ). HasRisen n new.failed) no_write (h.writes.fault e);
+        spared = λ n. h.writes.spared n ∙ no_write;
+      };
 }
 
 -- ---- by whether memory sufficed
@@ -322,13 +325,13 @@ module _ (g : Given) (desk : DeskView) (old_board new_board : BoardView) (old ne
   memory_drove ends.Done false ran caused had = record {
     ran = ends_as ends.Done ends.NoMemory ran (done_broken g ran.first ran.parts ran.text ran.ends);
     memory = λ whole. absurd (cc);
-    caused = short (caused.spared (λ e. absurd (cc))) (caused.no_write (λ e. absurd (cc)));
+    caused = short (caused.spared (λ e. absurd (cc))) (caused.writes.spared (λ e. absurd (cc)));
   }
   memory_drove (ends.Script line kind) true ran caused had = record { ran = ran; memory = λ whole. had refl; caused = caused }
   memory_drove (ends.Script line kind) false ran caused had = record {
     ran = ends_as (ends.Script line kind) ends.NoMemory ran (script_broken line kind g ran.first ran.parts ran.text ran.ends);
     memory = λ whole. absurd (cc);
-    caused = short (caused.spared (λ e. absurd (cc))) (caused.no_write (λ e. absurd (cc)));
+    caused = short (caused.spared (λ e. absurd (cc))) (caused.writes.spared (λ e. absurd (cc)));
   }
   memory_drove ends.WriteFault had ran caused memory = record { ran = ran; memory = λ whole. absurd (cc); caused = caused }
   memory_drove ends.BoardFault had ran caused memory = record { ran = ran; memory = λ whole. absurd (cc); caused = caused }
@@ -357,34 +360,40 @@ never_drove g desk board to none = record {
 -- ---- whose hall it is
 
 pub hall_self : (a : Server) → IsSameHall a a
-hall_self a = record { place = refl; name = refl; start = refl; parts = refl; crew = same_crew a.crew }
+hall_self a = record { hall = record { place = refl; name = refl; start = refl; parts = refl }; crew = same_crew a.crew }
 
 pub hall_then : (a b c : Server) → IsSameHall a b → IsSameHall b c → IsSameHall a c
 hall_then a b c h k = record {
-  place = k.place ∙ h.place;
-  name = k.name ∙ h.name;
-  start = k.start ∙ h.start;
-  parts = k.parts ∙ h.parts;
+  hall =
+      record {
+        place = k.hall.place ∙ h.hall.place;
+        name = k.hall.name ∙ h.hall.name;
+        start = k.hall.start ∙ h.hall.start;
+        parts = k.hall.parts ∙ h.hall.parts;
+      };
   crew = crew_then a.crew b.crew c.crew h.crew k.crew;
 }
 
 -- the same hall, and its mark too
 pub hall_of : (a b : Server) → IsSame a b → IsSameHall a b
 hall_of a b h = record {
-  place = ap (λ (f : Footing). f.place) h.footing;
-  name = ap (λ (f : Footing). f.name) h.footing;
-  start = ap (λ (f : Footing). f.start) h.footing;
-  parts = ap (λ (f : Footing). f.parts) h.footing;
+  hall =
+      record {
+        place = ap (λ (f : Footing). f.place) h.footing;
+        name = ap (λ (f : Footing). f.name) h.footing;
+        start = ap (λ (f : Footing). f.start) h.footing;
+        parts = ap (λ (f : Footing). f.parts) h.footing;
+      };
   crew = h.crew;
 }
 
 -- by its desk, and who works beside it
 pub hall_at : (d e : DeskView) (a b : Server) → a.desk ≡ d → e ≡ b.desk → IsSameHall a b → SameHall d.footing e.footing
 hall_at d e a b begins ended h = record {
-  place = ap (λ (x : DeskView). x.footing.place) ended ∙ h.place ∙ ap (λ (x : DeskView). x.footing.place) begins;
-  name = ap (λ (x : DeskView). x.footing.name) ended ∙ h.name ∙ ap (λ (x : DeskView). x.footing.name) begins;
-  start = ap (λ (x : DeskView). x.footing.start) ended ∙ h.start ∙ ap (λ (x : DeskView). x.footing.start) begins;
-  parts = ap (λ (x : DeskView). x.footing.parts) ended ∙ h.parts ∙ ap (λ (x : DeskView). x.footing.parts) begins;
+  place = ap (λ (x : DeskView). x.footing.place) ended ∙ h.hall.place ∙ ap (λ (x : DeskView). x.footing.place) begins;
+  name = ap (λ (x : DeskView). x.footing.name) ended ∙ h.hall.name ∙ ap (λ (x : DeskView). x.footing.name) begins;
+  start = ap (λ (x : DeskView). x.footing.start) ended ∙ h.hall.start ∙ ap (λ (x : DeskView). x.footing.start) begins;
+  parts = ap (λ (x : DeskView). x.footing.parts) ended ∙ h.hall.parts ∙ ap (λ (x : DeskView). x.footing.parts) begins;
 }
 
 pub crew_at : (c d : Option Crew) (a b : Server) → a.crew ≡ c → d ≡ b.crew → IsSameHall a b → SameCrew c d
@@ -402,9 +411,7 @@ fresh_at d c a b same desk crew none opened may = subst IsFresh (sym same) fresh
 
     fresh : IsFresh a
     fresh = record {
-      opens = opened_there.opens;
-      now = opened_there.now;
-      none = opened_there.none;
+      opened = opened_there;
       alone = none;
       crew =
           subst (λ (x : DeskView). MayHave a.crew x.footing.parts x.now) (sym desk)

@@ -9,6 +9,7 @@ use Rattle.machine_desk.specs.Desks.{DeskView}
 use Rattle.machine_desk.specs.Hearing.{is_live}
 use Rattle.machine_steps.specs.declared.entry.Entry.{Entry}
 use Rattle.world_steps.specs.Worlds.{messages_for}
+use Rattle.machine_desk.proofs.Opened.{live_is}
 use Rattle.serve_steps.specs.Deeds.{Past, acts_of, is_open, is_over, last_answer, was_cut}
 use Rattle.serve_steps.specs.Parts.{Given, due, own_of}
 use Rattle.serve_steps.specs.Runs.{taken_in, taken_report}
@@ -186,7 +187,7 @@ module _ (g : Given) (before : List Act) (past : Past) (log : List Act) (s : Ser
       let k = known.1.connection in
       let live : is_live k.inbound.stage ≡ true =
       sym (kept.agree known.0 k known.1.there).live ∙ ap (λ n. is_open n past) known.1.number ∙ opened in
-      subst (λ n. messages_for n s.desk.now ≡ []) known.1.number (still.taken known.0 k known.1.there live)
+      subst (λ n. messages_for n s.desk.now ≡ []) known.1.number (still.taken known.0 k known.1.there (live_is k.inbound.stage live))
 
   pub taken_open : (c : ℕ) → is_open c past ≡ true → messages_for c s.desk.now ≡ []
   taken_open c opened =
@@ -201,11 +202,11 @@ module _ (g : Given) (before : List Act) (past : Past) (log log2 : List Act) (a 
 
   still_closed : IsStill b
   still_closed = record {
-    none = ap (λ (d : DeskView). d.now.jobs) desk ∙ still.none;
+    jobs = ap (λ (d : DeskView). d.now.jobs) desk ∙ still.jobs;
     taken = λ at k there live.
         ap (λ (d : DeskView). messages_for (number_of k) d.now) desk
         ∙ taken_open g before past log a kept still (number_of k)
-        (was_open k (closing_passes past w.own w.done b w.stretch w.so) (w.kept.agree at k there) live);
+        (was_open k (closing_passes past w.own w.done b w.stretch w.so) (w.kept.agree at k there) (ap is_live live));
   }
 
 pub still_then : (a b d : Server) (log1 log2 log3 : List Act) → IsServing log1 a → Goes (ServesAll b) a log1 b log2 → Goes (Closes d) b log2 d log3 → d.desk ≡ b.desk

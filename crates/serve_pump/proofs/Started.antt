@@ -22,6 +22,7 @@ use Rattle.machine_steps.specs.declared.entry.Entry.TheVariants as entries
 use Rattle.machine_steps.specs.declared.reply.Reply.TheVariants as replies
 use Rattle.machine_steps.specs.Histories.{Leads, Turn}
 use Rattle.machine_steps.specs.Machine.{State, opening}
+use Rattle.machine_desk.proofs.Opened.{opened_with}
 use Rattle.serve_steps.specs.Deeds.{Past, acts_of, taken_of, turns_of}
 use Rattle.serve_steps.specs.Deeds.Deed.{Does, Enters}
 use Rattle.serve_steps.specs.Laws.{ReportIsTold, entered}
@@ -91,7 +92,7 @@ pub none_known : (ks : List Connection) → ks ≡ [] → (c : ℕ) → IsUnknow
 none_known ks none c known = nothing_there ks none known.0 known.1.connection known.1.there
 
 pub still_alone : (s : Server) → s.connections.items ≡ [] → s.desk.now.jobs ≡ [] → IsStill s
-still_alone s none idle = record { none = idle; taken = λ at k there live. absurd (nothing_there s.connections.items none at k there) }
+still_alone s none idle = record { jobs = idle; taken = λ at k there live. absurd (nothing_there s.connections.items none at k there) }
 
 -- ---- the script was carried out, and its report was written
 
@@ -134,7 +135,7 @@ module _ (laws : BeginLaws) (g : Given) (log : List Act) (b d : Server) (old new
     only = (scripted, stretch.free, no_acts, refl);
     cut = none_turned first stretch.quiet;
     told = lines_taken b.desk d.desk old new reports;
-    none = still.none;
+    none = still.jobs;
   }
 
   live : AllLive d
@@ -309,7 +310,7 @@ pub serving_fresh : FreshIsKept → (log : List Act) (s : Server) → IsFresh s 
 serving_fresh fresh log s h =
     let start = s.desk.footing.start in
     let g = given start.policy start.settings [] 0 0 0 in
-    record { given = g; before = log; past = []; kept = fresh g log s h h.opens }
+    record { given = g; before = log; past = []; kept = fresh g log s h (opened_with s.desk h.opened) }
 
 -- ---- the call
 

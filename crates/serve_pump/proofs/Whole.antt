@@ -60,7 +60,7 @@ module _ (g : Given) (before : List Act) (past : Past) (log : List Act) (s : Ser
 
   pub is_at_rest : StatesAreTold → IsStill s → IsAtRest g past
   is_at_rest told still = record {
-    jobs = ap (λ (m : State). m.jobs) (state_is told) ∙ still.none;
+    jobs = ap (λ (m : State). m.jobs) (state_is told) ∙ still.jobs;
     taken = λ c opened. subst (λ (m : State). messages_for c m ≡ []) (sym (state_is told)) (taken_open g before past log s kept still c opened);
   }
 

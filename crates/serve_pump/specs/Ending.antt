@@ -2,24 +2,23 @@
 use Rattle.std.specs.Prelude.{◌≡◌, ◌≢◌, ℕ, Bool, true, false, List, [], ◌++◌, Some, Result, Ok, Err}
 use Rattle.maple_io.specs.declared.act.Act.{Act}
 use Rattle.maple_io.specs.Boards.{BoardFailed, BoardView, NoBoardFailed}
-use Rattle.maple_io.specs.Views.{NoWriteFailed, SinkView, WriteFailed, Wrote}
+use Rattle.maple_io.specs.Views.{SinkView, Wrote}
 use Rattle.report_text.specs.declared.line.ScriptRefusal.{ScriptRefusal}
 use Rattle.machine_desk.specs.declared.report.ReportStop.{ReportStop}
-use Rattle.machine_desk.specs.declared.report.ReportStop.TheVariants as reports
 use Rattle.machine_desk.specs.Desks.{DeskView, HadMemory, calls_of}
-use Rattle.machine_sharing.specs.Legal.{turns_of as turns_along}
 use Rattle.machine_steps.specs.Histories.{Turn}
 use Rattle.machine_steps.specs.Machine.{State}
 use Rattle.packet_workers.specs.Adding.{PassView}
 use Rattle.worker_crew.specs.Tasks.{Worked}
-use Rattle.desk_jobs.specs.Crews.{EndsOf, joined as joined_by, with_memory as memory_by}
+use Rattle.desk_jobs.specs.Crews.{EndsOf, joined as joined_by, unwritten, with_memory as memory_by}
+use Rattle.desk_jobs.specs.Runs.{AtDesk, ByPass, IsFaultOf}
 use Rattle.serve_steps.specs.declared.end.ServeEnd.{ServeEnd}
 use Rattle.serve_steps.specs.declared.end.ServeEnd.TheVariants as ends
 use Rattle.serve_steps.specs.declared.end.ServeEnd.TheVariants.{BoardFault, WriteFault}
 use Rattle.serve_steps.specs.Deeds.{Past, acts_of, turns_of}
 use Rattle.serve_steps.specs.Laws.{IsScriptOnly}
 use Rattle.serve_steps.specs.Parts.{AreCutAtTurns, AreOpenedOnce, Given, Part, deeds_of, has_ended, state_of}
-use Rattle.serve_steps.specs.Runs.{AreParts, ArePartsButLast, IsAtRest, IsBrokenOff, IsFull, IsLastAsked, report, spares_board, taken_report}
+use Rattle.serve_steps.specs.Runs.{AreParts, ArePartsButLast, IsAtRest, IsBrokenOff, IsFull, IsLastAsked, report, is_whole, taken_report}
 use Rattle.serve_steps.specs.Texts.{first_refused, script_asks}
 use Rattle.serve_pump.specs.declared.pump.Pump.{Pump}
 use Rattle.serve_pump.specs.declared.pump.TurnStop.{TurnStop}
@@ -96,8 +95,7 @@ GoesToEnd end old old_log new new_log to_old to_new =
 pub record IsCaused (end : ServeEnd) (old_board new_board : BoardView) (old new : SinkView) : Type 0 where
   pub board : end ≡ BoardFault → BoardFailed old_board new_board
   pub spared : end ≢ BoardFault → NoBoardFailed old_board new_board
-  pub write : end ≡ WriteFault → WriteFailed old new
-  pub no_write : end ≢ WriteFault → NoWriteFailed old new
+  pub writes : IsFaultOf (end ≡ WriteFault) old new
 
 -- ---- who drove it
 
@@ -105,16 +103,18 @@ pub record IsCaused (end : ServeEnd) (old_board new_board : BoardView) (old new 
 pub record Drove (end : ServeEnd) (g : Given) (number : ℕ) (history : List Turn) (own : List ℕ) (old_board new_board : BoardView) (old new : SinkView)
     : Type 0 where
   pub ran : Ran end g number history old_board.log new_board.log old new
-  pub memory : spares_board end ≡ true → HadMemory (calls_of history) own
+  pub memory : is_whole end ≡ true → HadMemory (calls_of history) own
   pub caused : IsCaused end old_board new_board old new
 
 -- by what the desk knows
 abbrev pub DroveAt : ServeEnd → Given → DeskView → BoardView → BoardView → SinkView → SinkView → Type 0
-DroveAt end g desk old_board new_board old new = Drove end g desk.number desk.past desk.own old_board new_board old new
+DroveAt end g desk old_board new_board old new =
+    AtDesk (λ (number : ℕ) (history : List Turn) (own : List ℕ). Drove end g number history own old_board new_board old new) desk
 
 -- by what its pass has seen of the hall, whose machine was so at first
 abbrev pub DroveBy : ServeEnd → Given → State → PassView → BoardView → BoardView → SinkView → SinkView → Type 0
-DroveBy end g start k old_board new_board old new = Drove end g k.number (turns_along start k.seen) k.own old_board new_board old new
+DroveBy end g start k old_board new_board old new =
+    ByPass (λ (number : ℕ) (history : List Turn) (own : List ℕ). Drove end g number history own old_board new_board old new) start k
 
 -- ---- one end from another
 
@@ -130,7 +130,7 @@ end_of stops.Stopped worn = stopped_end worn
 
 -- how a run may end, for who gave up
 abbrev pub serve_ends : EndsOf ServeEnd
-serve_ends = record { no_memory = ends.NoMemory; worn = ends.Worn; is_whole = spares_board }
+serve_ends = record { write_fault = WriteFault; no_memory = ends.NoMemory; worn = ends.Worn; is_whole = is_whole }
 
 -- by how its workers ended: where it came to its end, as the first of them that gave up
 abbrev pub joined : ServeEnd → Worked → ServeEnd
@@ -143,6 +143,4 @@ with_memory end had = memory_by serve_ends end had
 -- by how the rest of the report was written, behind a fault of the board
 abbrev pub told_as : Result (Unit {0}) ReportStop → ServeEnd
 told_as (Ok done) = BoardFault
-told_as (Err reports.Failed) = WriteFault
-told_as (Err reports.NoMemory) = ends.NoMemory
-told_as (Err reports.Worn) = ends.Worn
+told_as (Err stop) = unwritten serve_ends stop

@@ -20,7 +20,7 @@ use Rattle.serve_steps.specs.Laws.{EndedIsGiven, LastAsks, LinesGoOn, ReportIsTo
 use Rattle.serve_steps.specs.Parts.{Given, is_taken}
 use Rattle.serve_steps.specs.Runs.{taken_report}
 use Rattle.serve_steps.specs.Texts.{AreEntriesOf, asks_of}
-use Rattle.serve_channels.specs.declared.hearing.Came.TheVariants.{Nothing}
+use Rattle.machine_desk.specs.declared.hearing.Came.TheVariants.{Nothing}
 use Rattle.serve_channels.specs.declared.server.Server.{Server}
 use Rattle.serve_channels.specs.Controlling.{ReadsOn}
 use Rattle.serve_channels.specs.Delivering.{IsNew, Receives, bytes_in}

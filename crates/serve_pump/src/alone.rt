@@ -3,7 +3,8 @@ ghost use Rattle.std.specs.Prelude.{◌≡◌};
 ghost use Rattle.history_lock.specs.Passes.{IsPassOf, known, opening as opening_of, parts};
 ghost use Rattle.serve_steps.specs.Runs.{HasCause, HasRun};
 ghost use Rattle.serve_pump.specs.Ending.{DroveBy};
-ghost use Rattle.serve_pump.specs.Opened.{IsOpening, given_over};
+ghost use Rattle.machine_desk.specs.Openings.{IsOpening};
+ghost use Rattle.serve_pump.specs.Opened.{given_over};
 
 use crate::ending::ending_laws;
 use crate::running::at_desk;

@@ -5,7 +5,8 @@ ghost use Rattle.worker_crew.specs.Takers.{IsTakerOf, shares};
 ghost use Rattle.desk_jobs.specs.Crews.{most_workers};
 ghost use Rattle.serve_steps.specs.Runs.{HasCause, HasRun};
 ghost use Rattle.serve_pump.specs.Ending.{DroveBy, joined};
-ghost use Rattle.serve_pump.specs.Opened.{IsOpening, IsReadyBeside, RanBeside, given_over};
+ghost use Rattle.machine_desk.specs.Openings.{IsOpening};
+ghost use Rattle.serve_pump.specs.Opened.{IsReadyBeside, RanBeside, given_over};
 
 use crate::ending::ending_laws;
 use crate::resting::tell_rest;

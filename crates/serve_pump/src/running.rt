@@ -8,7 +8,7 @@ ghost use Rattle.serve_channels.specs.Servers.{IsSameHall};
 ghost use Rattle.serve_channels.specs.Starting.{IsFresh};
 ghost use Rattle.serve_pump.specs.Beginning.{given_at, given_by};
 ghost use Rattle.serve_pump.specs.Ending.{DroveAt, GoesToEnd, IsCaused, RanAt, end_of, stopped_end, with_memory};
-ghost use Rattle.serve_pump.specs.Opened.{IsOpenedAt};
+ghost use Rattle.machine_desk.specs.Openings.{IsOpenedAt};
 
 use crate::laws::begin_laws;
 use crate::startup::{Begun, Startup};

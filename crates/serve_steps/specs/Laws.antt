@@ -12,7 +12,7 @@ use Rattle.board_lines.specs.Laws.{given_by, held_behind}
 use Rattle.board_lines.specs.Readings.{beginning, last_item}
 use Rattle.of10_stream.specs.Cut.{IsOpen}
 use Rattle.sim_steps.specs.Agreeing.{AreCut}
-use Rattle.sim_steps.specs.Ends.{untaken}
+use Rattle.sim_steps.specs.Ends.{IsReportOf}
 use Rattle.machine_steps.specs.declared.entry.Entry.{Entry}
 use Rattle.machine_steps.specs.declared.entry.Entry.TheVariants as entries
 use Rattle.machine_steps.specs.Histories.{Turn, IsTurn, Leads}
@@ -195,7 +195,7 @@ TakenStaysInEnd = (ended : Bool) → TakenStaysIn (λ (g : Given) (first : Past)
 abbrev pub ReportIsTold : Type 0
 ReportIsTold =
     (g : Given) (past : Past) (last : State) → Leads (opening g.policy g.settings) (turns_of past) last
-    → report past ≡ taken_report past ++ untaken last
+    → IsReportOf (turns_of past) (taken_report past) last
 
 -- ---- the control text, as it comes
 

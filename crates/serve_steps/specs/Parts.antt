@@ -21,6 +21,7 @@ use Rattle.machine_steps.specs.Machine.{State, opening}
 use Rattle.machine_sharing.specs.Sharing.{stale_count}
 use Rattle.world_steps.specs.Worlds.{lacks_memory}
 use Rattle.sim_steps.specs.Agreeing.{AreCut}
+pub use Rattle.sim_steps.specs.Deeds.{is_overload}
 use Rattle.serve_steps.specs.Deeds.{Deed, Past, acts_of, calls_of, state_behind, is_asked, is_others, is_over, is_open, was_accepted, was_cut, ends, ends_by_link, bytes_of, inputs_of, taken_of, takes_out, last_answer, has_failed}
 use Rattle.serve_steps.specs.Deeds.Deed.{Enters, Does}
 use Rattle.serve_steps.specs.Texts.{AreEntriesOf, asks_more, asks_last, control_quits, script_quits}
@@ -190,10 +191,6 @@ pub record IsAsked (g : Given) (first : Past) (ahead : List Part) (p : Part) : T
   pub none_due : due p.done ≡ None
 
 -- ---- the second point: what may stand freely
-
-abbrev pub is_overload : Reply → Bool
-is_overload replies.Overload = true
-is_overload reply = false
 
 abbrev pub opens_job_by : ℕ → Reply → Bool
 opens_job_by n (replies.Job item) = item.job == n

@@ -2,14 +2,14 @@
 use Rattle.std.specs.Prelude.{◌≡◌, ◌≢◌, ◌⊎◌, ℕ, Bool, true, false, List, [], ◌∷◌, ◌++◌, length, Some, None}
 use Rattle.std.specs.List.{list_all}
 use Rattle.maple_io.specs.Fronts.{IsFront}
-use Rattle.maple_io.specs.Views.{SinkView, Wrote, WriteFailed, NoWriteFailed}
+use Rattle.maple_io.specs.Views.{SinkView, WriteFailed, NoWriteFailed}
 use Rattle.maple_io.specs.declared.act.Act.{Act}
 use Rattle.maple_io.specs.declared.act.Act.TheVariants as acts
 use Rattle.maple_io.specs.Boards.{BoardView, BoardFailed, NoBoardFailed}
 use Rattle.report_text.specs.declared.line.ScriptRefusal.{ScriptRefusal}
 use Rattle.machine_steps.specs.Histories.{Leads, Turn}
 use Rattle.machine_steps.specs.Machine.{State, opening}
-use Rattle.world_steps.specs.Worlds.{World, messages_for}
+use Rattle.world_steps.specs.Worlds.{World}
 use Rattle.world_steps.specs.Runs.{Event as WorldEvent, IsWorldRun}
 use Rattle.world_steps.specs.Runs.{turns_of as world_turns}
 use Rattle.world_steps.specs.Right.{IsRight}
@@ -18,7 +18,7 @@ use Rattle.serve_steps.specs.declared.end.ServeEnd.TheVariants.{Done, Script, Wr
 use Rattle.sim_steps.specs.Agreeing.{taken_text}
 use Rattle.sim_steps.specs.Deeds.Deed.{Enters as EntersAtBench}
 pub use Rattle.sim_steps.specs.Ends.{AllHadMemory, IsFull, most_entries}
-use Rattle.sim_steps.specs.Ends.{told_by}
+use Rattle.sim_steps.specs.Ends.{IsStillFor, Writes, told_by}
 use Rattle.serve_steps.specs.Deeds.Deed.{Enters, Does}
 use Rattle.serve_steps.specs.Deeds.{Deed, Past, gathered, turns_of, acts_of, is_open}
 use Rattle.serve_steps.specs.Texts.{script_asks, script_quits, ahead_of_refused, first_refused, AreEntriesOf}
@@ -67,9 +67,8 @@ abbrev pub taken_report : Past → List ℕ
 taken_report past = gathered taken_in past
 
 -- nothing is left to do: no packet waits for an answer, and what the machine had for each open session was taken out
-pub record IsAtRest (g : Given) (past : Past) : Type 0 where
-  pub jobs : (state_of g past).jobs ≡ []
-  pub taken : (c : ℕ) → is_open c past ≡ true → messages_for c (state_of g past) ≡ []
+abbrev pub IsAtRest : Given → Past → Type 0
+IsAtRest g past = IsStillFor (λ (c : ℕ). is_open c past ≡ true) (state_of g past)
 
 -- ---- the ends
 
@@ -148,17 +147,17 @@ pub record IsRun (end : ServeEnd) (g : Given) (history : List Turn) (before afte
 
 -- ---- causes
 
--- at these ends no call of the board failed. Behind a failed one the report is still taken and written, so a write may fail then, or memory run out
-abbrev pub spares_board : ServeEnd → Bool
-spares_board Done = true
-spares_board (Script line kind) = true
-spares_board end = false
+-- the run came to its end, or to a line of the start script that is refused
+abbrev pub is_whole : ServeEnd → Bool
+is_whole Done = true
+is_whole (Script line kind) = true
+is_whole end = false
 
 -- a run ends by a fault only where its count rose; where it ends well, or at a refused line, no call of the board failed, and no write did but where that
--- ends it
+-- ends it. Behind a failed call of the board the report is still taken and written, so a write may fail then, or memory run out
 pub record HasCause (end : ServeEnd) (board_old board_new : BoardView) (to_old to_new : SinkView) : Type 0 where
   pub board : end ≡ BoardFault → BoardFailed board_old board_new
-  pub no_board : spares_board end ≡ true → NoBoardFailed board_old board_new
+  pub no_board : is_whole end ≡ true → NoBoardFailed board_old board_new
   pub write : end ≡ WriteFault → WriteFailed to_old to_new
   pub no_write : end ≢ WriteFault → NoWriteFailed to_old to_new
 
@@ -178,5 +177,4 @@ pub record HasEnded (end : ServeEnd) (g : Given) (before after : List Act) (text
 
 -- how it ends over a board and a sink
 abbrev pub HasRun : ServeEnd → Given → BoardView → BoardView → SinkView → SinkView → Type 0
-HasRun end g board_old board_new to_old to_new =
-    (text : List ℕ) × HasEnded end g board_old.log board_new.log text × Wrote to_old to_new text
+HasRun end g board_old board_new to_old to_new = Writes (λ (text : List ℕ). HasEnded end g board_old.log board_new.log text) to_old to_new

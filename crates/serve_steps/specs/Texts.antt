@@ -1,9 +1,6 @@
 -- What texts ask for in `serve`: the start script, and the control text as it comes. Both have lines, and the texts of new policies.
-use Rattle.std.specs.Prelude.{◌≡◌, ◌⊎◌, ℕ, Bool, true, false, if◌then◌else◌, List, [], ◌∷◌, ◌++◌, length, drop, Option, Some, None, Result, Ok, Err}
+use Rattle.std.specs.Prelude.{◌≡◌, ℕ, Bool, true, false, if◌then◌else◌, List, [], ◌∷◌, ◌++◌, length, drop, Option, Some, None, Result, Ok, Err}
 use Rattle.std.specs.List.{list_any}
-use Rattle.policy_lang.specs.declared.Policy.{Policy as PolicyRead}
-use Rattle.policy_text.specs.declared.reading.ReadError.TheVariants.{Refused}
-use Rattle.policy_text.specs.Texts.{IsTextOf, IsRefused}
 use Rattle.env_cells.specs.declared.updates.Update.{Update}
 use Rattle.report_text.specs.declared.line.ScriptRefusal.{ScriptRefusal}
 use Rattle.report_text.specs.declared.line.ScriptRefusal.TheVariants.{Grammar, TooLong, Switch}
@@ -19,6 +16,7 @@ use Rattle.board_lines.specs.ControlItems.Within.{Control}
 use Rattle.machine_steps.specs.declared.entry.Entry.{Entry}
 use Rattle.machine_steps.specs.declared.entry.Entry.TheVariants as entries
 use Rattle.machine_steps.specs.declared.note.Note.TheVariants as notes
+use Rattle.sim_steps.specs.Parts.{RenewsBy}
 
 -- what a text asks of the machine; an empty line and a comment ask for nothing
 pub data Ask : Type 0 where
@@ -128,9 +126,7 @@ asks_last text = drop (length (control_asks text)) (asks_of (items_of text))
 -- the entry that is asked for; of a text that is no policy's it tells where and why
 abbrev pub IsEntryOf : Ask → Entry → Type 0
 IsEntryOf (Changes update) entry = entry ≡ entries.Change update
-IsEntryOf (Renews text) entry =
-    ((policy : PolicyRead) × IsTextOf policy text × (entry ≡ entries.NewPolicy policy))
-    ⊎ ((line column kind : ℕ) × IsRefused text (Refused line column kind) × (entry ≡ entries.Note (notes.PolicyRefused line column kind)))
+IsEntryOf (Renews text) entry = RenewsBy text (λ (made : Entry). entry ≡ made)
 IsEntryOf (ReadsRules switch) entry = entry ≡ entries.ReadRules switch
 IsEntryOf (Refuses n kind) entry = entry ≡ entries.Note (notes.LineRefused n (refusal_number kind))
 

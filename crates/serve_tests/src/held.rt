@@ -1,5 +1,5 @@
 // Gates that hold packets up until others come.
-use crate::running::{board_of, boot, heard, quit, serve};
+use crate::running::{BARRIER_REQUEST, SENT_OUT, board_of, boot, booted_and, heard, quit, serve};
 use maple_base::NoMemory;
 use maple_io::{MemBoard, MemTurn};
 use maple_top::Status;
@@ -94,8 +94,17 @@ fn two_packets(alloc: Global) -> Result<Option<MemBoard>, NoMemory> {
     board_of(alloc, turns)
 }
 
-// Two packets hold each other: no thread could work them one behind the other. What is sent: 108 bytes until the switch is
-// ready; the second packet's rule of 72, and a barrier of 8; the first packet of 78.
+// Behind what the switch hears until it is ready: the second packet's rule, which drops TCP to port 22, with priority 1, and a
+// barrier; then the first packet.
+const CROSSED: [&[u8]; 3] = [
+    b"\x01\x0e\x00\x48\x00\x00\x00\x03\x00\x38\x20\x4f\x00\x00\x00\x00\x00\x00\x00\x00\x00\x00\x00\x00\x00\x00\x00\x00\x00\x00\x08\x00\
+\x00\x06\x00\x00\x00\x00\x00\x00\x00\x00\x00\x00\x00\x00\x00\x16\x00\x00\x00\x00\x00\x00\x00\x00\x00\x00\x00\x00\x00\x00\x00\x01\
+\xff\xff\xff\xff\xff\xff\x00\x00",
+    BARRIER_REQUEST,
+    SENT_OUT,
+];
+
+// Two packets hold each other: no thread could work them one behind the other.
 #[test]
 fn two_packets_that_hold_each_other(rt: HostRuntime) -> Result<(), Fail> {
     let alloc = rt.alloc();
@@ -114,6 +123,7 @@ fn two_packets_that_hold_each_other(rt: HostRuntime) -> Result<(), Fail> {
         let mut sent = Vec::new(alloc);
         board.sent(1, &mut sent)?;
         assert_eq!(&rt; sent.len(), 266);
+        assert!(&rt; sent == booted_and(alloc, &CROSSED)?);
     }
     Ok(())
 }

@@ -12,6 +12,26 @@ use std::thread::Threads;
 // The policy; there is no start script.
 const INPUT: &[u8] = b"policy { if pkt.tp_dst is 22 { drop; } out 2; }\n";
 
+// What a switch hears until it is ready: HELLO, FEATURES_REQUEST, SET_CONFIG, the deletion of all rules, BARRIER_REQUEST.
+const BOOTED: [&[u8]; 5] = [
+    b"\x01\x00\x00\x08\x00\x00\x00\x00",
+    b"\x01\x05\x00\x08\x00\x00\x00\x00",
+    b"\x01\x09\x00\x0c\x00\x00\x00\x00\x00\x00\xff\xff",
+    b"\x01\x0e\x00\x48\x00\x00\x00\x01\x00\x38\x20\xff\x00\x00\x00\x00\x00\x00\x00\x00\x00\x00\x00\x00\x00\x00\x00\x00\x00\x00\x00\x00\
+\x00\x00\x00\x00\x00\x00\x00\x00\x00\x00\x00\x00\x00\x00\x00\x00\x00\x00\x00\x00\x00\x00\x00\x00\x00\x03\x00\x00\x00\x00\x00\x00\
+\xff\xff\xff\xff\xff\xff\x00\x00",
+    b"\x01\x12\x00\x08\x00\x00\x00\x02",
+];
+
+/// The packet of 54 bytes to TCP port 80 that came in by port 1, sent out by port 2.
+pub(crate) const SENT_OUT: &[u8] =
+    b"\x01\x0d\x00\x4e\x00\x00\x00\x00\xff\xff\xff\xff\x00\x01\x00\x08\x00\x00\x00\x08\x00\x02\x00\x00\
+\x00\x00\x00\x00\x00\x00\x00\x00\x00\x00\x00\x00\x08\x00\x45\x00\x00\x28\x00\x00\x00\x00\x40\x06\x00\x00\x00\x00\x00\x00\x00\x00\x00\x00\
+\x00\x00\x00\x50\x00\x00\x00\x00\x00\x00\x00\x00\x50\x00\x00\x00\x00\x00\x00\x00";
+
+/// The second one of a session.
+pub(crate) const BARRIER_REQUEST: &[u8] = b"\x01\x12\x00\x08\x00\x00\x00\x04";
+
 /// How a run ended, and what it wrote.
 #[derive(Drop)]
 pub(crate) struct Outcome {
@@ -97,4 +117,16 @@ pub(crate) fn quit(alloc: Global, turns: &mut Vec<MemTurn>) -> Result<(), AllocE
     let piece = Piece::new(Vec::from_slice(alloc, b"quit\n")?);
     turns.push(MemTurn::Control(piece))?;
     Ok(())
+}
+
+/// What a switch hears until it is ready, and these messages.
+pub(crate) fn booted_and(alloc: Global, messages: &[&[u8]]) -> Result<Vec<u8>, AllocError> {
+    let mut all = Vec::new(alloc);
+    for message in BOOTED {
+        all.extend_from_slice(message)?;
+    }
+    for message in messages {
+        all.extend_from_slice(message)?;
+    }
+    Ok(all)
 }

@@ -30,7 +30,7 @@ use Rattle.machine_desk.specs.declared.hearing.Heard.TheVariants as heard
 use Rattle.desk_jobs.specs.Tending.{IsWhole}
 use Rattle.sim_channels.specs.Answering.{Answers, IsPlain}
 use Rattle.sim_channels.specs.Channels.{IsReached}
-use Rattle.sim_channels.specs.Driving.{DrivingLaws}
+use Rattle.desk_jobs.specs.Driving.{DrivingLaws}
 use Rattle.sim_channels.specs.Passes.{WaitsBy}
 use Rattle.sim_channels.proofs.Making.{may_make}
 use Rattle.sim_channels.proofs.Keeping.{reached_on, session_same}

@@ -13,7 +13,7 @@ use Rattle.sim_channels.specs.declared.channel.Channel.{Channel}
 use Rattle.sim_channels.specs.declared.driver.Driver.{Driver}
 use Rattle.sim_channels.specs.Channels.{Fits, IsSame, WorksAlone, bench}
 use Rattle.sim_channels.specs.Delivering.{Delivers, GoesOn, MayGoOn, OffersAt}
-use Rattle.sim_channels.specs.Driving.{DrivingLaws}
+use Rattle.desk_jobs.specs.Driving.{DrivingLaws}
 use Rattle.sim_channels.specs.Passes.{AwaitsAll}
 use Rattle.sim_channels.specs.Waiting.{IsAtRest, IsDone, IsHeard, IsHeardThrough, IsOffered, IsQuiet, IsTaken, NoneWaits, StaysBut, WhilePlugged}
 use Rattle.sim_channels.proofs.Kept.{spares_then}

@@ -23,7 +23,7 @@ use Rattle.machine_desk.specs.declared.inbound.Stage.TheVariants.{Live}
 use Rattle.sim_channels.specs.declared.driver.Driver.{Driver}
 use Rattle.sim_channels.specs.Channels.{EntersNext, IsKept, OthersDid, bench, slot_by, slots_of}
 use Rattle.sim_channels.specs.Delivering.{TakesMessages, TakesOut, ahead_of_last}
-use Rattle.sim_channels.specs.Driving.{DrivingLaws}
+use Rattle.desk_jobs.specs.Driving.{DrivingLaws}
 use Rattle.sim_channels.proofs.Keeping.{can_offer, elsewhere, nothing_left}
 use Rattle.sim_channels.proofs.Kept.{ChannelAt, is_as_long, is_there, kept_channel, not_fresh, plugged_at, spares, waits_as, while_there}
 use Rattle.sim_channels.proofs.Others.{ahead, enters_next, kept_ahead, others_ahead, others_carried, spares_others}
@@ -97,7 +97,7 @@ module _ (laws : DrivingLaws) (at : ℕ) (old new : Driver) (bytes : List ℕ) (
         may = is_open;
         admitted = tt;
         steps = enters.steps;
-        smooth = tt;
+        smooth = refl;
         slots = subst (λ ks. MovesAt (at + 1) (GetsMessages waiting) (slots_of old.channels.items devices) (slots_of ks devices)) (sym h.channels)
             (slots_channel old.channels.items devices at k l d.0 (GetsMessages waiting) h.there d.1 (gets d.0));
         past = enters.past;

@@ -13,23 +13,27 @@ use Rattle.sim_steps.specs.Benches.{Bench, is_plugged}
 use Rattle.sim_steps.specs.Deeds.{IsSmooth}
 use Rattle.sim_channels.specs.declared.channel.Channel.{Channel}
 use Rattle.sim_channels.specs.declared.driver.Driver.{Driver}
-use Rattle.sim_channels.specs.Channels.{EntersNext, IsKept, IsSame, OthersDid, with_stage}
+use Rattle.sim_channels.specs.Channels.{EntersNext, IsKept, IsSame, OthersDid}
 use Rattle.sim_channels.specs.Delivering.{Leaves}
-use Rattle.sim_channels.specs.Driving.{DrivingLaws}
-use Rattle.sim_channels.specs.Staging.{ClosesAt, EntersAndStages, HasStage}
+use Rattle.desk_jobs.specs.Driving.{DrivingLaws}
+use Rattle.sim_channels.specs.Staging.{ClosesAt, HasStage}
 use Rattle.sim_channels.proofs.Keeping.{elsewhere}
 use Rattle.sim_channels.proofs.Kept.{ChannelAt, is_as_long, now_there, plugged_at, spares, waits_as}
 use Rattle.sim_channels.proofs.Others.{ahead, enters_next, kept_ahead, others_ahead, spares_others}
-use Rattle.sim_channels.proofs.Places.{staged_slots}
+use Rattle.sim_channels.proofs.Places.{EntersAndStages, staged_slots, with_stage}
+use Rattle.sim_channels.proofs.Staged.{closed_so}
 
 -- an open session ends, whatever the machine has
 told_end : (c : ℕ) (fault : Bool) (old : State) (reply : Reply) (new : State) → is_plugged c old ≡ true → Steps old (entries.Gone c fault) reply new → reply ≡ Ended (link_end fault)
 told_end c fault old reply new plugged (inl (none, passes)) = (let f : true ≡ false = sym plugged ∙ ap is_some none in absurd (cc))
 told_end c fault old reply new plugged (inr (s, found, r, e)) = r
 
-module _ (laws : DrivingLaws) (at : ℕ) (old new : Driver) (kept : IsKept old) (live : HasStage at Live old) (closes : ClosesAt at true old new) (now_kept : IsKept new) (same : IsSame old new) where
+module _ (laws : DrivingLaws) (at : ℕ) (old new : Driver) (kept : IsKept old) (live : HasStage at Live old) (closes_so : ClosesAt at true old new) (now_kept : IsKept new) (same : IsSame old new) where
   abbrev goes : Entry
   goes = entries.Gone (at + 1) true
+
+  closes : (reply : Reply) × EntersAndStages at goes reply Over old new
+  closes = closed_so laws old new at true kept same closes_so
 
   abbrev reply : Reply
   reply = closes.0
@@ -73,7 +77,7 @@ module _ (laws : DrivingLaws) (at : ℕ) (old new : Driver) (kept : IsKept old) 
       may = is_open;
       admitted = tt;
       steps = ends.steps;
-      smooth = subst IsSmooth (sym ended) tt;
+      smooth = subst IsSmooth (sym ended) refl;
       slots = ap (λ (b : Bench). b.slots) (staged_slots at goes reply Over old new h devices);
       past = ends.past;
     };

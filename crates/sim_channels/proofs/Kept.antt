@@ -22,16 +22,12 @@ use Rattle.sim_channels.specs.declared.driver.Driver.{Driver}
 use Rattle.machine_desk.specs.Hearing.{IsSameSession, IsStaged, is_live, was_begun}
 use Rattle.sim_channels.specs.Channels.{Fits, IsFresh, IsKept, IsReached, IsSame}
 use Rattle.sim_channels.specs.Delivering.{Spares}
-use Rattle.sim_channels.specs.Driving.{DrivingLaws}
+use Rattle.desk_jobs.specs.Driving.{DrivingLaws}
 use Rattle.sim_channels.specs.Waiting.{IsLeft, WhilePlugged}
 use Rattle.sim_channels.proofs.Keeping.{IsAside, aside, bears_on, reached_on, session_same}
 use Rattle.sim_channels.proofs.Making.{may_make}
 use Rattle.sim_channels.proofs.Others.{IsPlaced, kept_all, kept_each, quiet_on, same_desk, same_then, still_placed}
 use Rattle.sim_channels.proofs.Slots.{set_beside, set_there}
-
--- a channel with another inbound
-abbrev pub with_inbound : Inbound → Channel → Channel
-with_inbound j k = record k { inbound = j }
 
 -- of the channels this one became another
 pub record ChannelAt (at : ℕ) (k l : Channel) (old new : Driver) : Type 0 where

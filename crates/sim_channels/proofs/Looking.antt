@@ -24,7 +24,7 @@ use Rattle.machine_desk.specs.declared.inbound.Stage.TheVariants.{Live}
 use Rattle.sim_channels.specs.declared.driver.Driver.{Driver}
 use Rattle.machine_desk.specs.Desks.{Enters}
 use Rattle.sim_channels.specs.Channels.{EntersNext, Fits, IsKept, IsSame, OthersDid, slots_of}
-use Rattle.sim_channels.specs.Driving.{DrivingLaws}
+use Rattle.desk_jobs.specs.Driving.{DrivingLaws}
 use Rattle.sim_channels.specs.Waiting.{IsAtRest, IsAtRestBut}
 use Rattle.sim_channels.proofs.Keeping.{session_same}
 use Rattle.sim_channels.proofs.Kept.{ChannelAt, is_as_long, is_beside, is_there, kept_channel, not_fresh, now_there, plugged_at, waiting_but, while_there}

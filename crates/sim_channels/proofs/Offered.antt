@@ -25,7 +25,7 @@ use Rattle.machine_desk.specs.declared.inbound.Stage.TheVariants.{Live}
 use Rattle.sim_channels.specs.declared.driver.Driver.{Driver}
 use Rattle.sim_channels.specs.Channels.{EntersNext, Fits, IsKept, IsSame, OthersDid, bench, slots_of}
 use Rattle.sim_channels.specs.Delivering.{CanOffer, GoesOn, Leaves, OffersAt, OffersFirst, Spares, left_in, offers_left, took_by}
-use Rattle.sim_channels.specs.Driving.{DrivingLaws}
+use Rattle.desk_jobs.specs.Driving.{DrivingLaws}
 use Rattle.sim_channels.specs.Staging.{HasStage}
 use Rattle.sim_channels.specs.Waiting.{IsTaken}
 use Rattle.sim_channels.proofs.Keeping.{messages_same, session_same}

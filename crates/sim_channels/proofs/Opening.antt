@@ -16,7 +16,9 @@ use Rattle.machine_desk.specs.declared.inbound.Stage.TheVariants.{Live, Unopened
 use Rattle.sim_channels.specs.declared.driver.Driver.{Driver}
 use Rattle.desk_jobs.specs.Crews.{MayHave}
 use Rattle.machine_desk.specs.Hearing.{is_live, was_begun}
-use Rattle.sim_channels.specs.Channels.{AreNumbered, Fits, IsAtStart, IsKept, bench, bench_at_start, slot_by, slots_of}
+use Rattle.machine_desk.specs.Openings.{IsAtStart}
+use Rattle.machine_steps.specs.Sound.{AreInRange}
+use Rattle.sim_channels.specs.Channels.{AreNumbered, Fits, IsKept, bench, bench_at_start, slot_by, slots_of}
 use Rattle.sim_channels.specs.Delivering.{IsUnused}
 use Rattle.sim_channels.specs.Waiting.{IsAtRest, WhilePlugged}
 
@@ -54,6 +56,7 @@ numbered_more ks k names is n x there =
 -- a driver at a desk at its start
 pub record IsNewDriver (driver : Driver) (places : ℕ) : Type 0 where
   pub start : IsAtStart driver.desk
+  pub ranges : AreInRange driver.desk.now.settings
   pub crew : MayHave driver.crew driver.desk.footing.parts driver.desk.now
   pub unused : AllByRecursion IsUnused driver.channels.items
   pub count : length driver.channels.items ≡ places
@@ -73,7 +76,7 @@ module _ (driver : Driver) (ds : List Meaning) (h : IsNewDriver driver (length d
   new_kept : IsKept driver
   new_kept = record {
     crew = h.crew;
-    reached = record { policy = driver.desk.now.policy; settings = driver.desk.now.settings; ranges = h.start.ranges; turns = []; leads = h.start.opening };
+    reached = record { policy = driver.desk.now.policy; settings = driver.desk.now.settings; ranges = h.ranges; turns = []; leads = h.start.opening };
     numbers = subst (λ n. n < 2 ^ 32) (sym h.count) h.few;
     names = h.names;
     stages = λ n k there.

@@ -4,6 +4,7 @@ use Rattle.std.specs.Prelude.{◌+◌, IfSome, Option, Some, None, is_some}
 use Rattle.std.specs.FinSet as set
 use Rattle.std.specs.Ordering.{nat_cmp}
 use Rattle.std.specs.List.{slice_get}
+use Rattle.desk_jobs.proofs.Crewed.{crew_then, same_crew, some_crew}
 use Rattle.device_port.specs.Devices.{Meaning}
 use Rattle.maple_base.specs.declared.decision.Settings.{Settings}
 use Rattle.policy_lang.specs.declared.Policy.{Policy}
@@ -26,31 +27,12 @@ use Rattle.desk_jobs.specs.declared.crew.Crew.{Crew}
 use Rattle.sim_channels.specs.declared.driver.Driver.{Driver}
 use Rattle.desk_jobs.specs.Crews.{IsCrew, MayHave, SameCrew}
 use Rattle.sim_channels.specs.Channels.{CarriedOver, EntersNext, Fits, IsFresh, IsKept, IsReached, IsSame, OthersDid, Tends, WorksAlone, bench, slots_of}
-use Rattle.sim_channels.specs.Driving.{DrivingLaws}
+use Rattle.desk_jobs.specs.Driving.{DrivingLaws}
 use Rattle.sim_channels.specs.Delivering.{Spares}
 use Rattle.sim_channels.specs.Waiting.{IsAtRest, IsDone, IsQuiet, IsTaken, NoneWaits, WhilePlugged}
 use Rattle.sim_channels.proofs.Keeping.{IsAside, reached_along, reached_sound}
 
 -- ---- the same driver
-
-pub same_crew : (c : Option Crew) → SameCrew c c
-same_crew None = tt
-same_crew (Some c) = record { jobs = refl; lobby = refl; name = refl; is = λ h. h; shares = λ h. refl }
-
-pub crew_then : (a b c : Option Crew) → SameCrew a b → SameCrew b c → SameCrew a c
-crew_then None None None h k = tt
-crew_then (Some a) (Some b) (Some c) h k =
-    record { jobs = k.jobs ∙ h.jobs; lobby = k.lobby ∙ h.lobby; name = k.name ∙ h.name; is = λ x. k.is (h.is x); shares = λ x. k.shares (h.is x) ∙ h.shares x }
-crew_then None None (Some c) h k = absurd k
-crew_then None (Some b) c h k = absurd h
-crew_then (Some a) None c h k = absurd h
-crew_then (Some a) (Some b) None h k = absurd k
-
-pub some_crew : (a b : Option Crew) → SameCrew a b → is_some b ≡ is_some a
-some_crew None None h = refl
-some_crew (Some a) (Some b) h = refl
-some_crew None (Some b) h = absurd h
-some_crew (Some a) None h = absurd h
 
 pub same_driver : (a : Driver) → IsSame a a
 same_driver a = record { footing = refl; crew = same_crew a.crew }

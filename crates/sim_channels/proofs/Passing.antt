@@ -5,13 +5,14 @@ use Rattle.std.specs.List.{AllByRecursion, slice_get}
 use Rattle.std.specs.Vec.{with_item}
 use Rattle.std.proofs.lemmas.List.{set-set}
 use Rattle.std.proofs.lemmas.Option.{same_Some}
+use Rattle.desk_jobs.specs.Homes.{rest_of}
 use Rattle.policy_lang.specs.declared.Policy.{Policy}
 use Rattle.of10_codec.specs.declared.fault.Bad.{Bad as Fault}
 use Rattle.of10_stream.specs.declared.reassembly.Next.TheVariants.{More}
 use Rattle.of10_stream.specs.Steps.{AnswersBehind, Held, Stream, Tells}
 use Rattle.device_port.specs.Devices.{Meaning}
 use Rattle.machine_desk.specs.Desks.{DeskView, Enters as DeskEnters, calls_of}
-use Rattle.machine_desk.specs.Hearing.{Comes, ComesAt as ComesBy, heard_by, stage_heard, told_as}
+use Rattle.machine_desk.specs.Hearing.{Comes, ComesAt as ComesBy, came_of, heard_by, stage_heard, told_as}
 use Rattle.machine_desk.specs.declared.hearing.Heard.{Heard}
 use Rattle.machine_desk.specs.declared.hearing.Heard.TheVariants as heards
 use Rattle.machine_desk.specs.declared.inbound.Inbound.{Inbound}
@@ -38,20 +39,20 @@ use Rattle.sim_steps.proofs.Moments.{carried_heard}
 use Rattle.sim_steps.proofs.Silent.{IsEasy, carried_along}
 use Rattle.sim_channels.specs.declared.channel.Channel.{Channel}
 use Rattle.sim_channels.specs.declared.driver.Driver.{Driver}
-use Rattle.sim_channels.specs.declared.hear.Came.{Came}
-use Rattle.sim_channels.specs.declared.hear.Came.TheVariants.{Nothing}
+use Rattle.machine_desk.specs.declared.hearing.Came.{Came}
+use Rattle.machine_desk.specs.declared.hearing.Came.TheVariants.{Nothing}
 use Rattle.desk_jobs.specs.declared.stopped.Stopped.{Stopped}
 use Rattle.desk_jobs.specs.Arriving.{is_packet}
 use Rattle.sim_channels.specs.Answering.{Answers, IsPlain}
-use Rattle.sim_channels.specs.Channels.{CarriedOver, EntersNext, IsFresh, IsKept, IsSame, OthersDid, Tends, WorksAlone, bench, slot_by, slots_of}
-use Rattle.sim_channels.specs.Driving.{DrivingLaws}
-use Rattle.sim_channels.specs.Passes.{ComesAt, Follows, HasHeard, HearsInput, HearsNext, MakesRoom, MakesRoomFor, Passed, came_of, rest_at, rest_in}
+use Rattle.sim_channels.specs.Channels.{CarriedOver, EntersNext, IsFresh, IsKept, IsSame, OthersDid, Tends, WorksAlone, bench, slot_by, slots_of, with_inbound}
+use Rattle.desk_jobs.specs.Driving.{DrivingLaws}
+use Rattle.sim_channels.specs.Passes.{ComesAt, Follows, HasHeard, HearsInput, HearsNext, MakesRoom, MakesRoomFor, Passed, rest_at}
 use Rattle.sim_channels.specs.Waiting.{IsOffered, NoneWaits}
 use Rattle.sim_channels.proofs.Answering.{AllBy, others_along}
 use Rattle.sim_channels.proofs.Bytes.{gets_shorter}
 use Rattle.sim_channels.proofs.Crowded.{crowds}
 use Rattle.sim_channels.proofs.Keeping.{elsewhere, reached_sound}
-use Rattle.sim_channels.proofs.Kept.{ChannelAt, is_as_long, is_beside, is_there, kept_but, plugged_at, staged_as, waits_as, while_there, with_inbound}
+use Rattle.sim_channels.proofs.Kept.{ChannelAt, is_as_long, is_beside, is_there, kept_but, plugged_at, staged_as, waits_as, while_there}
 use Rattle.sim_channels.proofs.Making.{had_memory}
 use Rattle.sim_channels.proofs.Others.{ahead, alone_back, alone_on, channel_stays, enters_next, items_stay, others_ahead, same_but, same_then, tends_channel, tends_kept, tends_learning, tends_none, tends_of}
 use Rattle.sim_channels.proofs.Places.{there_too}
@@ -63,7 +64,7 @@ use Rattle.sim_channels.proofs.Tended.{by_crew, carried_tends, over_none, over_t
 
 smooth : (reply : Reply) → (reply ≡ Overload → ⊥) → IsSmooth reply
 smooth Overload few = absurd (few refl)
-smooth reply few = tt
+smooth reply few = refl
 
 easy : (ts : List Turn) → AllByRecursion IsPlain ts → AllByRecursion IsEasy ts
 easy [] all = tt
@@ -114,7 +115,7 @@ module _ (here : ℕ) (k : Channel) (j : Inbound) (old : Driver) (there : slice_
   taken = record old { channels = with_item old.channels here (with_inbound j k) }
 
   pub comes_at : ComesAt here found old taken
-  comes_at = record { channel = k; there = there; behind = j; comes = comes; rest = refl; channels = refl }
+  comes_at = record { connection = k; there = there; behind = j; does = comes; rest = refl; all = refl }
 
   -- who never was plugged in has nothing
   still_fresh : IsKept old → j.stage ≡ Unopened → IsFresh (with_inbound j k)
@@ -136,33 +137,33 @@ passed_nothing here old new h same kept none offered = (
     kept = kept;
     carried = over_none old new bench_same;
     jobs = λ alone. ap (λ (d : DeskView). d.now.jobs) desk ∙ none alone;
-    offered = while_there here h.channel l old new at (λ x. x.to ≡ []) (λ live. offered h.channel h.there (sym session ∙ live));
-    channels = record { count = is_as_long here h.channel l old new at; others = is_beside here h.channel l old new at; waiting = waits_as here h.channel l old new at refl };
-    others = λ untold no_hosts. record { sessions = λ alone c o. ap (λ (d : DeskView). session_at c d.now) desk; channels = is_beside here h.channel l old new at };
+    offered = while_there here h.connection l old new at (λ x. x.to ≡ []) (λ live. offered h.connection h.there (sym session ∙ live));
+    channels = record { count = is_as_long here h.connection l old new at; others = is_beside here h.connection l old new at; waiting = waits_as here h.connection l old new at refl };
+    others = λ untold no_hosts. record { sessions = λ alone c o. ap (λ (d : DeskView). session_at c d.now) desk; channels = is_beside here h.connection l old new at };
     same = same;
     learning = ap (λ (d : DeskView). d.now.policy.learning) desk;
   },
-  (while_there here h.channel l old new at (λ x. IsHeardOut x.inbound.from.stream) (λ live. subst IsHeardOut (sym came.0) (came.1 (sym session ∙ live))), desk),
+  (while_there here h.connection l old new at (λ x. IsHeardOut x.inbound.from.stream) (λ live. subst IsHeardOut (sym came.0) (came.1 (sym session ∙ live))), desk),
 )
   where
     l : Channel
-    l = with_inbound h.behind h.channel
+    l = with_inbound h.behind h.connection
 
-    at : ChannelAt here h.channel l old new
-    at = record { there = h.there; channels = h.channels; same = same }
+    at : ChannelAt here h.connection l old new
+    at = record { there = h.there; channels = h.all; same = same }
 
     desk : new.desk ≡ old.desk
     desk = ap (λ (x : Driver). x.desk) h.rest
 
-    session : h.behind.stage ≡ h.channel.inbound.stage
-    session = h.comes.1.1
+    session : h.behind.stage ≡ h.connection.inbound.stage
+    session = h.does.1.1
 
-    came : (h.behind.from.stream ≡ h.channel.inbound.from.stream) × (h.channel.inbound.stage ≡ Live → IsHeardOut h.channel.inbound.from.stream)
-    came = none_came h.channel.inbound h.behind h.comes
+    came : (h.behind.from.stream ≡ h.connection.inbound.from.stream) × (h.connection.inbound.stage ≡ Live → IsHeardOut h.connection.inbound.from.stream)
+    came = none_came h.connection.inbound h.behind h.does
 
     bench_same : (ds : List Meaning) → bench new ds ≡ bench old ds
     bench_same ds =
-        let slots = ap (λ ks. slots_of ks ds) h.channels ∙ slots_alike old.channels.items ds here h.channel l h.there refl came.0 in
+        let slots = ap (λ ks. slots_of ks ds) h.all ∙ slots_alike old.channels.items ds here h.connection l h.there refl came.0 in
         λ i. record { past = (desk i).past; machine = (desk i).now; slots = slots i }
 
 -- ---- a message, or the fault that ends the session
@@ -277,8 +278,8 @@ module _ (here : ℕ) (old mid : Driver) (reply : Reply) (h : Replied here old m
     fewer : is_end reply ≡ false → rest_at here new < rest_at here old
     fewer goes_on =
         let less = shorter (here + 1) input k.inbound.from.stream i.from.stream old.desk.now reply mid.desk.now next steps is_open goes_on in
-        let before : rest_at here old ≡ length k.inbound.from.stream.rest = ap rest_in at.there in
-        let behind : rest_at here new ≡ length i.from.stream.rest = ap rest_in (stays here ∙ is_there here k l old mid at) in
+        let before : rest_at here old ≡ length k.inbound.from.stream.rest = ap (rest_of (λ (c : Channel). c.inbound)) at.there in
+        let behind : rest_at here new ≡ length i.from.stream.rest = ap (rest_of (λ (c : Channel). c.inbound)) (stays here ∙ is_there here k l old mid at) in
         omega (arith, less, before, behind)
 
   -- nothing else
@@ -336,13 +337,13 @@ hears_next here came old new h = subst (λ x. HearsInput here x old new → Hear
 module _ (laws : DrivingLaws) (here : ℕ) (old new : Driver) (came : Came) (h : HearsInput here came old new) (can : CanBeHeard h.input) (kept : IsKept old) (now_kept : IsKept h.hearing)
     (same : IsSame h.room h.hearing) (jobs : WorksAlone old → NoneWaits old.desk) (offered : IsOffered here old) where
   abbrev k : Channel
-  k = h.comes.channel
+  k = h.comes.connection
 
   abbrev took : Channel
   took = with_inbound h.comes.behind k
 
   abbrev reply : Reply
-  reply = h.hears.hears.reply
+  reply = h.hears.does.reply
 
   -- room was made, as if the channel was as before
   abbrev first : Driver
@@ -361,19 +362,19 @@ module _ (laws : DrivingLaws) (here : ℕ) (old new : Driver) (came : Came) (h :
   kept_roomy = tends_kept laws old roomy kept made
 
   items : h.room.channels.items ≡ set old.channels.items here took
-  items = ap (λ (x : Driver). x.channels.items) room.tends.rest ∙ h.comes.channels
+  items = ap (λ (x : Driver). x.channels.items) room.tends.rest ∙ h.comes.all
 
-  was : h.hears.channel ≡ took
-  was = same_Some h.hears.channel took (sym h.hears.there ∙ ap (λ ks. slice_get ks here) items ∙ set_there old.channels.items here k took h.comes.there)
+  was : h.hears.connection ≡ took
+  was = same_Some h.hears.connection took (sym h.hears.there ∙ ap (λ ks. slice_get ks here) items ∙ set_there old.channels.items here k took h.comes.there)
 
   live : (k.inbound.stage ≡ Live) × NextIs h.input k.inbound.from.stream h.comes.behind.from.stream
-  live = some_came h.input k.inbound h.comes.behind h.comes.comes
+  live = some_came h.input k.inbound h.comes.behind h.comes.does
 
   -- it was heard behind what others did
   entered : DeskEnters h.room.desk (entries.Heard (here + 1) h.input) reply h.hearing.desk
   entered =
       subst (λ n. DeskEnters h.room.desk (entries.Heard n h.input) reply h.hearing.desk)
-      (ap (λ (x : Channel). x.inbound.connection) was ∙ h.comes.comes.1.0 ∙ kept.names here k h.comes.there) h.hears.hears.asks.enters
+      (ap (λ (x : Channel). x.inbound.connection) was ∙ h.comes.does.1.0 ∙ kept.names here k h.comes.there) h.hears.does.asks.enters
 
   abbrev before : Driver
   before = ahead roomy (entries.Heard (here + 1) h.input) reply h.hearing.desk kept_roomy entered
@@ -395,24 +396,24 @@ module _ (laws : DrivingLaws) (here : ℕ) (old new : Driver) (came : Came) (h :
     k = k;
     i = h.hears.behind;
     live = live.0;
-    stage = ap (λ (i : Inbound). i.stage) h.hears.hears.stage ∙ ap (λ (x : Channel). stage_heard h.heard x.inbound.stage) was ∙ ap (stage_heard h.heard) (h.comes.comes.1.1 ∙ live.0)
-        ∙ ap (λ x. stage_heard x Live) h.hears.hears.heard_is;
-    next = subst (NextIs h.input k.inbound.from.stream) (sym (ap (λ (i : Inbound). i.from.stream) h.hears.hears.stage ∙ ap (λ (x : Channel). x.inbound.from.stream) was)) live.1;
+    stage = ap (λ (i : Inbound). i.stage) h.hears.does.stage ∙ ap (λ (x : Channel). stage_heard h.heard x.inbound.stage) was ∙ ap (stage_heard h.heard) (h.comes.does.1.1 ∙ live.0)
+        ∙ ap (λ x. stage_heard x Live) h.hears.does.heard_is;
+    next = subst (NextIs h.input k.inbound.from.stream) (sym (ap (λ (i : Inbound). i.from.stream) h.hears.does.stage ∙ ap (λ (x : Channel). x.inbound.from.stream) was)) live.1;
     can = can;
     at = record {
       there = h.comes.there;
-      channels = h.hears.channels ∙ ap (λ xs. set xs here (with_inbound h.hears.behind h.hears.channel)) items
-          ∙ set-set old.channels.items here took (with_inbound h.hears.behind h.hears.channel) ∙ ap (λ x. set old.channels.items here (with_inbound h.hears.behind x)) was;
+      channels = h.hears.all ∙ ap (λ xs. set xs here (with_inbound h.hears.behind h.hears.connection)) items
+          ∙ set-set old.channels.items here took (with_inbound h.hears.behind h.hears.connection) ∙ ap (λ x. set old.channels.items here (with_inbound h.hears.behind x)) was;
       same = record { footing = same.footing; crew = same.crew };
     };
     entered = enters_next roomy (entries.Heard (here + 1) h.input) reply h.hearing.desk kept_roomy entered;
     room = λ packet. ⊎_elim (λ alone. inl (alone_on first h.room room.tends.same alone)) (λ few. inr few) (room.room packet before.desk others.meanwhile);
-    memory = had_memory reply h.hears.hears.asks.memory;
+    memory = had_memory reply h.hears.does.asks.memory;
   }
 
   pub passed_by : Passed here old new came
   passed_by =
-      subst (Passed here old new) (sym (h.told ∙ ap came_of h.hears.hears.heard_is))
+      subst (Passed here old new) (sym (h.told ∙ ap came_of h.hears.does.heard_is))
       (passed_ahead laws old roomy kept made (λ alone. ap (λ (d : Driver). record old { desk = d.desk; crew = d.crew }) (room.alone alone)) here new (heard_by reply)
       (passed_ahead laws roomy before kept_roomy did others.alone here new (heard_by reply)
-      (follows here before h.hearing reply replied new (subst (λ x. Follows x h.hearing new) h.hears.hears.heard_is h.follows))))
+      (follows here before h.hearing reply replied new (subst (λ x. Follows x h.hearing new) h.hears.does.heard_is h.follows))))

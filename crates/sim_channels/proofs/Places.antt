@@ -1,9 +1,11 @@
 -- What is kept, and what is left to do, where at most one place changed.
-use Rattle.std.proofs.Common.{◌≡◌, ℕ, ◌+◌, true, List, length, refl, sym, ap, ◌∙◌, subst, ⊎_elim, arith}
+use Rattle.std.proofs.Common.{◌≡◌, ℕ, ◌+◌, true, false, List, length, set, refl, sym, ap, ◌∙◌, subst, ⊎_elim, arith}
 use Rattle.std.specs.Prelude.{Some, is_some}
 use Rattle.std.specs.List.{slice_get}
 use Rattle.std.proofs.lemmas.Bool.{cases_eq}
 use Rattle.std.proofs.lemmas.Option.{slice_get_within}
+use Rattle.world_steps.specs.Worlds.{lacks_memory}
+use Rattle.machine_desk.specs.Desks.{Enters}
 use Rattle.device_port.specs.Devices.{Meaning}
 use Rattle.machine_steps.specs.declared.entry.Entry.{Entry}
 use Rattle.machine_steps.specs.declared.reply.Reply.{Reply}
@@ -12,8 +14,8 @@ use Rattle.sim_steps.specs.Benches.{is_plugged}
 use Rattle.sim_channels.specs.declared.channel.Channel.{Channel}
 use Rattle.machine_desk.specs.declared.inbound.Stage.{Stage}
 use Rattle.sim_channels.specs.declared.driver.Driver.{Driver}
-use Rattle.sim_channels.specs.Channels.{Fits, IsKept, bench, slots_of, with_stage}
-use Rattle.sim_channels.specs.Driving.{DrivingLaws}
+use Rattle.sim_channels.specs.Channels.{Fits, IsKept, bench, slots_of}
+use Rattle.desk_jobs.specs.Driving.{DrivingLaws}
 use Rattle.sim_channels.specs.Resting.{DoesAt}
 use Rattle.sim_channels.specs.Waiting.{IsAtRest, IsAtRestBut, IsHeard, IsOffered, IsTaken, WhilePlugged}
 use Rattle.sim_channels.proofs.Keeping.{messages_same}
@@ -22,7 +24,6 @@ use Rattle.sim_channels.proofs.Others.{alone_back}
 use Rattle.sim_channels.proofs.Resting.{stage_plugged}
 use Rattle.sim_channels.proofs.Slots.{item_at, slots_alike}
 use Rattle.sim_channels.specs.Hearing.{KeepsChannels}
-use Rattle.sim_channels.specs.Staging.{EntersAndStages}
 
 -- an index is this one or another
 pub by_index : (at here : ℕ) {P : Type 0} → (at ≡ here → P) → ((at ≡ here → ⊥) → P) → P
@@ -31,6 +32,18 @@ by_index at here same other = ⊎_elim same other (cases_eq at here)
 -- a list of the same length has an element there too
 pub there_too : {X Y : Type 0} (xs : List X) (ys : List Y) (at : ℕ) (y : Y) → length xs ≡ length ys → slice_get ys at ≡ Some y → (x : X) × (slice_get xs at ≡ Some x)
 there_too xs ys at y same e = item_at xs at (let h = slice_get_within ys at y e in omega (arith, h, same))
+
+abbrev pub with_stage : Stage → Channel → Channel
+with_stage stage k = record k { inbound = record k.inbound { stage = stage } }
+
+-- the machine was given an entry, with memory enough, and the channel with this index has this stage behind it; nothing else changes
+pub record EntersAndStages (at : ℕ) (entry : Entry) (reply : Reply) (stage : Stage) (old new : Driver) : Type 0 where
+  pub enters : Enters old.desk entry reply new.desk
+  pub memory : lacks_memory reply ≡ false
+  pub channel : Channel
+  pub there : slice_get old.channels.items at ≡ Some channel
+  pub rest : new ≡ record old { desk = new.desk; channels = new.channels }
+  pub channels : new.channels.items ≡ set old.channels.items at (with_stage stage channel)
 
 -- no bench shows a stage
 pub staged_slots : (at : ℕ) (entry : Entry) (reply : Reply) (stage : Stage) (d e : Driver) → EntersAndStages at entry reply stage d e → (devices : List Meaning)

@@ -1,5 +1,5 @@
 -- A driver at rest has a still bench, and hears in order.
-use Rattle.std.proofs.Common.{◌≡◌, ◌⊎◌, ℕ, ◌+◌, ◌-◌, true, List, [], refl, sym, ap, ◌∙◌, subst, inl, inr, arith}
+use Rattle.std.proofs.Common.{◌≡◌, ◌⊎◌, ℕ, ◌+◌, ◌-◌, true, List, [], sym, ap, ◌∙◌, subst, inl, inr, arith}
 use Rattle.std.specs.Prelude.{Some}
 use Rattle.std.specs.List.{slice_get}
 use Rattle.device_port.specs.Devices.{Meaning}
@@ -11,19 +11,13 @@ use Rattle.sim_steps.specs.Benches.{IsPluggedAt, IsSolo, Slot, is_plugged}
 use Rattle.sim_steps.specs.Deeds.Deed.{Enters}
 use Rattle.sim_steps.specs.Parts.{HearsInOrder, IsCalm, IsHeardOut, IsStill}
 use Rattle.sim_channels.specs.declared.channel.Channel.{Channel}
-use Rattle.machine_desk.specs.declared.inbound.Stage.{Stage}
-use Rattle.machine_desk.specs.declared.inbound.Stage.TheVariants.{Over, Live, Unopened}
+use Rattle.machine_desk.specs.declared.inbound.Stage.TheVariants.{Live}
 use Rattle.sim_channels.specs.declared.driver.Driver.{Driver}
-use Rattle.machine_desk.specs.Hearing.{is_live}
 use Rattle.sim_channels.specs.Channels.{IsKept, WorksAlone, bench}
 use Rattle.sim_channels.specs.Waiting.{IsAtRest, IsDone, IsOffered, NoneWaits}
+use Rattle.machine_desk.proofs.Opened.{live_is}
 use Rattle.sim_channels.proofs.Kept.{staged_at}
 use Rattle.sim_channels.proofs.Slots.{SlotBy, item_at, slots_found}
-
-pub plugged_in : (stage : Stage) → is_live stage ≡ true → stage ≡ Live
-plugged_in Unopened e = absurd (cc)
-plugged_in Live e = refl
-plugged_in Over e = absurd (cc)
 
 -- the channel of an open session
 pub record PluggedBy (c : ℕ) (driver : Driver) : Type 0 where
@@ -34,7 +28,7 @@ pub record PluggedBy (c : ℕ) (driver : Driver) : Type 0 where
   pub plugged : channel.inbound.stage ≡ Live
 
 pub stage_plugged : (driver : Driver) (at : ℕ) (k : Channel) → IsKept driver → slice_get driver.channels.items at ≡ Some k → is_plugged (at + 1) driver.desk.now ≡ true → k.inbound.stage ≡ Live
-stage_plugged driver at k kept there open_now = plugged_in k.inbound.stage (sym (staged_at driver at k kept there) ∙ open_now)
+stage_plugged driver at k kept there open_now = live_is k.inbound.stage (sym (staged_at driver at k kept there) ∙ open_now)
 
 pub plugged_by : (driver : Driver) (c : ℕ) → IsKept driver → is_plugged c driver.desk.now ≡ true → PluggedBy c driver
 plugged_by driver c kept open_now =
@@ -69,10 +63,13 @@ module _ (driver : Driver) (devices : List Meaning) (kept : IsKept driver) (rest
 
   done_is_still : IsDone driver → IsStill (bench driver devices)
   done_is_still done = record {
-    jobs = done.jobs;
-    taken = λ c open_now.
-        (let h = plugged_by driver c kept open_now in
-        ap (λ n. messages_for n driver.desk.now) h.place ∙ done.taken h.at h.channel h.there h.plugged);
+    machine =
+        record {
+          jobs = done.jobs;
+          taken = λ c open_now.
+              (let h = plugged_by driver c kept open_now in
+              ap (λ n. messages_for n driver.desk.now) h.place ∙ done.taken h.at h.channel h.there h.plugged);
+        };
     calm = rest_is_calm;
   }
 

@@ -24,15 +24,16 @@ use Rattle.machine_steps.specs.Steps.{Steps}
 use Rattle.world_steps.specs.Worlds.{lacks_memory}
 use Rattle.sim_channels.specs.declared.channel.Channel.{Channel}
 use Rattle.sim_channels.specs.declared.driver.Driver.{Driver}
-use Rattle.sim_channels.specs.Channels.{IsKept, IsSame}
-use Rattle.sim_channels.specs.Driving.{DrivingLaws}
+use Rattle.sim_channels.specs.Channels.{IsKept, IsSame, with_inbound}
+use Rattle.desk_jobs.specs.Driving.{DrivingLaws}
 use Rattle.sim_channels.specs.Passes.{WaitsBy}
 use Rattle.sim_channels.specs.Staging.{ClosesAt, HasStage, OpensAt}
 use Rattle.sim_channels.specs.Waiting.{NoneWaits}
 use Rattle.sim_channels.proofs.Keeping.{bears_on, elsewhere}
-use Rattle.sim_channels.proofs.Kept.{kept_session, with_inbound}
+use Rattle.sim_channels.proofs.Kept.{kept_session}
 use Rattle.sim_channels.proofs.Making.{had_memory}
 use Rattle.sim_channels.proofs.Others.{ahead, kept_ahead, others_ahead, tends_none, tends_of}
+use Rattle.sim_channels.proofs.Places.{EntersAndStages}
 use Rattle.sim_channels.proofs.Slots.{set_same}
 
 -- ---- the channel that is read
@@ -64,7 +65,7 @@ waits_by c (NewState state pruned) jobs w = tt
 waits_by c other jobs w = tt
 
 -- that takes no memory
-gone_enough : (c : ℕ) (fault : Bool) (old : State) (reply : Reply) (new : State) → Steps old (entries.Gone c fault) reply new → lacks_memory reply ≡ false
+pub gone_enough : (c : ℕ) (fault : Bool) (old : State) (reply : Reply) (new : State) → Steps old (entries.Gone c fault) reply new → lacks_memory reply ≡ false
 gone_enough c fault old reply new (inl (none, passes)) = ap lacks_memory passes.0
 gone_enough c fault old reply new (inr (s, found, r, e)) = ap lacks_memory r
 
@@ -95,7 +96,7 @@ module _ (laws : DrivingLaws) (old new : Driver) (at : ℕ) (k : Channel) (j : I
   channels_as stage is = channels ∙ ap (λ (i : Inbound). set old.channels.items at (with_inbound i k)) is
 
   module _ (h : Opens old.desk k.inbound new.desk j) where
-    pub opens_at : OpensAt at old new
+    pub opens_at : (reply : Reply) × EntersAndStages at (entries.Open (at + 1)) reply (stage_opened (is_end reply)) old new
     opens_at = (
       h.reply,
       record {
@@ -114,7 +115,7 @@ module _ (laws : DrivingLaws) (old new : Driver) (at : ℕ) (k : Channel) (j : I
         (λ e. absurd (never_unopened (is_end h.reply) e)) others
 
   module _ (fault : Bool) (h : Closes fault old.desk k.inbound new.desk j) where
-    pub closes_at : ClosesAt at fault old new
+    pub closes_at : (reply : Reply) × EntersAndStages at (entries.Gone (at + 1) fault) reply Over old new
     closes_at = (
       h.reply,
       record {
@@ -144,6 +145,16 @@ module _ (laws : DrivingLaws) (old new : Driver) (at : ℕ) (k : Channel) (j : I
         let jobs = tends_none laws old (ahead old entry h.reply new.desk kept enters) kept (tends_of old _ (others_ahead old entry h.reply new.desk kept enters)) none in
         subst (λ x. WaitsBy x new.desk.now.jobs) (sym h.heard_is)
         (waits_by k.inbound.connection h.reply new.desk.now.jobs (laws.jobs enters.between k.inbound.connection input h.reply new.desk.now jobs enters.made.steps))
+
+-- the same, as a channel was opened or closed
+
+pub opened_so : DrivingLaws → (old new : Driver) (at : ℕ) → IsKept old → IsSame old new → OpensAt at old new
+    → (reply : Reply) × EntersAndStages at (entries.Open (at + 1)) reply (stage_opened (is_end reply)) old new
+opened_so laws old new at kept same o = opens_at laws old new at o.connection o.behind kept o.there o.rest o.all same o.does
+
+pub closed_so : DrivingLaws → (old new : Driver) (at : ℕ) (fault : Bool) → IsKept old → IsSame old new → ClosesAt at fault old new
+    → (reply : Reply) × EntersAndStages at (entries.Gone (at + 1) fault) reply Over old new
+closed_so laws old new at fault kept same o = closes_at laws old new at o.connection o.behind kept o.there o.rest o.all same fault o.does.0
 
 -- ---- nothing was done
 

@@ -2,6 +2,8 @@
 use Rattle.std.proofs.Common.{◌≡◌, ℕ, ◌<◌, Bool, true, false, List, [], length, append-nil, refl, sym, ap, ◌∙◌, subst, inl, inr}
 use Rattle.std.specs.Prelude.{Option, None, Some, is_some}
 use Rattle.std.specs.List.{slice_get}
+use Rattle.sim_channels.specs.declared.channel.Channel.{Channel}
+use Rattle.desk_jobs.specs.Homes.{rest_of}
 use Rattle.device_port.specs.Devices.{Meaning}
 use Rattle.machine_steps.specs.Machine.{session_at}
 use Rattle.machine_steps.specs.Sound.{IsSound}
@@ -10,6 +12,7 @@ use Rattle.worker_crew.specs.Takers.{places}
 use Rattle.packet_workers.specs.declared.worked.Worked.{Worked}
 use Rattle.machine_desk.specs.Desks.{DeskView}
 use Rattle.machine_desk.specs.Working.{RoundsArePlain, RoundsClose, Works}
+use Rattle.machine_desk.specs.Hearing.{came_of}
 use Rattle.machine_desk.specs.declared.hearing.Heard.{Heard}
 use Rattle.machine_desk.specs.declared.hearing.Heard.TheVariants as heards
 use Rattle.desk_jobs.specs.Laws.{Meanwhile, NothingIsLeft, RoomStays, TendingIsAllowed}
@@ -22,8 +25,8 @@ use Rattle.desk_jobs.specs.declared.crew.Crew.{Crew}
 use Rattle.sim_channels.specs.declared.driver.Driver.{Driver}
 use Rattle.desk_jobs.specs.Crews.{BySights, IsCrewStill, SameCrew, sight}
 use Rattle.sim_channels.specs.Channels.{CarriedOver, IsKept, IsSame, Tends, WorksAlone, bench}
-use Rattle.sim_channels.specs.Driving.{DrivingLaws}
-use Rattle.sim_channels.specs.Passes.{Attends, AwaitsAll, Beside, HasHeard, HearsBy, MakesRoom, Passed, WaitsBy, came_of, is_state, rest_at, rest_in}
+use Rattle.desk_jobs.specs.Driving.{DrivingLaws}
+use Rattle.sim_channels.specs.Passes.{Attends, AwaitsAll, Beside, HasHeard, HearsBy, MakesRoom, Passed, WaitsBy, is_state, rest_at}
 use Rattle.sim_channels.proofs.Answering.{answers_by}
 use Rattle.sim_channels.proofs.Keeping.{reached_sound}
 use Rattle.sim_channels.proofs.Others.{alone_on, channel_stays, items_stay, same_desk, same_driver, same_then, tends_beside, tends_kept, tends_learning}
@@ -169,9 +172,9 @@ module _ (laws : DrivingLaws) (a b : Driver) (kept : IsKept a) (t : Tends a b) w
     -- what came is told of a message
     hears_ahead : (heard : Heard) → HearsBy (came_of heard) here b new → HearsBy (came_of heard) here a new
     hears_ahead heards.Ended h = h
-    hears_ahead heards.State h = subst (λ n. rest_at here new < n) (ap rest_in (stays here)) h
-    hears_ahead (heards.Packet item) h = subst (λ n. rest_at here new < n) (ap rest_in (stays here)) h
-    hears_ahead heards.Other h = subst (λ n. rest_at here new < n) (ap rest_in (stays here)) h
+    hears_ahead heards.State h = subst (λ n. rest_at here new < n) (ap (rest_of (λ (c : Channel). c.inbound)) (stays here)) h
+    hears_ahead (heards.Packet item) h = subst (λ n. rest_at here new < n) (ap (rest_of (λ (c : Channel). c.inbound)) (stays here)) h
+    hears_ahead heards.Other h = subst (λ n. rest_at here new < n) (ap (rest_of (λ (c : Channel). c.inbound)) (stays here)) h
 
     pub passed_ahead : (heard : Heard) → Passed here b new (came_of heard) → Passed here a new (came_of heard)
     passed_ahead heard p = (heard_ahead (is_state (came_of heard)) p.0, hears_ahead heard p.1)

@@ -8,7 +8,7 @@ use Rattle.std.proofs.lemmas.Option.{same_Some, slice_get_within}
 use Rattle.machine_desk.specs.Hearing.{is_live}
 use Rattle.sim_channels.specs.declared.channel.Channel.{Channel}
 use Rattle.sim_channels.specs.declared.driver.Driver.{Driver}
-use Rattle.sim_channels.proofs.Resting.{plugged_in}
+use Rattle.machine_desk.proofs.Opened.{live_is}
 use Rattle.sim_channels.specs.Turns.{Waits, waits_in}
 
 positive : (n : ℕ) → nat_lt 0 n ≡ true → 0 < n
@@ -21,7 +21,7 @@ pub waits_there : (driver : Driver) (at : ℕ) (k : Channel) → slice_get drive
 waits_there driver at k e waits = record {
   channel = k;
   there = e;
-  plugged = plugged_in k.inbound.stage (and_parts (is_live k.inbound.stage) (nat_lt 0 k.waiting) waits).0;
+  plugged = live_is k.inbound.stage (and_parts (is_live k.inbound.stage) (nat_lt 0 k.waiting) waits).0;
   some = positive k.waiting (and_parts (is_live k.inbound.stage) (nat_lt 0 k.waiting) waits).1;
 }
 

@@ -6,7 +6,7 @@ use Rattle.policy_lang.specs.declared.Policy.{Policy}
 use Rattle.of10_stream.specs.Steps.{beginning}
 use Rattle.device_port.specs.Devices.{Meaning}
 use Rattle.machine_desk.specs.Desks.{DeskView}
-use Rattle.machine_desk.specs.Hearing.{IsStaged}
+use Rattle.desk_jobs.specs.Connections.{AreStaged, Connections}
 use Rattle.desk_jobs.specs.Crews.{MayHave}
 use Rattle.desk_jobs.specs.Homes.{Home, IsAlone, IsSame as IsSameAt, IsTended}
 use Rattle.desk_jobs.specs.Laws.{Meanwhile}
@@ -20,7 +20,7 @@ use Rattle.sim_steps.specs.Benches.{Slot, Bench, is_plugged, opening_bench}
 use Rattle.sim_steps.specs.Deeds.{turn_by}
 use Rattle.sim_steps.specs.Stretches.{Carried}
 use Rattle.sim_channels.specs.declared.channel.Channel.{Channel}
-use Rattle.machine_desk.specs.declared.inbound.Stage.{Stage}
+use Rattle.machine_desk.specs.declared.inbound.Inbound.{Inbound}
 use Rattle.machine_desk.specs.declared.inbound.Stage.TheVariants.{Unopened}
 use Rattle.sim_channels.specs.declared.driver.Driver.{Driver}
 
@@ -37,9 +37,6 @@ slots_of (k ∷ ks) (d ∷ ds) = slot_by k d ∷ slots_of ks ds
 
 abbrev pub bench : Driver → List Meaning → Bench
 bench driver devices = record { past = driver.desk.past; machine = driver.desk.now; slots = slots_of driver.channels.items devices }
-
-abbrev pub with_stage : Stage → Channel → Channel
-with_stage stage k = record k { inbound = record k.inbound { stage = stage } }
 
 -- ---- what is kept
 
@@ -61,6 +58,21 @@ pub record IsFresh (k : Channel) : Type 0 where
 abbrev pub home : Home Driver
 home = record { desk = λ (d : Driver). d.desk; crew = λ (d : Driver). d.crew; moved = λ (d : Driver) desk crew. record d { desk = desk; crew = crew } }
 
+-- where it has its channels, each of the connection with the number of its place
+abbrev pub places : Connections Driver Channel
+places = record {
+  home = home;
+  all = λ (d : Driver). d.channels.items;
+  number = λ (at : ℕ) (k : Channel). at + 1;
+  inbound = λ (k : Channel). k.inbound;
+  moved = λ (old new : Driver). record old { desk = new.desk; channels = new.channels };
+  filled = λ (old new : Driver). record old { channels = new.channels };
+}
+
+-- a channel of which this came
+abbrev pub with_inbound : Inbound → Channel → Channel
+with_inbound i k = record k { inbound = i }
+
 -- nobody works beside the driver
 abbrev pub WorksAlone : Driver → Type 0
 WorksAlone driver = IsAlone home driver
@@ -81,7 +93,7 @@ pub record IsKept (driver : Driver) : Type 0 where
   pub reached : IsReached driver.desk.now
   pub numbers : length driver.channels.items < 2 ^ 32
   pub names : AreNumbered driver.channels.items
-  pub stages : (at : ℕ) (k : Channel) → slice_get driver.channels.items at ≡ Some k → IsStaged k.inbound driver.desk.now
+  pub stages : AreStaged places.inbound driver.channels.items driver.desk.now
   pub places_alone : (c : ℕ) → is_plugged c driver.desk.now ≡ true → (1 ≤ c) × (c ≤ length driver.channels.items)
   pub fresh : (at : ℕ) (k : Channel) → slice_get driver.channels.items at ≡ Some k → k.inbound.stage ≡ Unopened → IsFresh k
 
@@ -93,13 +105,7 @@ pub record Fits (driver : Driver) (devices : List Meaning) : Type 0 where
       (at : ℕ) (k : Channel) (d : Meaning)
       → slice_get driver.channels.items at ≡ Some k → slice_get devices at ≡ Some d → k.waiting ≡ length d.pending
 
--- the machine of a desk is ahead of its first entry
-pub record IsAtStart (desk : DeskView) : Type 0 where
-  pub none : desk.past ≡ []
-  pub opening : desk.now ≡ opening desk.now.policy desk.now.settings
-  pub ranges : AreInRange desk.now.settings
-
--- the bench of such a desk and these devices
+-- the bench of a desk ahead of its first entry, and these devices
 abbrev pub bench_at_start : DeskView → List Meaning → Bench
 bench_at_start desk devices = opening_bench desk.now.policy desk.now.settings devices
 

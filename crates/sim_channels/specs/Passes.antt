@@ -5,31 +5,27 @@ use Rattle.machine_steps.specs.declared.entry.Input.{Input}
 use Rattle.machine_steps.specs.declared.job.Job.{Job}
 use Rattle.machine_steps.specs.Steps.{item_of}
 use Rattle.machine_steps.specs.Waiting.{Waiting}
-use Rattle.machine_desk.specs.Hearing.{Comes, Hears}
-use Rattle.desk_jobs.specs.Homes.{Attends as AttendsAt, Beside as BesideAt, Follows as FollowsAt, MakesRoom as MakesRoomAt, MakesRoomFor as MakesRoomForAt, rest_of}
+use Rattle.machine_desk.specs.declared.hearing.Came.{Came}
+use Rattle.machine_desk.specs.declared.hearing.Came.TheVariants.{Nothing, Ended, State}
+use Rattle.machine_desk.specs.Hearing.{Comes, Hears, came_of}
+use Rattle.desk_jobs.specs.Connections.{Fills, Moves, rest_at as rest_at_index}
+use Rattle.desk_jobs.specs.Homes.{Attends as AttendsAt, Beside as BesideAt, Follows as FollowsAt, MakesRoom as MakesRoomAt, MakesRoomFor as MakesRoomForAt}
 use Rattle.desk_jobs.specs.Tending.{Done, Reaches, Sight}
 use Rattle.machine_desk.specs.declared.inbound.Inbound.{Inbound}
 use Rattle.machine_desk.specs.declared.hearing.Heard.{Heard}
 use Rattle.machine_desk.specs.declared.hearing.Heard.TheVariants as heard
 use Rattle.sim_channels.specs.Answering.{Answers}
-use Rattle.sim_channels.specs.Channels.{CarriedOver, IsKept, IsSame, Tends, WorksAlone, home}
+use Rattle.sim_channels.specs.Channels.{CarriedOver, IsKept, IsSame, Tends, WorksAlone, home, places, with_inbound}
 use Rattle.sim_channels.specs.Waiting.{IsHeard, IsOffered, NoneWaits, StaysBut}
 use Rattle.sim_channels.specs.declared.channel.Channel.{Channel}
 use Rattle.sim_channels.specs.declared.driver.Driver.{Driver}
 use Rattle.sim_channels.specs.Hearing.{KeepsChannels}
-use Rattle.sim_channels.specs.declared.hear.Came.{Came}
-use Rattle.sim_channels.specs.declared.hear.Came.TheVariants.{Nothing, Ended, Message, State}
 
 -- ---- the driver
 
 -- an input from a place was heard; its channel alone changes, and its session may end
-pub record HearsAt (here : ℕ) (input : Input) (heard : Heard) (old new : Driver) : Type 0 where
-  pub channel : Channel
-  pub there : slice_get old.channels.items here ≡ Some channel
-  pub behind : Inbound
-  pub hears : Hears input heard old.desk channel.inbound new.desk behind
-  pub rest : new ≡ record old { desk = new.desk; channels = new.channels }
-  pub channels : new.channels.items ≡ set old.channels.items here (record channel { inbound = behind })
+abbrev pub HearsAt : ℕ → Input → Heard → Driver → Driver → Type 0
+HearsAt here input heard old new = Moves places with_inbound here (Hears input heard) old new
 
 -- a packet that was heard waits, and no other
 abbrev pub WaitsBy : Heard → List Job → Type 0
@@ -62,22 +58,11 @@ MakesRoom old new = MakesRoomAt home old new
 abbrev pub MakesRoomFor : Input → Driver → Driver → Type 0
 MakesRoomFor input old new = MakesRoomForAt home input old new
 
--- what is told of an input
-abbrev pub came_of : Heard → Came
-came_of heard.State = State
-came_of heard.Ended = Ended
-came_of rest = Message
-
 -- ---- what comes next
 
 -- this came next from a place, or nothing did yet; of its channel the stream alone changes
-pub record ComesAt (here : ℕ) (found : Option Input) (old new : Driver) : Type 0 where
-  pub channel : Channel
-  pub there : slice_get old.channels.items here ≡ Some channel
-  pub behind : Inbound
-  pub comes : Comes found channel.inbound behind
-  pub rest : new ≡ record old { channels = new.channels }
-  pub channels : new.channels.items ≡ set old.channels.items here (record channel { inbound = behind })
+abbrev pub ComesAt : ℕ → Option Input → Driver → Driver → Type 0
+ComesAt here found old new = Fills places with_inbound here (Comes found) old new
 
 -- an input came next, room was made for the packet in it, it was heard, and then was done what is to be done about it: one behind the other, and nothing else
 pub record HearsInput (here : ℕ) (came : Came) (old new : Driver) : Type 0 where
@@ -115,11 +100,8 @@ pub record HasHeard (here : ℕ) (made : Bool) (old new : Driver) : Type 0 where
   pub learning : new.desk.now.policy.learning ≡ old.desk.now.policy.learning
 
 -- how many bytes are to be heard from a place yet
-abbrev pub rest_in : Option Channel → ℕ
-rest_in k = rest_of (λ (c : Channel). c.inbound) k
-
 abbrev pub rest_at : ℕ → Driver → ℕ
-rest_at here driver = rest_in (slice_get driver.channels.items here)
+rest_at here driver = rest_at_index places here driver
 
 -- by what came: no more is to be heard, also where nothing was, or fewer bytes than before
 abbrev pub HearsBy : Came → ℕ → Driver → Driver → Type 0

@@ -1,8 +1,7 @@
 -- Which devices have a message to deal with, and what a turn of one leaves of its channel.
 use Rattle.std.specs.Prelude.{◌≡◌, ℕ, ◌+◌, ◌<◌, Bool, nat_lt, ◌&&◌, List, set, Some}
 use Rattle.std.specs.List.{slice_get}
-use Rattle.of10_stream.specs.Steps.{fed}
-use Rattle.machine_desk.specs.Hearing.{IsSameSession, is_live}
+use Rattle.machine_desk.specs.Hearing.{Feeds, is_live}
 use Rattle.sim_channels.specs.declared.channel.Channel.{Channel}
 use Rattle.machine_desk.specs.declared.inbound.Stage.TheVariants.{Live}
 use Rattle.sim_channels.specs.declared.driver.Driver.{Driver}
@@ -36,7 +35,6 @@ pub record ChannelMoves (at : ℕ) (Moves : Channel → Channel → Type 0) (old
 
 -- these bytes came from the device, and one message less waits in it
 pub record Appends (bytes : List ℕ) (k l : Channel) : Type 0 where
-  pub session : IsSameSession k.inbound l.inbound
+  pub feeds : Feeds bytes k.inbound l.inbound
   pub to : l.to ≡ k.to
-  pub from : l.inbound.from.stream ≡ fed bytes k.inbound.from.stream
   pub waiting : k.waiting ≡ l.waiting + 1

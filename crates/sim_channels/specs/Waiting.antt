@@ -1,22 +1,22 @@
 -- What is left to do at a place, of those whose session is open: what the machine has for the device, what was taken out for it, what came from it.
 use Rattle.std.specs.Prelude.{◌≡◌, ◌⊎◌, ℕ, ◌+◌, [], Some}
 use Rattle.std.specs.List.{slice_get}
+use Rattle.desk_jobs.specs.Connections.{IsDone as IsDoneAt, IsTaken as IsTakenAt, OthersStay, WhileLive}
 pub use Rattle.desk_jobs.specs.Homes.{NoneWaits}
 use Rattle.machine_steps.specs.Machine.{session_at}
-use Rattle.world_steps.specs.Worlds.{messages_for}
 use Rattle.sim_steps.specs.Parts.{IsHeardOut}
 use Rattle.sim_channels.specs.declared.channel.Channel.{Channel}
-use Rattle.machine_desk.specs.declared.inbound.Stage.TheVariants.{Live, Over}
+use Rattle.machine_desk.specs.declared.inbound.Stage.TheVariants.{Over}
 use Rattle.sim_channels.specs.declared.driver.Driver.{Driver}
-use Rattle.sim_channels.specs.Channels.{WorksAlone}
+use Rattle.sim_channels.specs.Channels.{WorksAlone, places}
 
 -- it holds of the channel with this index, where its session is open
 abbrev pub WhilePlugged : (Channel → Type 0) → ℕ → Driver → Type 0
-WhilePlugged P at driver = (k : Channel) → slice_get driver.channels.items at ≡ Some k → k.inbound.stage ≡ Live → P k
+WhilePlugged P at driver = WhileLive places P at driver
 
 -- all that the machine has for the device was taken out
 abbrev pub IsTaken : ℕ → Driver → Type 0
-IsTaken at driver = WhilePlugged (λ k. messages_for (at + 1) driver.desk.now ≡ []) at driver
+IsTaken at driver = IsTakenAt places at driver
 
 -- all that was taken out was offered
 abbrev pub IsOffered : ℕ → Driver → Type 0
@@ -33,9 +33,8 @@ IsLeft at driver = (k : Channel) → slice_get driver.channels.items at ≡ Some
 -- ---- the machine
 
 -- no packet waits, and all was taken out
-pub record IsDone (driver : Driver) : Type 0 where
-  pub jobs : NoneWaits driver.desk
-  pub taken : (at : ℕ) → IsTaken at driver
+abbrev pub IsDone : Driver → Type 0
+IsDone driver = IsDoneAt places driver
 
 -- nobody changes the machine but the driver: there is nobody, or no packet waits that somebody could answer
 abbrev pub IsQuiet : Driver → Type 0
@@ -64,4 +63,4 @@ pub record IsAtRestBut (here : ℕ) (driver : Driver) : Type 0 where
 -- all other places are as they were; the machine's part of that where this holds
 pub record StaysBut (Where : Type 0) (here : ℕ) (old new : Driver) : Type 0 where
   pub sessions : Where → (c : ℕ) → (c ≡ here + 1 → ⊥) → session_at c new.desk.now ≡ session_at c old.desk.now
-  pub channels : (at : ℕ) → (at ≡ here → ⊥) → slice_get new.channels.items at ≡ slice_get old.channels.items at
+  pub channels : OthersStay places here old new

@@ -9,10 +9,10 @@ ghost use Rattle.sim_channels.specs.Looking.{IsAnswered, LooksUpBy, is_failed, i
 ghost use Rattle.sim_channels.specs.Staging.{HasStage};
 ghost use Rattle.sim_channels.specs.Waiting.{IsAtRest};
 
-use crate::laws::driving_laws;
 use crate::outbox::connection_of;
 use crate::{Channel, Driver, Stopped};
 use core_machine::Note;
+use desk_jobs::driving_laws;
 use device_port::Device;
 use maple_base::{Bytes, NoMemory, Seen};
 use std::alloc::Global;

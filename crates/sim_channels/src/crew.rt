@@ -4,10 +4,9 @@ ghost use Rattle.machine_desk.specs.declared.hearing.Heard.TheVariants.{Packet};
 ghost use Rattle.sim_channels.specs.Channels.{IsKept, IsSame, WorksAlone};
 ghost use Rattle.sim_channels.specs.Passes.{Attends, AwaitsAll, MakesRoom, WaitsBy};
 
-use crate::laws::driving_laws;
 use crate::{Driver, Stopped};
 use core_machine::JobItem;
-use desk_jobs::{Handed, answered, tending_laws};
+use desk_jobs::{Handed, answered, driving_laws, tending_laws};
 use machine_desk::working_laws;
 use packet_workers::Gate;
 use std::sync::Wait;

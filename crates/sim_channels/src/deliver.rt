@@ -7,8 +7,8 @@ ghost use Rattle.sim_channels.specs.Delivering.{Delivers};
 ghost use Rattle.sim_channels.specs.Staging.{HasStage};
 ghost use Rattle.sim_channels.specs.Waiting.{IsAtRest, IsDone, IsHeard, IsHeardThrough, IsOffered, IsQuiet, IsTaken, NoneWaits, StaysBut};
 
-use crate::laws::driving_laws;
 use crate::{Driver, Stopped};
+use desk_jobs::driving_laws;
 use device_port::Device;
 use machine_desk::Stage;
 use packet_workers::Gate;

@@ -4,7 +4,9 @@ ghost use Rattle.std.specs.List.{AllByRecursion};
 ghost use Rattle.sim_steps.specs.Showing.{AllIdle};
 ghost use Rattle.world_steps.specs.Worlds.{messages_for};
 ghost use Rattle.desk_jobs.specs.Crews.{MayHave};
-ghost use Rattle.sim_channels.specs.Channels.{AreNumbered, Fits, IsAtStart, bench, bench_at_start};
+ghost use Rattle.machine_desk.specs.Openings.{IsAtStart};
+ghost use Rattle.machine_steps.specs.Sound.{AreInRange};
+ghost use Rattle.sim_channels.specs.Channels.{AreNumbered, Fits, bench, bench_at_start};
 ghost use Rattle.sim_channels.specs.Delivering.{IsUnused};
 ghost use Rattle.sim_channels.specs.Waiting.{IsAtRest};
 
@@ -42,6 +44,7 @@ impl<'h> Driver<'h> {
         devices: &[D],
     ) -> Result<Driver<'h>, (Desk<'h>, Option<Crew<'h>>)>
         requires start { IsAtStart desk }
+        requires ranges { AreInRange desk.now.settings }
         requires crew { MayHave crew desk.footing.parts desk.now }
         requires idle { AllIdle (map D.meaning devices.now) }
         ensures desk { IfOk result (λ driver. driver.desk ≡ desk.entry) }

@@ -1,30 +1,16 @@
 // What a device appended is heard.
-ghost use Rattle.std.specs.Prelude.{◌≡◌, ◌<◌, length, OnOk, IfOk, IfSome};
+ghost use Rattle.std.specs.Prelude.{◌<◌, length, OnOk, IfOk, IfSome};
 ghost use Rattle.machine_steps.specs.Admitting.{IsHeard};
 ghost use Rattle.sim_channels.specs.Channels.{IsKept, IsSame, WorksAlone};
 ghost use Rattle.sim_channels.specs.Waiting.{IsOffered, NoneWaits};
-ghost use Rattle.sim_channels.specs.Passes.{ComesAt, Follows, HearsAt, HearsNext, MakesRoomFor, Passed, WaitsBy, came_of};
+ghost use Rattle.sim_channels.specs.Passes.{ComesAt, Follows, HearsAt, HearsNext, MakesRoomFor, Passed, WaitsBy};
 
-use crate::laws::driving_laws;
 use crate::{Driver, Stopped};
 use core_machine::Input;
-use desk_jobs::is_packet;
-use machine_desk::Heard;
+use desk_jobs::{driving_laws, is_packet};
+use machine_desk::{Came, Heard};
 use packet_workers::Gate;
 use std::sync::Wait;
-
-/// What came from a device.
-#[derive(Clone, Copy)]
-pub enum Came {
-    /// Nothing that could be heard.
-    Nothing,
-    /// What ended the session.
-    Ended,
-    /// A message, and the machine told of no new state.
-    Message,
-    /// A message that made a state, as the machine told.
-    State,
-}
 
 impl<'h> Driver<'h> {
     /// What came next from the device with this index is heard, and the packet in it answered, or handed over to who works
@@ -53,7 +39,7 @@ impl<'h> Driver<'h> {
         };
         self.make_room_for(rt, gate, &input)?;
         let heard = self.hear(rt, at, input)?;
-        let came = came_of(&heard);
+        let came = Came::of(&heard);
         self.follow(rt, gate, heard)?;
         Ok(came)
     }
@@ -113,16 +99,5 @@ impl<'h> Driver<'h> {
             Heard::Packet(item) => self.attend(rt, gate, item),
             Heard::Ended | Heard::State | Heard::Other => Ok(()),
         }
-    }
-}
-
-// What came, by what the machine made of it.
-fn came_of(heard: &Heard) -> Came
-    ensures { result ≡ came_of heard.now }
-{
-    match heard {
-        Heard::Ended => Came::Ended,
-        Heard::State => Came::State,
-        Heard::Packet(_) | Heard::Other => Came::Message,
     }
 }

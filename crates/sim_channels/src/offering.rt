@@ -7,10 +7,10 @@ ghost use Rattle.machine_desk.specs.declared.inbound.Stage.TheVariants.{Live};
 ghost use Rattle.sim_channels.specs.Delivering.{CanOffer, GoesOn, OffersAt, OffersFirst, offers_left};
 ghost use Rattle.sim_channels.specs.Staging.{HasStage};
 
-use crate::laws::driving_laws;
 use crate::outbox::connection_of;
 use crate::{Channel, Driver, Stopped};
 use core_machine::Note;
+use desk_jobs::driving_laws;
 use device_port::{Device, Took};
 use maple_base::NoMemory;
 use std::sync::Wait;

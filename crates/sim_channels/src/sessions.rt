@@ -9,7 +9,7 @@ ghost use Rattle.sim_channels.specs.Delivering.{Leaves};
 ghost use Rattle.sim_channels.specs.Staging.{ClosesAt, HasStage, OpensAt};
 
 use crate::Driver;
-use crate::laws::driving_laws;
+use desk_jobs::driving_laws;
 use machine_desk::{DeskStop, Worn};
 use std::sync::Wait;
 

@@ -6,10 +6,10 @@ ghost use Rattle.sim_channels.specs.Delivering.{TakesMessages, TakesOut};
 ghost use Rattle.sim_channels.specs.Staging.{HasStage};
 ghost use Rattle.sim_channels.specs.Waiting.{IsOffered};
 
-use crate::laws::driving_laws;
 use crate::outbox::{connection_of, messages_ahead};
 use crate::{Driver, Stopped};
 use core_machine::{Entry, Reply};
+use desk_jobs::driving_laws;
 use machine_desk::{Desk, DeskStop};
 use maple_base::Bytes;
 use message_blocks::{Block, Messages};

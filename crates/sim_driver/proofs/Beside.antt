@@ -1,8 +1,9 @@
 -- Workers' passes are joined into the driver's: how a run ends that was beside them.
 use Rattle.std.proofs.Common.{◌≡◌, ℕ, ◌^◌, ◌≤◌, Bool, true, false, List, [], ◌∷◌, ◌++◌, append-nil, append_assoc, length, refl, sym, ap, ◌∙◌, subst, inl, inr}
 use Rattle.std.proofs.Common.{arith}
-use Rattle.std.specs.Prelude.{◌≢◌, Option, Some, None, Ok, Err, is_some}
-use Rattle.maple_io.specs.Views.{NoWriteFailed, SinkView, WriteFailed}
+use Rattle.std.specs.Prelude.{Option, Some, None, Ok, Err, is_some}
+use Rattle.desk_jobs.specs.Runs.{IsFaultOf}
+use Rattle.maple_io.specs.Views.{NoWriteFailed, SinkView}
 use Rattle.report_text.specs.declared.line.ScriptRefusal.{ScriptRefusal}
 use Rattle.device_port.specs.Devices.{Meaning}
 use Rattle.history_lock.specs.Histories.{AreAllowed, AreAllPositions, HasSeenLegal, IsAllowedSince, Replays, state_behind}
@@ -47,17 +48,16 @@ use Rattle.sim_driver.proofs.Parting.{Stands, part_longer}
 pub record Told (end : SimEnd) (refused : Option (ℕ × ScriptRefusal)) (old new : SinkView) : Type 0 where
   pub done : end ≡ ends.Done → refused ≡ None
   pub script : IsAtRefused end refused
-  pub fault : end ≡ ends.WriteFault → WriteFailed old new
-  pub spared : end ≢ ends.WriteFault → NoWriteFailed old new
+  pub writes : IsFaultOf (end ≡ ends.WriteFault) old new
 
 module _ (refused : Option (ℕ × ScriptRefusal)) (old new : SinkView) where
   spared_whole : (end : SimEnd) → is_whole end ≡ true → Told end refused old new → NoWriteFailed old new
-  spared_whole ends.Done whole told = told.spared (λ e. absurd (cc))
-  spared_whole (ends.Script line kind) whole told = told.spared (λ e. absurd (cc))
+  spared_whole ends.Done whole told = told.writes.spared (λ e. absurd (cc))
+  spared_whole (ends.Script line kind) whole told = told.writes.spared (λ e. absurd (cc))
   spared_whole end whole told = absurd (cc)
 
   told_short : NoWriteFailed old new → Told ends.NoMemory refused old new
-  told_short spared = record { done = λ e. absurd (cc); script = tt; fault = λ e. absurd (cc); spared = λ n. spared }
+  told_short spared = record { done = λ e. absurd (cc); script = tt; writes = record { fault = λ e. absurd (cc); spared = λ n. spared } }
 
   pub told_memory : (end : SimEnd) (had : Bool) → Told end refused old new → Told (with_memory end had) refused old new
   told_memory ends.Done true told = told
@@ -95,8 +95,7 @@ with_memory_drove end had g refused desk after old new (text, e, wrote) told mem
       memory = λ whole. memory (had_so end had whole);
       done = is.done;
       script = is.script;
-      fault = is.fault;
-      spared = is.spared;
+      writes = is.writes;
     }
   where
     ends_so : (end : SimEnd) (had : Bool) → EndsWith end g after desk.number desk.past text → EndsWith (with_memory end had) g after desk.number desk.past text
@@ -231,12 +230,15 @@ module _ (calls : CallsAreTurns) (nothing : NothingChanges) (stays : MostStays) 
     -- where no packet waits the machine stays
     module _ (still : IsStill last) where
       same : m ≡ last.machine
-      same = nothing seen rest last.machine m still.jobs from_there allowed
+      same = nothing seen rest last.machine m still.machine.jobs from_there allowed
 
       still_on : IsStill next
       still_on = record {
-        jobs = ap (λ (s : State). s.jobs) same ∙ still.jobs;
-        taken = λ c h. ap (messages_for c) same ∙ still.taken c (sym (plugged_stays c) ∙ h);
+        machine =
+            record {
+              jobs = ap (λ (s : State). s.jobs) same ∙ still.machine.jobs;
+              taken = λ c h. ap (messages_for c) same ∙ still.machine.taken c (sym (plugged_stays c) ∙ h);
+            };
         calm = calm_on still.calm;
       }
 

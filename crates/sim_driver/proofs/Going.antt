@@ -59,7 +59,7 @@ pub record Went (g : Given) (places : ℕ) (old now : SinkView) (driver : Driver
 -- ---- ahead of the script
 
 opened_stands : (g : Given) → Stands (opened g)
-opened_stands g = (calm, (λ solo. record { jobs = refl; taken = λ c h. absurd (cc); calm = calm }))
+opened_stands g = (calm, (λ solo. record { machine = record { jobs = refl; taken = λ c h. absurd (cc) }; calm = calm }))
   where
     calm : IsCalm (opened g)
     calm = record { offered = λ c s h. absurd (let e = h.plugged in cc); heard = λ c s h. absurd (let e = h.plugged in cc) }

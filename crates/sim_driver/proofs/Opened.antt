@@ -22,6 +22,5 @@ never_drove g known refused desk after to none = record {
   memory = λ whole. absurd (cc);
   done = λ e. absurd (cc);
   script = tt;
-  fault = λ e. absurd (cc);
-  spared = λ n. refl;
+  writes = record { fault = λ e. absurd (cc); spared = λ n. refl };
 }

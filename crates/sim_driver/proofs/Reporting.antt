@@ -26,7 +26,7 @@ use Rattle.sim_steps.proofs.Joining.{report_then}
 use Rattle.desk_jobs.specs.declared.crew.Crew.{Crew}
 use Rattle.sim_channels.specs.declared.driver.Driver.{Driver}
 use Rattle.sim_channels.specs.Channels.{EntersNext, Fits, IsKept, WorksAlone, bench}
-use Rattle.sim_channels.specs.Driving.{DrivingLaws}
+use Rattle.desk_jobs.specs.Driving.{DrivingLaws}
 use Rattle.sim_channels.specs.Resting.{RestingLaws}
 use Rattle.sim_channels.specs.Waiting.{IsAtRest, IsDone}
 use Rattle.sim_channels.proofs.Others.{ahead, enters_next, others_ahead}

@@ -17,17 +17,18 @@ use Rattle.machine_desk.specs.declared.inbound.Stage.{Stage}
 use Rattle.machine_desk.specs.declared.inbound.Stage.TheVariants.{Over, Live, Unopened}
 use Rattle.sim_channels.specs.declared.channel.Channel.{Channel}
 use Rattle.sim_channels.specs.declared.driver.Driver.{Driver}
-use Rattle.sim_channels.specs.Channels.{Fits, IsKept, IsSame, OthersDid, bench, slots_of, with_stage}
-use Rattle.sim_channels.specs.Driving.{DrivingLaws}
+use Rattle.sim_channels.specs.Channels.{Fits, IsKept, IsSame, OthersDid, bench, slots_of}
+use Rattle.desk_jobs.specs.Driving.{DrivingLaws}
 use Rattle.sim_channels.specs.Resting.{DoesAt, RestingLaws}
-use Rattle.sim_channels.specs.Staging.{ClosesAt, EntersAndStages, HasStage, OpensAt}
+use Rattle.sim_channels.specs.Staging.{ClosesAt, HasStage, OpensAt}
 use Rattle.sim_channels.specs.Waiting.{IsAtRest, IsDone, IsLeft}
 use Rattle.sim_channels.proofs.Keeping.{elsewhere, session_same}
 use Rattle.sim_channels.proofs.Kept.{ChannelAt, is_as_long, is_beside, now_there, plugged_at, waits_as}
 use Rattle.sim_channels.proofs.Making.{may_make}
 use Rattle.sim_channels.proofs.Others.{ahead, kept_ahead, others_ahead, others_quiet, tends_none, tends_of}
-use Rattle.sim_channels.proofs.Places.{staged_slots, there_too}
+use Rattle.sim_channels.proofs.Places.{EntersAndStages, staged_slots, there_too, with_stage}
 use Rattle.sim_channels.proofs.Slots.{slot_next, slots_get}
+use Rattle.sim_channels.proofs.Staged.{closed_so, opened_so}
 use Rattle.sim_driver.specs.Commands.{AsksFor, IsChanged}
 use Rattle.sim_driver.proofs.Asking.{asks_for}
 use Rattle.sim_driver.proofs.Doing.{begun_at}
@@ -91,30 +92,36 @@ module _ (laws : DrivingLaws) (resting : RestingLaws) (d e : Driver) (at : ℕ) 
       asks_for laws resting d entry reply e.desk kept h.enters e (staged_slots at entry reply stage d e h) rest asked settled h.memory may
 
 module _ (laws : DrivingLaws) (resting : RestingLaws) (d e : Driver) (at : ℕ) (kept : IsKept d) (also : IsKept e) (same : IsSame d e) where
-  module _ (h : OpensAt at d e) where
+  module _ (opens : OpensAt at d e) where
+    opened_as : (reply : Reply) × EntersAndStages at (entries.Open (at + 1)) reply (stage_opened (is_end reply)) d e
+    opened_as = opened_so laws d e at kept same opens
+
     abbrev stage_now : Stage
-    stage_now = stage_opened (is_end h.0)
+    stage_now = stage_opened (is_end opened_as.0)
 
     pub opened : IsChanged at d e
-    opened = changed laws resting d e at kept also same (entries.Open (at + 1)) h.0 stage_now h.1 refl refl (elsewhere at)
+    opened = changed laws resting d e at kept also same (entries.Open (at + 1)) opened_as.0 stage_now opened_as.1 refl refl (elsewhere at)
 
     pub asked_opened : HasStage at Unopened d → IsAtRest d → AsksFor (entries.Open (at + 1)) d e
     asked_opened un rest =
-        asked_staged laws resting d e at kept also same (entries.Open (at + 1)) h.0 stage_now h.1 rest refl (λ is. absurd (cc)) (may_open d at un)
+        asked_staged laws resting d e at kept also same (entries.Open (at + 1)) opened_as.0 stage_now opened_as.1 rest refl (λ is. absurd (cc)) (may_open d at un)
 
-  module _ (fault : Bool) (h : ClosesAt at fault d e) where
+  module _ (fault : Bool) (closes : ClosesAt at fault d e) where
+    closed_as : (reply : Reply) × EntersAndStages at (entries.Gone (at + 1) fault) reply Over d e
+    closed_as = closed_so laws d e at fault kept same closes
+
     pub closed : IsChanged at d e
-    closed = changed laws resting d e at kept also same (entries.Gone (at + 1) fault) h.0 Over h.1 refl refl (elsewhere at)
+    closed = changed laws resting d e at kept also same (entries.Gone (at + 1) fault) closed_as.0 Over closed_as.1 refl refl (elsewhere at)
 
     pub asked_closed : asks (entries.Gone (at + 1) fault) ≡ true → HasStage at Live d → IsAtRest d → AsksFor (entries.Gone (at + 1) fault) d e
     asked_closed can live rest =
-        asked_staged laws resting d e at kept also same (entries.Gone (at + 1) fault) h.0 Over h.1 rest can (λ is. absurd (cc)) (may_close d at fault live)
+        asked_staged laws resting d e at kept also same (entries.Gone (at + 1) fault) closed_as.0 Over closed_as.1 rest can (λ is. absurd (cc)) (may_close d at fault live)
 
     -- the device is left
     pub rest_left : IsAtRest d → IsAtRest e
     rest_left rest =
         let change = closed in
-        let none = resting.left at e (left laws resting d e at kept also same (entries.Gone (at + 1) fault) h.0 Over h.1 refl) in
+        let none = resting.left at e (left laws resting d e at kept also same (entries.Gone (at + 1) fault) closed_as.0 Over closed_as.1 refl) in
         let does : DoesAt at d e = record {
           kept = also;
           same = same;

@@ -14,7 +14,7 @@ use Rattle.sim_steps.proofs.Moments.{report_taken}
 use Rattle.sim_channels.specs.declared.channel.Channel.{Channel}
 use Rattle.sim_channels.specs.declared.driver.Driver.{Driver}
 use Rattle.sim_channels.specs.Channels.{Fits, bench, slots_of}
-use Rattle.sim_channels.specs.Driving.{DrivingLaws}
+use Rattle.desk_jobs.specs.Driving.{DrivingLaws}
 use Rattle.sim_channels.specs.Resting.{RestingLaws}
 use Rattle.sim_channels.specs.Waiting.{IsAtRest, IsDone}
 use Rattle.sim_channels.proofs.Keeping.{reached_on}
@@ -57,7 +57,7 @@ module _ (d : Driver) (to : DeskView) where
       → Stretch [] (waiting d) (bench d ds) (bench behind ds)
   taking_on ds past =
       report_taken (waiting d) (bench d ds) (bench behind ds)
-      (record { may = tt; admitted = tt; steps = inl (refl, refl); smooth = tt; slots = refl; past = past })
+      (record { may = tt; admitted = tt; steps = inl (refl, refl); smooth = refl; slots = refl; past = past })
 
 module _ (laws : DrivingLaws) (d next : Driver) (h : TakesReport d next) where
   now_is : next.desk.now ≡ cleared h.ahead.desk.now

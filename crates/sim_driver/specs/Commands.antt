@@ -1,19 +1,15 @@
 -- What is done of an order, ahead of what that brings about.
-use Rattle.std.specs.Prelude.{◌≡◌, ◌⊎◌, ℕ, List, [], ◌∷◌}
+use Rattle.std.specs.Prelude.{◌≡◌, ℕ, List, [], ◌∷◌}
 use Rattle.maple_base.specs.declared.device.Seen.{Seen}
 use Rattle.device_port.specs.Devices.{Meaning}
 use Rattle.device_port.specs.Devices.Call.{Looking}
 use Rattle.machine_steps.specs.declared.entry.Entry.{Entry}
-use Rattle.machine_steps.specs.declared.entry.Entry.TheVariants as entries
-use Rattle.machine_steps.specs.declared.note.Note.TheVariants as notes
-use Rattle.policy_lang.specs.declared.Policy.{Policy}
-use Rattle.policy_text.specs.declared.reading.ReadError.TheVariants.{Refused}
-use Rattle.policy_text.specs.Texts.{IsRefused, IsTextOf}
 use Rattle.machine_steps.specs.declared.reply.Reply.{Reply}
 use Rattle.script_text.specs.Orders.{Order}
 use Rattle.sim_steps.specs.Benches.{Bench}
 use Rattle.sim_steps.specs.Deeds.{Event}
 use Rattle.sim_steps.specs.Deeds.Deed.{Calls}
+use Rattle.sim_steps.specs.Parts.{RenewsBy}
 use Rattle.sim_steps.specs.Stretches.{Obeyed, Stretch}
 use Rattle.sim_channels.specs.Channels.{Fits, IsKept, IsSame, bench}
 use Rattle.sim_channels.specs.declared.driver.Driver.{Driver}
@@ -35,9 +31,7 @@ AsksFor entry old new = (devices : List Meaning) → Fits old devices → (reply
 
 -- another policy alone was asked for, or to tell why a text is of none
 abbrev pub AsksToRenew : List ℕ → Driver → Driver → Type 0
-AsksToRenew text old new =
-    ((policy : Policy) × IsTextOf policy text × AsksFor (entries.NewPolicy policy) old new)
-    ⊎ ((line column kind : ℕ) × IsRefused text (Refused line column kind) × AsksFor (entries.Note (notes.PolicyRefused line column kind)) old new)
+AsksToRenew text old new = RenewsBy text (λ (entry : Entry). AsksFor entry old new)
 
 -- a driver over devices obeyed an order, and these stand behind it
 abbrev pub ObeyedBy : Order → Driver → List Meaning → Driver → List Meaning → Type 0

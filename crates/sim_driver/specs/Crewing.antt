@@ -4,15 +4,18 @@ use Rattle.device_port.specs.Devices.{Meaning}
 use Rattle.maple_io.specs.Views.{SinkView}
 use Rattle.machine_desk.specs.declared.opening.Opening.{Opening}
 use Rattle.packet_workers.specs.Adding.{PassView}
-use Rattle.sim_steps.specs.Benches.{IsSolo}
+use Rattle.machine_desk.specs.Openings.{IsOpeningBeside}
+use Rattle.machine_steps.specs.Sound.{AreInRange}
+use Rattle.sim_steps.specs.Showing.{AllIdle}
 use Rattle.sim_driver.specs.declared.drive.SimEnd.{SimEnd}
-use Rattle.sim_driver.specs.Passes.{DroveBy, IsOpening, given_over}
+use Rattle.sim_driver.specs.Passes.{DroveBy, given_over}
 use Rattle.sim_driver.specs.Runs.{refused_line}
 
 -- the pass is of a hall that was just opened with these, whose settings have workers
 pub record IsBegun (o : Opening) (devices : List Meaning) (script : List ℕ) (first : ℕ) (k : PassView) : Type 0 where
-  pub opened : IsOpening k o devices
-  pub beside : IsSolo o.start.value → ⊥
+  pub opening : IsOpeningBeside k o
+  pub ranges : AreInRange o.start.value.settings
+  pub idle : AllIdle devices
   pub numbers : first + length script < 2 ^ 32
 
 -- it didn't run yet

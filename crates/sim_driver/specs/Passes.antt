@@ -1,6 +1,6 @@
 -- One order is followed, and the report is taken and written behind it.
-use Rattle.std.specs.Prelude.{◌≡◌, ◌≢◌, ◌⊎◌, ℕ, Bool, true, false, List, [], Option, None, Result, Ok, Err}
-use Rattle.maple_io.specs.Views.{NoWriteFailed, SinkView, WriteFailed, Wrote}
+use Rattle.std.specs.Prelude.{◌≡◌, ◌⊎◌, ℕ, Bool, true, false, List, [], Option, None, Result, Ok, Err}
+use Rattle.maple_io.specs.Views.{SinkView, Wrote}
 use Rattle.report_text.specs.declared.line.ScriptRefusal.{ScriptRefusal}
 use Rattle.device_port.specs.Devices.{Meaning}
 use Rattle.machine_steps.specs.Histories.{Turn}
@@ -18,9 +18,10 @@ use Rattle.sim_steps.specs.Showing.{AllIdle}
 use Rattle.sim_steps.specs.Stretches.{Carried}
 use Rattle.sim_laws.specs.Laws.{AgreeLaw, HistoryLaw, PastLaw, ReportLaw, WorldLaw}
 use Rattle.sim_channels.specs.declared.driver.Driver.{Driver}
-use Rattle.sim_channels.specs.Channels.{EntersNext, Fits, IsAtStart, OthersDid, bench}
+use Rattle.sim_channels.specs.Channels.{EntersNext, Fits, OthersDid, bench}
 use Rattle.sim_channels.specs.Waiting.{IsAtRest, IsDone}
-use Rattle.desk_jobs.specs.Crews.{EndsOf, joined as joined_by, with_memory as memory_by}
+use Rattle.desk_jobs.specs.Crews.{EndsOf, joined as joined_by, unwritten, with_memory as memory_by}
+use Rattle.desk_jobs.specs.Runs.{AtDesk, ByPass, IsFaultOf}
 use Rattle.machine_desk.specs.declared.report.ReportStop.{ReportStop}
 use Rattle.machine_desk.specs.declared.report.ReportStop.TheVariants.{Failed, NoMemory, Worn}
 use Rattle.machine_desk.specs.Desks.{DeskView, HadMemory, calls_of}
@@ -29,9 +30,8 @@ use Rattle.machine_steps.specs.declared.reply.Reply.TheVariants.{Lines}
 use Rattle.maple_io.specs.Fronts.{IsFront}
 use Rattle.packet_workers.specs.Adding.{PassView}
 use Rattle.machine_desk.specs.declared.opening.Opening.{Opening}
-use Rattle.machine_desk.specs.Openings.{IsAhead, IsMachineOf}
+use Rattle.machine_desk.specs.Openings.{IsOpenedAt, IsOpening}
 use Rattle.machine_steps.specs.Machine.{State}
-use Rattle.machine_sharing.specs.Legal.{turns_of}
 use Rattle.sim_driver.specs.declared.drive.SimEnd.{SimEnd}
 use Rattle.sim_driver.specs.declared.drive.SimEnd.TheVariants as ends
 use Rattle.sim_driver.specs.declared.drive.SimEnd.TheVariants.{Done, WriteFault}
@@ -78,15 +78,14 @@ pub record IsOpened (driver : Driver) (devices : List Meaning) : Type 0 where
   pub idle : AllIdle devices
 
 -- so it is at the desk, and the devices have nothing to do
-pub record IsOpenedAt (desk : DeskView) (devices : List Meaning) : Type 0 where
-  pub start : IsAtStart desk
-  pub footing : desk.footing.start ≡ desk.now
+pub record IsOpenedOver (desk : DeskView) (devices : List Meaning) : Type 0 where
+  pub opened : IsOpenedAt desk
+  pub ranges : AreInRange desk.now.settings
   pub idle : AllIdle devices
 
 -- so it is of a hall that was just opened
-pub record IsOpening (k : PassView) (o : Opening) (devices : List Meaning) : Type 0 where
-  pub ahead : IsAhead k o
-  pub machine : IsMachineOf o.start.value.policy o.start.value.settings o
+pub record IsOpeningOver (k : PassView) (o : Opening) (devices : List Meaning) : Type 0 where
+  pub opened : IsOpening k o
   pub ranges : AreInRange o.start.value.settings
   pub idle : AllIdle devices
 
@@ -114,20 +113,21 @@ pub record Drove (end : SimEnd) (g : Given) (refused : Option (ℕ × ScriptRefu
   pub memory : is_whole end ≡ true → HadMemory (calls_of history) own
   pub done : end ≡ Done → refused ≡ None
   pub script : IsAtRefused end refused
-  pub fault : end ≡ WriteFault → WriteFailed old new
-  pub spared : end ≢ WriteFault → NoWriteFailed old new
+  pub writes : IsFaultOf (end ≡ WriteFault) old new
 
 -- by what the desk knows
 abbrev pub DroveAt : SimEnd → Given → Option (ℕ × ScriptRefusal) → DeskView → List Meaning → SinkView → SinkView → Type 0
-DroveAt end g refused desk after old new = Drove end g refused after desk.number desk.past desk.own old new
+DroveAt end g refused desk after old new =
+    AtDesk (λ (number : ℕ) (history : List Turn) (own : List ℕ). Drove end g refused after number history own old new) desk
 
 -- by what its pass has seen of the hall
 abbrev pub DroveBy : SimEnd → Given → Option (ℕ × ScriptRefusal) → State → List Meaning → PassView → SinkView → SinkView → Type 0
-DroveBy end g refused start after k old new = Drove end g refused after k.number (turns_of start k.seen) k.own old new
+DroveBy end g refused start after k old new =
+    ByPass (λ (number : ℕ) (history : List Turn) (own : List ℕ). Drove end g refused after number history own old new) start k
 
 -- how a run may end, for who gave up
 abbrev pub sim_ends : EndsOf SimEnd
-sim_ends = record { no_memory = ends.NoMemory; worn = ends.Worn; is_whole = is_whole }
+sim_ends = record { write_fault = ends.WriteFault; no_memory = ends.NoMemory; worn = ends.Worn; is_whole = is_whole }
 
 -- how a run ends whose workers ended so: where the script came to its end, as the first of them that gave up
 abbrev pub joined : SimEnd → Worked → SimEnd
@@ -137,10 +137,9 @@ joined end outcome = joined_by sim_ends end outcome
 abbrev pub with_memory : SimEnd → Bool → SimEnd
 with_memory end had = memory_by sim_ends end had
 
+-- by why the report wasn't written
 abbrev pub end_of : ReportStop → SimEnd
-end_of Failed = ends.WriteFault
-end_of NoMemory = ends.NoMemory
-end_of Worn = ends.Worn
+end_of stop = unwritten sim_ends stop
 
 -- ---- one order
 

@@ -2,7 +2,7 @@
 use Rattle.std.specs.Prelude.{◌≡◌, ◌⊎◌, ℕ, Bool, true, false, map, List, [], ◌∷◌, ◌++◌, Option, Some, None, length}
 use Rattle.std.specs.declared.vec.Vec.{Vec}
 use Rattle.maple_base.specs.declared.decision.Settings.{Settings}
-use Rattle.maple_io.specs.Views.{SinkView, Wrote}
+use Rattle.maple_io.specs.Views.{SinkView}
 use Rattle.policy_lang.specs.declared.Policy.{Policy}
 use Rattle.report_text.specs.declared.line.ScriptRefusal.{ScriptRefusal}
 use Rattle.device_port.specs.Devices.{Meaning}
@@ -16,7 +16,7 @@ use Rattle.sim_steps.specs.Agreeing.{AllAgree}
 use Rattle.sim_steps.specs.Benches.{Bench, IsSolo, Slot, opening_bench}
 use Rattle.sim_steps.specs.Deeds.{Event, Runs, turns_of}
 pub use Rattle.sim_steps.specs.Ends.{AllHadMemory, IsFull, most_entries}
-use Rattle.sim_steps.specs.Ends.{told_by}
+use Rattle.sim_steps.specs.Ends.{Writes, told_by}
 use Rattle.sim_steps.specs.Parts.{Follows, IsPart, IsStill}
 use Rattle.sim_steps.specs.Showing.{AllKeep}
 use Rattle.sim_laws.specs.Laws.{AreWorldRun}
@@ -152,7 +152,7 @@ EndsWith Worn g after number history text = IsBrokenOff g history text × IsFull
 
 -- the same with what was written
 abbrev pub EndsOver : SimEnd → Given → List Meaning → ℕ → List Turn → SinkView → SinkView → Type 0
-EndsOver end g after number history old new = (text : List ℕ) × EndsWith end g after number history text × Wrote old new text
+EndsOver end g after number history old new = Writes (λ (text : List ℕ). EndsWith end g after number history text) old new
 
 -- the script came to its end, or to a line that is refused
 abbrev pub is_whole : SimEnd → Bool
@@ -171,7 +171,7 @@ HasEnded end g after text = (history : List Turn) × EndsBy end g after history 
 
 -- how a run ends
 abbrev pub Ends : SimEnd → Given → List Meaning → SinkView → SinkView → Type 0
-Ends end g after old new = (text : List ℕ) × HasEnded end g after text × Wrote old new text
+Ends end g after old new = Writes (λ (text : List ℕ). HasEnded end g after text) old new
 
 -- how a run ends of this policy, these settings, devices and script, whose first line has this number
 abbrev pub EndsRun : SimEnd → Policy → Settings → List Meaning → List ℕ → ℕ → List Meaning → SinkView → SinkView → Type 0

@@ -2,7 +2,7 @@
 ghost use Rattle.std.specs.Prelude.{◌≡◌, ◌≢◌, ◌+◌, ◌^◌, ◌<◌, None, map, length};
 ghost use Rattle.maple_io.specs.Views.{NoWriteFailed, WriteFailed};
 ghost use Rattle.history_lock.specs.Passes.{IsPassOf, known, parts};
-ghost use Rattle.sim_driver.specs.Passes.{DroveBy, IsOpening, given_over};
+ghost use Rattle.sim_driver.specs.Passes.{DroveBy, IsOpeningOver, given_over};
 ghost use Rattle.sim_driver.specs.Runs.{Ends, IsAtRefused, refused_line};
 
 use crate::drive::SimEnd;
@@ -30,7 +30,7 @@ pub(crate) fn alone<R: Wait, D: Device, O: Sink, G: Gate>(
     to: &mut O,
 ) -> SimEnd
     requires hall { IsPassOf hall pass }
-    requires opened { IsOpening (known pass) opening (map D.meaning devices.old) }
+    requires opened { IsOpeningOver (known pass) opening (map D.meaning devices.old) }
     requires all { parts pass ≡ 1024 }
     requires numbers { first + length script.now < 2 ^ 32 }
     ensures ends { Ends result (given_over opening (map D.meaning devices.old) script.now first) (map D.meaning devices.new) (O.tells to.old) (O.tells to.new) }
@@ -78,7 +78,7 @@ fn at_pass<'p, R: Wait, D: Device, O: Sink, G: Gate>(
     to: &mut O,
 ) -> Ended<'p>
     requires hall { IsPassOf hall.now pass.now }
-    requires opened { IsOpening (known pass.now) opening (map D.meaning devices.old) }
+    requires opened { IsOpeningOver (known pass.now) opening (map D.meaning devices.old) }
     requires all { parts pass.now ≡ 1024 }
     requires numbers { first + length script.now < 2 ^ 32 }
     ensures same_reference { result.pass.ghost_name ≡ pass.entry.ghost_name }

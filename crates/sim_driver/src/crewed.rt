@@ -5,7 +5,7 @@ ghost use Rattle.history_lock.specs.Passes.{IsPassOf, known, leads, opening as o
 ghost use Rattle.sim_steps.specs.Benches.{IsSolo};
 ghost use Rattle.worker_crew.specs.Takers.{IsTakerOf, shares};
 ghost use Rattle.sim_driver.specs.Crewing.{IsReadyBeside, RanBeside};
-ghost use Rattle.sim_driver.specs.Passes.{DroveBy, IsOpening, given_over, joined};
+ghost use Rattle.sim_driver.specs.Passes.{DroveBy, IsOpeningOver, given_over, joined};
 ghost use Rattle.desk_jobs.specs.Crews.{most_workers};
 ghost use Rattle.sim_driver.specs.Runs.{Ends, IsAtRefused, refused_line};
 
@@ -63,7 +63,7 @@ pub(crate) fn crewed<'d, R: Threads + Wait + Sync, D: Device, O: Sink, G: Gate +
     to: &'d mut O,
 ) -> Returned<'d, D, O>
     requires hall { IsPassOf hall pass }
-    requires opened { IsOpening (known pass) opening (map D.meaning devices.now) }
+    requires opened { IsOpeningOver (known pass) opening (map D.meaning devices.now) }
     requires beside { (IsSolo opening.start.value → ⊥) × (workers ≤ most_workers) }
     requires all { parts pass ≡ 1024 }
     requires numbers { first + length script.now < 2 ^ 32 }
@@ -219,7 +219,7 @@ fn at_passes<'p, R: Wait, D: Device, O: Sink, G: Gate>(
     to: &mut O,
 ) -> EndedBeside<'p>
     requires hall { IsPassOf hall.now pass.now × IsTakerOf jobs.now taker.now }
-    requires opened { IsOpening (known pass.now) opening (map D.meaning devices.old) }
+    requires opened { IsOpeningOver (known pass.now) opening (map D.meaning devices.old) }
     requires beside { IsSolo opening.start.value → ⊥ }
     requires numbers { first + length script.now < 2 ^ 32 }
     ensures same_pass { result.pass.ghost_name ≡ pass.entry.ghost_name }

@@ -3,7 +3,7 @@ ghost use Rattle.std.specs.Prelude.{◌≡◌, ◌≢◌, ◌+◌, ◌^◌, ◌<
 ghost use Rattle.maple_io.specs.Views.{NoWriteFailed, WriteFailed};
 ghost use Rattle.machine_desk.specs.Desks.{SameHall};
 ghost use Rattle.desk_jobs.specs.Crews.{MayHave, SameCrew};
-ghost use Rattle.sim_driver.specs.Passes.{DeedLaws, DroveAt, EndsAt, IsOpened, IsOpenedAt, end_of, given_at, with_memory};
+ghost use Rattle.sim_driver.specs.Passes.{DeedLaws, DroveAt, EndsAt, IsOpened, IsOpenedOver, end_of, given_at, with_memory};
 ghost use Rattle.sim_driver.specs.Runs.{IsAtRefused, refused_line};
 
 use crate::drive::SimEnd;
@@ -33,7 +33,7 @@ pub(crate) fn at_desk<'p, R: Wait, D: Device, O: Sink, G: Gate>(
     gate: &G,
     to: &mut O,
 ) -> (Desk<'p>, Option<Crew<'p>>, SimEnd)
-    requires opened { IsOpenedAt desk (map D.meaning devices.old) }
+    requires opened { IsOpenedOver desk (map D.meaning devices.old) }
     requires crew { MayHave crew desk.footing.parts desk.now }
     requires numbers { first + length script.now < 2 ^ 32 }
     ensures same { SameHall desk.entry.footing result.0.footing }

@@ -12,7 +12,7 @@ use Rattle.world_steps.specs.Right.{IsRight}
 use Rattle.sim_steps.specs.Benches.{Bench, opening_bench}
 use Rattle.sim_steps.specs.Deeds.{Event, Runs, turns_of}
 use Rattle.sim_steps.specs.Agreeing.{AllAgree, taken_report}
-use Rattle.sim_steps.specs.Ends.{told_by, untaken}
+use Rattle.sim_steps.specs.Ends.{IsReportOf}
 use Rattle.sim_steps.specs.Showing.{AllIdle, AllKeep, AreSwitches, Shows}
 
 -- the machine's turns are a legal history
@@ -29,7 +29,7 @@ PastLaw = (a : Bench) (es : List Event) (b : Bench) → Runs a es b → b.past �
 abbrev pub ReportLaw : Type 0
 ReportLaw =
     (policy : Policy) (settings : Settings) (devices : List Meaning) (es : List Event) (b : Bench) → Runs (opening_bench policy settings devices) es b
-    → told_by (turns_of es) ≡ taken_report es ++ untaken b.machine
+    → IsReportOf (turns_of es) (taken_report es) b.machine
 
 -- each device agrees with the deeds
 abbrev pub AgreeLaw : Type 0

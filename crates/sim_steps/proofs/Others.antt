@@ -125,35 +125,35 @@ allows_shared log (entries.Decide job) may = refl
 allows_shared log entry may = absurd may
 
 lends_smooth : (old : State) (reply : Reply) (new : State) → LendsPolicy old reply new → IsSmooth reply
-lends_smooth old Overload new h = h
-lends_smooth old reply new h = tt
+lends_smooth old Overload new h = absurd h
+lends_smooth old reply new h = refl
 
 concludes_smooth : (j : Job) (items : List Item) (cells : List (Cell × Value)) (outcome : Outcome) (old : State) (reply : Reply) (new : State)
     → Concludes j items cells outcome old reply new → IsSmooth reply
-concludes_smooth j items cells SpentRun old reply new h = subst IsSmooth (sym h.0) tt
-concludes_smooth j items cells (Decided d) old reply new h = subst IsSmooth (sym h.replies) tt
+concludes_smooth j items cells SpentRun old reply new h = subst IsSmooth (sym h.0) refl
+concludes_smooth j items cells (Decided d) old reply new h = subst IsSmooth (sym h.replies) refl
 
 -- none finds too many packets waiting
 pub shared_smooth : (entry : Entry) → is_shared entry ≡ true → (old : State) (reply : Reply) (new : State) → Steps old entry reply new → IsSmooth reply
 shared_smooth entries.ReadPolicy may old reply new h = lends_smooth old reply new h
-shared_smooth (entries.ReadCell cell) may old reply new h = subst IsSmooth (sym h.0) tt
-shared_smooth entries.OpenJobs may old reply new h = subst IsSmooth (sym h.0) tt
+shared_smooth (entries.ReadCell cell) may old reply new h = subst IsSmooth (sym h.0) refl
+shared_smooth entries.OpenJobs may old reply new h = subst IsSmooth (sym h.0) refl
 shared_smooth (entries.Commit job run) may old reply new h = commits h
   where
     commits : Commits job run old reply new → IsSmooth reply
-    commits (inl (none, r, e)) = subst IsSmooth (sym r) tt
-    commits (inr (inl (j, is, other, r, e))) = subst IsSmooth (sym r) tt
-    commits (inr (inr (inl (j, c, v, w, is, same, stale, r, e)))) = subst IsSmooth (sym r) tt
+    commits (inl (none, r, e)) = subst IsSmooth (sym r) refl
+    commits (inr (inl (j, is, other, r, e))) = subst IsSmooth (sym r) refl
+    commits (inr (inr (inl (j, c, v, w, is, same, stale, r, e)))) = subst IsSmooth (sym r) refl
     commits (inr (inr (inr (inl (j, is, same, fresh, ends))))) = concludes_smooth j run.items run.cells run.outcome old reply new ends
-    commits (inr (inr (inr (inr lacks)))) = subst IsSmooth (sym lacks.0) tt
+    commits (inr (inr (inr (inr lacks)))) = subst IsSmooth (sym lacks.0) refl
 shared_smooth (entries.Decide job) may old reply new h = decides h
   where
     decides : Decides job old reply new → IsSmooth reply
-    decides (inl (none, r, e)) = subst IsSmooth (sym r) tt
+    decides (inl (none, r, e)) = subst IsSmooth (sym r) refl
     decides (inr (inl (j, is, ends))) =
         concludes_smooth j (items_of (asked_now j old) j.key (cell_in old.scene)) (cells_of (asked_now j old) j.key (cell_in old.scene))
         (eval_of (in_force old).body old.settings.budget (cell_in old.scene) j.switch j.key) old reply new ends
-    decides (inr (inr lacks)) = subst IsSmooth (sym lacks.0) tt
+    decides (inr (inr lacks)) = subst IsSmooth (sym lacks.0) refl
 shared_smooth entry may old reply new h = absurd (cc)
 
 -- memory runs out for runs alone

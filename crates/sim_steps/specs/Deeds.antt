@@ -140,10 +140,14 @@ MayEnter (entries.Decide job) b = ThreeStale job (map call_of b.past)
 MayEnter (entries.Note note) b = MayNote note
 MayEnter entry b = Unit {0}
 
--- no packet finds too many others waiting
+-- a packet finds too many others waiting
+abbrev pub is_overload : Reply → Bool
+is_overload Overload = true
+is_overload reply = false
+
+-- none does
 abbrev pub IsSmooth : Reply → Type 0
-IsSmooth Overload = ⊥
-IsSmooth reply = Unit {0}
+IsSmooth reply = is_overload reply ≡ false
 
 pub record EntersAt (entry : Entry) (reply : Reply) (a b : Bench) : Type 0 where
   pub may : MayEnter entry a

@@ -16,12 +16,13 @@ use Rattle.machine_steps.specs.declared.note.Note.{Note}
 use Rattle.machine_steps.specs.declared.note.Note.TheVariants as notes
 use Rattle.machine_steps.specs.declared.reply.Reply.{Reply}
 use Rattle.machine_steps.specs.Machine.{was_opened}
-use Rattle.world_steps.specs.Worlds.{lacks_memory, messages_for}
+use Rattle.world_steps.specs.Worlds.{lacks_memory}
 use Rattle.script_text.specs.Orders.{Order}
 use Rattle.script_text.specs.Orders.Order.{Nothing, Plug, Unplug, Arrival, Turn, Settle, Change, NewPolicy, Rules}
 use Rattle.sim_steps.specs.Benches.{Slot, Bench, IsPluggedAt, IsSolo, is_plugged}
 use Rattle.sim_steps.specs.Deeds.{Deed, Event, Runs, entry_in, has_failed, reply_in}
 use Rattle.sim_steps.specs.Deeds.Deed.{Enters, Calls}
+use Rattle.sim_steps.specs.Ends.{IsStillFor}
 
 -- ---- the deeds that orders ask for themselves; all others carry messages, answer packets, or tell that a device failed
 
@@ -125,11 +126,15 @@ pub record Settles (es : List Event) : Type 0 where
 
 -- ---- orders
 
--- another policy is in force, or the text is of none, and where and why is told
+-- the entry that is made with the text of a new policy: the policy is put in force, or the text is of none, and where and why is told
+abbrev pub RenewsBy : List ℕ → (Entry → Type 0) → Type 0
+RenewsBy text Makes =
+    ((policy : Policy) × IsTextOf policy text × Makes (entries.NewPolicy policy))
+    ⊎ ((line column kind : ℕ) × IsRefused text (Refused line column kind) × Makes (entries.Note (notes.PolicyRefused line column kind)))
+
+-- that entry alone is made
 abbrev pub Renews : List ℕ → List Event → Type 0
-Renews text es =
-    ((policy : Policy) × IsTextOf policy text × JustEnters (entries.NewPolicy policy) es)
-    ⊎ ((line column kind : ℕ) × IsRefused text (Refused line column kind) × JustNotes (notes.PolicyRefused line column kind) es)
+Renews text es = RenewsBy text (λ (entry : Entry). JustEnters entry es)
 
 -- where there is no open session at a place, that alone is told
 abbrev pub IfPlugged : Bool → ℕ → List Event → Type 0 → Type 0
@@ -201,8 +206,7 @@ pub record IsCalm (b : Bench) : Type 0 where
 
 -- and no packet waits for an answer, and all that the machine has for a plugged place was taken out
 pub record IsStill (b : Bench) : Type 0 where
-  pub jobs : b.machine.jobs ≡ []
-  pub taken : (c : ℕ) → is_plugged c b.machine ≡ true → messages_for c b.machine ≡ []
+  pub machine : IsStillFor (λ (c : ℕ). is_plugged c b.machine ≡ true) b.machine
   pub calm : IsCalm b
 
 -- runs of the policy and what ends them

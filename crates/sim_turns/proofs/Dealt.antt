@@ -19,7 +19,7 @@ use Rattle.sim_steps.specs.Stretches.{Stretch}
 use Rattle.sim_steps.proofs.Moments.{called, stretch_call}
 use Rattle.machine_desk.specs.Hearing.{is_live}
 use Rattle.sim_channels.specs.Channels.{EntersNext, Fits, IsKept, IsSame, bench, slots_of}
-use Rattle.sim_channels.specs.Driving.{DrivingLaws}
+use Rattle.desk_jobs.specs.Driving.{DrivingLaws}
 use Rattle.sim_channels.specs.Resting.{RestingLaws}
 use Rattle.sim_channels.specs.Waiting.{IsAtRest, IsAtRestBut, IsOffered}
 use Rattle.sim_channels.specs.declared.channel.Channel.{Channel}
@@ -75,8 +75,8 @@ module _ (laws : DrivingLaws) (resting : RestingLaws) (at : ℕ) (turned : Turne
   noted = subst (EntersNext Telling Done old.desk) (sym desk) enters
 
   kept_behind : IsKept new
-  kept_behind = kept_channel laws old new Telling Done kept tt noted.steps (λ c. refl) at K L at_channel changes.session
-      (not_fresh L (changes.session.1 ∙ waits.plugged))
+  kept_behind = kept_channel laws old new Telling Done kept tt noted.steps (λ c. refl) at K L at_channel changes.feeds.1
+      (not_fresh L (changes.feeds.1.1 ∙ waits.plugged))
 
   -- the machine has no message more for any device
   sessions_stay : (c : ℕ) → session_at c new.desk.now ≡ session_at c old.desk.now
@@ -103,7 +103,7 @@ module _ (laws : DrivingLaws) (resting : RestingLaws) (at : ℕ) (turned : Turne
       ⊎_elim (λ here.
       (let is : L ≡ y = same_Some L y (sym (is_there at K L old new at_channel) ∙ ap (slice_get new.channels.items) (sym here) ∙ f) in
       let first : K ≡ x = same_Some K x (sym waits.there ∙ ap (slice_get old.channels.items) (sym here) ∙ e) in
-      ap (λ (z : Channel). is_live z.inbound.stage) (sym first) ∙ ap is_live (sym changes.session.1)
+      ap (λ (z : Channel). is_live z.inbound.stage) (sym first) ∙ ap is_live (sym changes.feeds.1.1)
       ∙ ap (λ (z : Channel). is_live z.inbound.stage) is ∙ open_now))
       (λ o.
       (let is : x ≡ y = same_Some x y (sym e ∙ sym (is_beside at K L old new at_channel n o) ∙ f) in
@@ -141,7 +141,7 @@ module _ (laws : DrivingLaws) (resting : RestingLaws) (at : ℕ) (turned : Turne
     one =
         let b = turned_bench at turned bytes old before behind fits turns waits taken new.desk L in
         let event = called (at + 1) (Turning turned bytes) Done (bench old before) b in
-        let calls = calls_at at turned bytes old before behind fits turns waits taken new.desk L changes.to changes.from noted in
+        let calls = calls_at at turned bytes old before behind fits turns waits taken new.desk L changes.to changes.feeds.0 noted in
         let whole = (is_dealt turned bytes turns.before turns.behind taken other turns.turns).whole in
         record {
           event = event;

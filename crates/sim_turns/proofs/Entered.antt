@@ -17,7 +17,7 @@ use Rattle.sim_steps.proofs.Joining.{carried_ahead}
 use Rattle.sim_steps.proofs.Moments.{entered, stretch_entry}
 use Rattle.sim_steps.proofs.Others.{carried_beside}
 use Rattle.sim_channels.specs.Channels.{IsKept, bench, slots_of}
-use Rattle.sim_channels.specs.Driving.{DrivingLaws}
+use Rattle.desk_jobs.specs.Driving.{DrivingLaws}
 use Rattle.sim_channels.specs.Resting.{RestingLaws}
 use Rattle.sim_channels.specs.Waiting.{IsAtRest, IsDone}
 use Rattle.sim_channels.specs.declared.driver.Driver.{Driver}
@@ -32,36 +32,36 @@ asked_smooth : (entry : Entry) → asks entry ≡ true → (m : State) (reply : 
 asked_smooth (entries.Open c) asked m reply n h = go h
   where
     go : Opens c m reply n → IsSmooth reply
-    go (inl (was, (r, e))) = subst IsSmooth (sym r) tt
-    go (inr (inl (was, many, r, e))) = subst IsSmooth (sym r) tt
-    go (inr (inr (inl (was, few, r, e)))) = subst IsSmooth (sym r) tt
-    go (inr (inr (inr (r, e)))) = subst IsSmooth (sym r) tt
+    go (inl (was, (r, e))) = subst IsSmooth (sym r) refl
+    go (inr (inl (was, many, r, e))) = subst IsSmooth (sym r) refl
+    go (inr (inr (inl (was, few, r, e)))) = subst IsSmooth (sym r) refl
+    go (inr (inr (inr (r, e)))) = subst IsSmooth (sym r) refl
 asked_smooth (entries.Gone c fault) asked m reply n h = go h
   where
     go : EndsSession c (link_end fault) m reply n → IsSmooth reply
-    go (inl (none, (r, e))) = subst IsSmooth (sym r) tt
-    go (inr (s, found, r, e)) = subst IsSmooth (sym r) tt
+    go (inl (none, (r, e))) = subst IsSmooth (sym r) refl
+    go (inr (s, found, r, e)) = subst IsSmooth (sym r) refl
 asked_smooth (entries.Change u) asked m reply n h = go h
   where
     go : Updates u m reply n → IsSmooth reply
-    go (inl (free, r, e)) = subst IsSmooth (sym r) tt
-    go (inr (inl (kind, is, r, e))) = subst IsSmooth (sym r) tt
-    go (inr (inr (r, e))) = subst IsSmooth (sym r) tt
+    go (inl (free, r, e)) = subst IsSmooth (sym r) refl
+    go (inr (inl (kind, is, r, e))) = subst IsSmooth (sym r) refl
+    go (inr (inr (r, e))) = subst IsSmooth (sym r) refl
 asked_smooth (entries.NewPolicy p) asked m reply n h = go h
   where
     go : Steps m (entries.NewPolicy p) reply n → IsSmooth reply
-    go (inl (r, e)) = subst IsSmooth (sym r) tt
-    go (inr (r, e)) = subst IsSmooth (sym r) tt
+    go (inl (r, e)) = subst IsSmooth (sym r) refl
+    go (inr (r, e)) = subst IsSmooth (sym r) refl
 asked_smooth (entries.ReadRules switch) asked m reply n h = go h
   where
     go : TellsRules switch m reply n → IsSmooth reply
-    go (inl (rules, put, r, e)) = subst IsSmooth (sym r) tt
-    go (inr (r, e)) = subst IsSmooth (sym r) tt
+    go (inl (rules, put, r, e)) = subst IsSmooth (sym r) refl
+    go (inr (r, e)) = subst IsSmooth (sym r) refl
 asked_smooth (entries.Note note) asked m reply n h = go h
   where
     go : Steps m (entries.Note note) reply n → IsSmooth reply
-    go (inl (r, e)) = subst IsSmooth (sym r) tt
-    go (inr (r, e)) = subst IsSmooth (sym r) tt
+    go (inl (r, e)) = subst IsSmooth (sym r) refl
+    go (inr (r, e)) = subst IsSmooth (sym r) refl
 asked_smooth entry asked m reply n h = absurd (cc)
 
 asked_slots : (m : State) (entry : Entry) (reply : Reply) (old new : List Slot) → asks entry ≡ true → new ≡ old → SlotsBehind m entry reply old new

@@ -10,7 +10,7 @@ use Rattle.machine_steps.specs.Steps.{Steps, note_lines}
 use Rattle.world_steps.specs.Worlds.{lacks_memory}
 use Rattle.sim_channels.specs.declared.driver.Driver.{Driver}
 use Rattle.sim_channels.specs.Channels.{EntersNext, IsKept, OthersDid}
-use Rattle.sim_channels.specs.Driving.{DrivingLaws}
+use Rattle.desk_jobs.specs.Driving.{DrivingLaws}
 use Rattle.sim_channels.specs.Resting.{RestingLaws}
 use Rattle.sim_channels.specs.Waiting.{IsAtRest}
 use Rattle.sim_channels.proofs.Kept.{kept_entry}

@@ -10,8 +10,8 @@ use Rattle.sim_channels.specs.Channels.{IsKept, WorksAlone, bench}
 use Rattle.sim_channels.specs.Waiting.{IsOffered, NoneWaits, StaysBut}
 use Rattle.sim_channels.specs.Hearing.{KeepsChannels}
 use Rattle.sim_channels.specs.Passes.{HasHeard, Passed, is_state}
-use Rattle.sim_channels.specs.declared.hear.Came.{Came}
-use Rattle.sim_channels.specs.declared.hear.Came.TheVariants.{Nothing, State}
+use Rattle.machine_desk.specs.declared.hearing.Came.{Came}
+use Rattle.machine_desk.specs.declared.hearing.Came.TheVariants.{Nothing, State}
 use Rattle.sim_channels.proofs.Others.{alone_on, same_driver, same_then}
 use Rattle.sim_turns.specs.declared.hear.Reach.{Reach}
 use Rattle.sim_turns.specs.declared.hear.Reach.TheVariants.{Anybody, Itself, Nobody}

@@ -11,7 +11,7 @@ use Rattle.sim_channels.specs.Channels.{Fits, bench, slot_by, slots_of}
 use Rattle.sim_channels.specs.declared.driver.Driver.{Driver}
 use Rattle.sim_channels.specs.Turns.{NoneBefore, Waits}
 use Rattle.sim_channels.proofs.Kept.{staged_at}
-use Rattle.sim_channels.proofs.Resting.{plugged_in}
+use Rattle.machine_desk.proofs.Opened.{live_is}
 use Rattle.sim_channels.proofs.Slots.{slot_next, slots_found, slots_get}
 use Rattle.sim_channels.proofs.Waits.{waits_within}
 
@@ -60,7 +60,7 @@ module _ (driver : Driver) (devices : List Meaning) (fits : Fits driver devices)
         waits = record {
           channel = f.channel;
           there = f.there;
-          plugged = plugged_in f.channel.inbound.stage (sym staged ∙ ap (λ n. is_plugged n driver.desk.now) (sym f.place) ∙ h.is.plugged);
+          plugged = live_is f.channel.inbound.stage (sym staged ∙ ap (λ n. is_plugged n driver.desk.now) (sym f.place) ∙ h.is.plugged);
           some = subst (λ n. 0 < n) (sym counted) (some_waits f.device.pending pending);
         };
       }

@@ -5,8 +5,9 @@ ghost use Rattle.sim_channels.specs.Waiting.{IsHeard, IsOffered, NoneWaits, Stay
 ghost use Rattle.sim_channels.specs.Hearing.{KeepsChannels};
 ghost use Rattle.sim_turns.specs.declared.hear.Reach.TheVariants.{Anybody, Itself, Nobody};
 
+use machine_desk::Came;
 use packet_workers::Gate;
-use sim_channels::{Came, Driver, Stopped};
+use sim_channels::{Driver, Stopped};
 use std::sync::Wait;
 
 /// For which devices the machine may have messages that it had not before.

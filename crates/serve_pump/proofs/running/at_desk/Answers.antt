@@ -1,8 +1,8 @@
 use Rattle.std.proofs.Common.{◌≡◌, true, ap, ◌∙◌, subst, sym}
+use Rattle.desk_jobs.proofs.Crewed.{same_crew}
 use Rattle.machine_desk.specs.Desks.{DeskView, HadMemory, calls_of}
 use Rattle.serve_steps.specs.declared.end.ServeEnd.{ServeEnd}
 use Rattle.serve_channels.specs.declared.server.Server.{Server}
-use Rattle.serve_channels.proofs.Kept.{same_crew}
 use Rattle.serve_pump.specs.Beginning.{given_by}
 use Rattle.serve_pump.specs.Ending.{DroveAt, RanAt}
 use Rattle.serve_pump.proofs.Going.{crew_at, fresh_at, hall_at, memory_drove, never_drove}
@@ -14,7 +14,7 @@ returns-in_default-clause-crew g c = same_crew c.args.crew
 pub returns-in_default-clause-drove : goal.returns-in_default-clause-drove
 returns-in_default-clause-drove g c =
     never_drove (given_by c.args.desk.footing.start c.args.startup.now) c.args.desk (g.B.Board.tells c.args.board.now) (g.O.Sink.tells c.args.out.now)
-    c.requires.opened.none
+    c.requires.opened.start.none
 
 pub run-end-requires-clause-fresh : goal.run-end-requires-clause-fresh
 run-end-requires-clause-fresh g c =

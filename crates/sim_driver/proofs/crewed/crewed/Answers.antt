@@ -46,7 +46,7 @@ returns-clause-ends g c =
     let all = c.close_hall-2.ensures in
     let ends =
     joined_ends c.legal_laws.ensures.turns c.between_laws.ensures.frozen c.between_laws.ensures.stays run.end c.with_workers-pass.result.2 given told refused
-    c.args.opening.start.value opened.machine c.requires.beside.0 c.args.opening.budget ran.mine last ran.account (account c.with_workers-pass.result.1)
+    c.args.opening.start.value opened.opened.machine c.requires.beside.0 c.args.opening.budget ran.mine last ran.account (account c.with_workers-pass.result.1)
     after old new
-    ran.drove.2 ran.toiled ran.number all.enough (ran.led opened.ahead.leads) all.legal (crew.stays.1 ∙ opened.ahead.opens) all.all_own in
+    ran.drove.2 ran.toiled ran.number all.enough (ran.led opened.opened.ahead.leads) all.legal (crew.stays.1 ∙ opened.opened.ahead.opens) all.all_own in
     subst (λ (end : SimEnd). Ends end given after old new) (sym c.joined.ensures) ends

@@ -1,10 +1,10 @@
 use Rattle.std.proofs.Common.{◌≡◌, ℕ, true, List, [], length, map, arith, refl, sym, ap, ◌∙◌, subst, rules}
 use Rattle.std.proofs.lemmas.List.{length-map, nil_from_length}
+use Rattle.desk_jobs.proofs.Crewed.{crew_then, same_crew}
 use Rattle.script_text.specs.Lines.{ended_lines}
 use Rattle.script_text.specs.Orders.{orders_of}
 use Rattle.script_text.specs.Steps.{order_with}
 use Rattle.sim_steps.specs.Benches.{Bench}
-use Rattle.sim_channels.proofs.Others.{crew_then, same_crew}
 use Rattle.sim_driver.specs.declared.drive.SimEnd.{SimEnd}
 use Rattle.sim_driver.specs.Passes.{EndsAt, given_at}
 use Rattle.sim_driver.specs.Runs.{is_whole}

@@ -1,6 +1,6 @@
 use Rattle.std.proofs.Common.{refl, sym, subst, ◌∙◌}
 use Rattle.sim_channels.specs.Passes.{Passed}
-use Rattle.sim_channels.specs.declared.hear.Came.TheVariants.{Ended, Message}
+use Rattle.machine_desk.specs.declared.hearing.Came.TheVariants.{Ended, Message}
 use Rattle.sim_turns.proofs.Onward.{hears_none, hears_nothing, hears_on, hears_state, others_stay}
 use Rattle.sim_turns.proofs.hear.hear_all.Goals as goal
 

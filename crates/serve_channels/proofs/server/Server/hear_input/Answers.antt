@@ -1,18 +1,18 @@
 use Rattle.std.proofs.Common.{ap, refl}
 use Rattle.machine_desk.specs.declared.inbound.Inbound.{Inbound}
 use Rattle.serve_channels.proofs.Numbered.{numbers_at, there_at}
-use Rattle.serve_channels.proofs.OneHeard.{with_inbound}
+use Rattle.serve_channels.specs.Servers.{with_inbound}
 use Rattle.serve_channels.proofs.server.Server.hear_input.Goals as goal
 
 pub returns-clause-hears : goal.returns-clause-hears
 returns-clause-hears g c = record {
   connection = c.index_mut.result.now;
   there = there_at c.args.self.now.connections.items c.args.at c.index_mut.result.now c.requires.within c.index_mut.ensures.value;
+  number = refl;
   behind = c.hear.new.inbound;
-  hears = c.in_ok-hear.ensures.ok;
-  staged = c.in_ok-hear.ensures.staged;
+  does = (c.in_ok-hear.ensures.ok, c.in_ok-hear.ensures.staged);
   rest = refl;
-  connections = refl;
+  all = refl;
 }
 
 pub returns-clause-numbers : goal.returns-clause-numbers

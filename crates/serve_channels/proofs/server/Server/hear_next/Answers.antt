@@ -18,7 +18,7 @@ returns-clause-hears g c =
     told_at c.args.at c.args.self.now c.index_mut.result.now c.next.new.self c.requires.within c.index_mut.ensures.value
     c.serving_laws.ensures c.working_laws.ensures.close c.law.ensures c.requires.serving c.make_room_for.new.self c.hear_input.new.self c.follow.new.self
     c.in-Some.input c.in_ok-heard.heard (subst (λ o. Comes o c.index_mut.result.now.inbound c.next.new.self) c.in-Some.is c.in_ok-input.ensures.comes)
-    c.in_ok-make_room_for.ensures.room c.in_ok-heard.ensures.hears c.hear_input.ensures.same c.follow.result c.follow.ensures.came c.follow.ensures.follows
+    c.in_ok-make_room_for.ensures.room c.in_ok-heard.ensures.hears c.hear_input.ensures.same c.of-came.result c.of-came.ensures c.in_ok-follow.ensures.follows
 
 pub returns-in_err-input-clause-numbers : goal.returns-in_err-input-clause-numbers
 returns-in_err-input-clause-numbers g c =
@@ -39,6 +39,14 @@ returns-in_err-heard-clause-numbers g c =
     numbers_behind c.args.at c.args.self.now c.index_mut.result.now c.next.new.self c.requires.within c.index_mut.ensures.value c.make_room_for.new.self
     c.hear_input.new.self c.in_ok-input.ensures.comes.1 c.make_room_for.ensures.connections c.hear_input.ensures.numbers
 
+pub returns-in_err-follow-clause-numbers : goal.returns-in_err-follow-clause-numbers
+returns-in_err-follow-clause-numbers g c =
+    let room = c.make_room_for.new.self in
+    let mid = c.hear_input.new.self in
+    let new = c.follow.new.self in
+    numbers_behind c.args.at c.args.self.now c.index_mut.result.now c.next.new.self c.requires.within c.index_mut.ensures.value room new
+    c.in_ok-input.ensures.comes.1 c.make_room_for.ensures.connections (numbers_then room mid new c.hear_input.ensures.numbers (numbers_of mid new c.follow.ensures.connections))
+
 pub returns-clause-numbers : goal.returns-clause-numbers
 returns-clause-numbers g c =
     let room = c.make_room_for.new.self in
@@ -46,6 +54,14 @@ returns-clause-numbers g c =
     let new = c.follow.new.self in
     numbers_behind c.args.at c.args.self.now c.index_mut.result.now c.next.new.self c.requires.within c.index_mut.ensures.value room new
     c.in_ok-input.ensures.comes.1 c.make_room_for.ensures.connections (numbers_then room mid new c.hear_input.ensures.numbers (numbers_of mid new c.follow.ensures.connections))
+
+pub returns-in_err-follow-clause-same : goal.returns-in_err-follow-clause-same
+returns-in_err-follow-clause-same g c =
+    let room = c.make_room_for.new.self in
+    let mid = c.hear_input.new.self in
+    let new = c.follow.new.self in
+    same_then (source_same c.args.at c.args.self.now c.index_mut.result.now c.next.new.self c.requires.within c.index_mut.ensures.value)
+    (same_then c.make_room_for.ensures.same (same_then c.hear_input.ensures.same c.follow.ensures.same))
 
 pub returns-clause-same : goal.returns-clause-same
 returns-clause-same g c =

@@ -1,5 +1,6 @@
 use Rattle.std.proofs.Common.{◌≡◌, true, [], ◌++◌, append-nil, refl, ap, ◌∙◌, subst, sym}
 use Rattle.std.specs.List.{list_all}
+use Rattle.machine_desk.proofs.Opened.{opened_with}
 use Rattle.serve_steps.specs.Parts.{is_quiet}
 use Rattle.serve_steps.specs.Runs.{taken_report}
 use Rattle.serve_channels.proofs.Kept.{same_then}
@@ -13,7 +14,7 @@ pub returns-in_err-end-clause-breaks : goal.returns-in_err-end-clause-breaks
 returns-in_err-end-clause-breaks g c =
     on_err c.from_residual.result
     (breaks_by_past c.begin_laws.ensures.report (given_at c.args.self.now.server c.args.startup.now) (g.B.Board.tells c.args.board.now).log c.carry_out-carried.new.self
-    c.law.ensures (ap (λ f. f.start) c.carry_out-carried.ensures.same.footing ∙ c.requires.fresh.opens) (g.O.Sink.tells c.args.out.now))
+    c.law.ensures (ap (λ f. f.start) c.carry_out-carried.ensures.same.footing ∙ opened_with c.args.self.now.server.desk c.requires.fresh.opened) (g.O.Sink.tells c.args.out.now))
 
 pub returns-in-Ok : goal.returns-in-Ok
 returns-in-Ok g c =
@@ -31,7 +32,7 @@ returns-in-Ok g c =
     let d = c.report-reported.new.self in
     let p : Pump = record f { server = d } in
     let told = c.in_ok-end.ensures in
-    let w = told.goes old_board.log given old_board.log [] (laws.fresh given old_board.log a fresh fresh.opens) tt in
+    let w = told.goes old_board.log given old_board.log [] (laws.fresh given old_board.log a fresh (opened_with a.desk fresh.opened)) tt in
     let v = c.in-Ok.ensures.goes old_board.log given old_board.log (w.done ++ []) w.kept in
     let reports = c.in-Ok.ensures.reports in
     let law = c.law-2.ensures in
@@ -71,8 +72,8 @@ returns-in-Err-clause-breaks g c =
     let new = g.O.Sink.tells c.report-reported.new.out in
     let f = c.carry_out-carried.new.self in
     let p : Pump = record f { server = c.report-reported.new.self } in
-    let w = c.in_ok-end.ensures.goes log given log [] (laws.fresh given log a fresh fresh.opens) tt in
+    let w = c.in_ok-end.ensures.goes log given log [] (laws.fresh given log a fresh (opened_with a.desk fresh.opened)) tt in
     breaks_told laws.report given log p c.law-2.ensures
-    (ap (λ f. f.start) (c.report-reported.ensures.same.footing ∙ c.carry_out-carried.ensures.same.footing) ∙ fresh.opens)
+    (ap (λ f. f.start) (c.report-reported.ensures.same.footing ∙ c.carry_out-carried.ensures.same.footing) ∙ opened_with a.desk fresh.opened)
     f.server (w.done ++ []) old new w.kept (subst (λ ds. list_all is_quiet ds ≡ true) (sym (append-nil w.done)) w.stretch.quiet)
     (ap taken_report (append-nil w.done) ∙ w.unread) c.in-Err.stop c.in-Err.ensures.reports

@@ -33,7 +33,7 @@ pub returns : goal.returns
 returns g c =
     let old = c.args.self.now in
     let heard = c.in_ok-heard.heard in
-    let h : HearsInput c.args.at c.came_of-came.result old c.follow.new.self = record {
+    let h : HearsInput c.args.at c.of-came.result old c.follow.new.self = record {
       input = c.in-Some.input;
       next = c.next.new.self;
       comes = subst (λ o. ComesAt c.args.at o old c.next.new.self) c.in-Some.is c.in_ok-input.ensures.comes;
@@ -43,12 +43,12 @@ returns g c =
       hearing = c.hear.new.self;
       hears = c.in_ok-heard.ensures.hears;
       follows = c.in_ok-follow.ensures.follows;
-      told = c.came_of-came.ensures;
+      told = c.of-came.ensures;
     } in
     let behind = same_then c.make_room_for.new.self c.hear.new.self c.follow.new.self c.hear.ensures.same c.follow.ensures.same in
     record {
-      next = hears_next c.args.at c.came_of-came.result old c.follow.new.self h;
-      passed = passed_by c.driving_laws.ensures c.args.at old c.follow.new.self c.came_of-came.result h (subst (λ o. IfSome o IsHeard) c.in-Some.is c.in_ok-input.ensures.heard) c.requires.kept
+      next = hears_next c.args.at c.of-came.result old c.follow.new.self h;
+      passed = passed_by c.driving_laws.ensures c.args.at old c.follow.new.self c.of-came.result h (subst (λ o. IfSome o IsHeard) c.in-Some.is c.in_ok-input.ensures.heard) c.requires.kept
           c.in_ok-heard.ensures.kept c.hear.ensures.same c.requires.jobs c.requires.offered;
       same = same_then old c.next.new.self c.follow.new.self c.next.ensures.same (same_then c.next.new.self c.make_room_for.new.self c.follow.new.self c.make_room_for.ensures.same behind);
     }

@@ -11,6 +11,7 @@ returns-in-Ok g c =
     let driver : Driver = record { alloc = c.args.alloc; desk = c.args.desk; crew = c.args.crew; channels = c.in-Ok.channels } in
     let h : IsNewDriver driver (length devices) = record {
       start = c.requires.start;
+      ranges = c.requires.ranges;
       crew = c.requires.crew;
       unused = c.in-Ok.ensures.unused;
       count = c.in-Ok.ensures.count ∙ sym long;

@@ -2,9 +2,9 @@ use Rattle.std.proofs.Common.{refl}
 use Rattle.std.specs.Vec.{with_item}
 use Rattle.machine_desk.specs.declared.inbound.Stage.TheVariants.{Unopened}
 use Rattle.sim_channels.specs.declared.driver.Driver.{Driver}
-use Rattle.sim_channels.proofs.Kept.{with_inbound}
+use Rattle.sim_channels.specs.Channels.{with_inbound}
 use Rattle.sim_channels.proofs.Others.{same_but}
-use Rattle.sim_channels.proofs.Staged.{kept_opened, opens_at, on_err, stands, stays_as_it_was}
+use Rattle.sim_channels.proofs.Staged.{kept_opened, on_err, stands, stays_as_it_was}
 use Rattle.sim_channels.proofs.driver.Driver.open.Goals as goal
 
 pub returns-in_err-open-clause-rest : goal.returns-in_err-open-clause-rest
@@ -22,7 +22,7 @@ returns g c =
     let h = c.in_ok-open.ensures in
     let same = same_but old new refl h.footing in
     record {
-      opens = opens_at c.driving_laws.ensures old new c.args.at k j c.requires.kept s.there refl refl same h.ok;
+      opens = record { connection = k; there = s.there; number = c.requires.kept.names c.args.at k s.there; behind = j; does = h.ok; rest = refl; all = refl };
       kept = kept_opened c.driving_laws.ensures old new c.args.at k j c.requires.kept s.there refl refl same h.ok s.is h.staged;
       stops = tt;
       rest = tt;
