@@ -6,7 +6,7 @@ use Rattle.maple_base.specs.Limits.{most_budget}
 use Rattle.maple_base.specs.declared.decision.Settings.{Settings}
 use Rattle.maple_text.specs.Numbers.{number_of}
 use Rattle.maple_text.specs.Parts.{len_to}
-use Rattle.desk_jobs.specs.Crews.{most_workers}
+use Rattle.machine_desk.specs.Crews.{most_workers}
 use Rattle.command_words.specs.declared.options.Setting.{Setting}
 use Rattle.command_words.specs.declared.options.Setting.TheVariants.{Budget, Capacity, Levels, Workers, Listen, Control}
 use Rattle.command_words.specs.declared.options.Chosen.{Chosen}

@@ -4,7 +4,7 @@ use Rattle.std.specs.Option.{option_and_then, option_map}
 use Rattle.std.specs.Str.{bytes_eq}
 use Rattle.maple_base.specs.declared.decision.Settings.{Settings}
 use Rattle.machine_steps.specs.Sound.{AreInRange}
-use Rattle.desk_jobs.specs.Crews.{most_workers}
+use Rattle.machine_desk.specs.Crews.{most_workers}
 use Rattle.command_words.specs.declared.words.Command.{Command}
 use Rattle.command_words.specs.declared.words.Command.TheVariants.{Sim, Check, Gen, Serve}
 use Rattle.command_words.specs.declared.options.Chosen.{Chosen}

@@ -4,7 +4,7 @@ ghost use Rattle.command_words.specs.Options.{most_port, name_of, number_in, onc
 ghost use Rattle.command_words.specs.Options.{setting_named, settings_of, value_of, with_setting, within};
 ghost use Rattle.command_words.specs.WordViews.{given_of};
 
-use desk_jobs::MOST_WORKERS;
+use machine_desk::MOST_WORKERS;
 use maple_base::{Bytes, MOST_BUDGET, Settings};
 use maple_text::{len_to, number_of};
 

@@ -1,3 +1,5 @@
+pub mod Committing
+pub mod Concluding
 pub mod Features
 pub mod Following
 pub mod Heard

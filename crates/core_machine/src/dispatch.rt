@@ -6,8 +6,8 @@ ghost use Rattle.machine_steps.specs.Steps.{Steps, link_end};
 
 use crate::messages::hear;
 use crate::policies::renew;
+use crate::runs::{commit, decide};
 use crate::updates::change;
-use machine_answers::{commit, decide};
 use machine_parts::Parts;
 use machine_parts::ends::end_session;
 use machine_parts::notes::tell_note;

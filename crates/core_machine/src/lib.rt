@@ -2,6 +2,7 @@
 #![tactic(auto)]
 
 mod advancing;
+mod answers;
 mod dispatch;
 mod joins;
 mod machine;
@@ -9,6 +10,7 @@ mod messages;
 mod next;
 mod packet_ins;
 mod policies;
+mod runs;
 mod shared;
 mod states;
 mod updates;

@@ -23,9 +23,10 @@ use Rattle.packet_workers.specs.declared.worked.Worked.TheVariants.{Worn}
 use Rattle.packet_workers.specs.declared.worked.Worked.TheVariants as how
 use Rattle.packet_workers.specs.Adding.{Adds}
 use Rattle.packet_workers.specs.Rounds.{IsBudgetOf, IsWornBy, Rounds}
-use Rattle.machine_desk.specs.Desks.{DeskView, IsDesk, IsTold, calls_of, view_by}
+use Rattle.machine_desk.specs.Desks.{DeskView, IsDesk, IsTold, NoneOverflowed, calls_of, view_by}
 use Rattle.machine_desk.specs.Driving.{DeskLaws}
 use Rattle.machine_desk.specs.Working.{WearsBy, Works}
+use Rattle.machine_desk.proofs.Room.{calls_find_room, none_append}
 use Rattle.machine_desk.proofs.Turning.{calls_same, turns_append}
 
 abbrev Seen : Type 0
@@ -121,6 +122,12 @@ module _ (laws : DeskLaws) (old new : Seen) (start : State) (worn : Bool) (h : I
 
   meanwhile : Leads ahead (turns_of ahead rest) behind
   meanwhile = (laws.turns ahead rest behind (replays_since Turns start new.seen old.seen behind (rest, since.1) legal)).leads
+
+  -- no reply told that too many packets wait
+  pub roomy_stays : NoneOverflowed old.seen → NoneOverflowed new.seen
+  roomy_stays none =
+      let run = replays_since Turns start new.seen old.seen behind (rest, since.1) legal in
+      subst NoneOverflowed (sym since.1) (none_append old.seen rest none (calls_find_room old.seen rest ahead behind since.2 run))
 
   allowed : AreAllowed Allows (calls_of (turns_of start old.seen)) (calls_of (turns_of ahead rest))
   allowed =

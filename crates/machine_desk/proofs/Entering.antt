@@ -1,5 +1,5 @@
 -- An entry at the desk.
-use Rattle.std.proofs.Common.{◌≡◌, ℕ, Bool, false, List, [], ◌∷◌, ◌++◌, length, ap, refl, subst, sym, ◌∙◌}
+use Rattle.std.proofs.Common.{◌≡◌, ◌≢◌, ℕ, Bool, false, List, [], ◌∷◌, ◌++◌, length, ap, refl, subst, sym, ◌∙◌}
 use Rattle.atomic_table.specs.Seated.{TableId}
 use Rattle.std.proofs.lemmas.List.{append_assoc}
 use Rattle.history_lock.specs.declared.view.Known.{Known}
@@ -10,13 +10,16 @@ use Rattle.policy_lang.specs.declared.Policy.{Policy}
 use Rattle.machine_moves.specs.Told.{is_new_state, policy_behind}
 use Rattle.machine_steps.specs.declared.entry.Entry.{Entry}
 use Rattle.machine_steps.specs.declared.reply.Reply.{Reply}
+use Rattle.machine_steps.specs.declared.reply.Reply.TheVariants.{Overload}
 use Rattle.machine_steps.specs.Histories.{IsTurn, Leads}
 use Rattle.machine_steps.specs.Machine.{State}
 use Rattle.machine_sharing.specs.Between.{Stays}
 use Rattle.machine_sharing.specs.Legal.{turn_of, turns_of}
 use Rattle.machine_sharing.specs.Sharing.{Call, Allows, Turns}
-use Rattle.machine_desk.specs.Desks.{Enters, IsDesk, IsTold, calls_of, turn, view_by}
+use Rattle.machine_desk.specs.Arriving.{HasRoomFor}
+use Rattle.machine_desk.specs.Desks.{Enters, IsDesk, IsTold, NoneOverflowed, calls_of, turn, view_by}
 use Rattle.machine_desk.specs.Driving.{DeskLaws}
+use Rattle.machine_desk.proofs.Room.{calls_find_room, finds_room, none_append, room_stays}
 use Rattle.machine_desk.proofs.Told.{learning_told, told_by}
 use Rattle.machine_desk.proofs.Turning.{calls_same, nothing_behind, turns_append, turns_length}
 
@@ -69,17 +72,28 @@ module _ (laws : DeskLaws) (old new : Seen) (start : State) (worn : Bool) (entry
       c.own
       ∙ ap (λ n. old.own ++ n ∷ []) (sym (turns_length start c.log) ∙ ap length (ap (turns_of start) c.later.1 ∙ turns_append start old.seen rest))
 
+  -- between the two, the policy and the settings stayed
+  stays : Stays ahead c.before
+  stays =
+      let P : State → Type 0 = λ x. Stays (state_behind x old.seen) c.before in
+      subst P is (laws.since c.opening c.before c.log old.seen c.replays (rest, c.later.1, c.led h.leads))
+
+  -- there is room still behind what others did
+  has_room : HasRoomFor entry ahead → reply ≢ Overload
+  has_room room = finds_room c.before entry reply c.behind (room_stays entry ahead c.before stays room) c.step.steps
+
   alone : old.parts ≡ 1024 → turns_of ahead rest ≡ []
   alone all = ap (turns_of ahead) (nothing_behind old.seen rest (sym c.later.1 ∙ c.alone all))
 
-  pub enters : (p q : TableId) (name : ℕ) (mark : Seen) → q ≡ p → new.parts ≡ old.parts
+  pub enters : HasRoomFor entry ahead → (p q : TableId) (name : ℕ) (mark : Seen) → q ≡ p → new.parts ≡ old.parts
       → Enters (view_by p name old mark start worn) entry reply (view_by q name new mark start worn)
-  enters p q name mark there parts = record {
+  enters room p q name mark there parts = record {
     others = turns_of ahead rest;
     allowed = allowed;
     between = c.before;
     meanwhile = meanwhile;
     made = made;
+    room = has_room room;
     past = past;
     own = own;
     small = c.small;
@@ -99,6 +113,13 @@ module _ (laws : DeskLaws) (old new : Seen) (start : State) (worn : Bool) (entry
         ∙ append_assoc mark.seen begun.0 (rest ++ event entry reply c.behind ∷ [])),
   )
 
+  -- and no reply told that too many packets wait
+  pub is_roomy : HasRoomFor entry ahead → NoneOverflowed old.seen → NoneOverflowed new.seen
+  is_roomy room none =
+      let between = calls_find_room old.seen rest (state_behind c.opening old.seen) c.before (c.led h.leads) c.meanwhile in
+      let log = subst NoneOverflowed (sym c.later.1) (none_append old.seen rest none between) in
+      subst NoneOverflowed (sym c.seen) (none_append c.log (event entry reply c.behind ∷ []) log (has_room room, tt))
+
   legal : Replays Turns start new.seen (state_behind start new.seen)
   legal =
       let run = c.legal.1 in
@@ -108,12 +129,6 @@ module _ (laws : DeskLaws) (old new : Seen) (start : State) (worn : Bool) (entry
 
   pub is_desk : new.leads ≡ old.leads → worn ≡ false → IsDesk new start worn
   is_desk leads well = record { leads = leads ∙ h.leads; opens = opens ∙ h.opens; sound = h.sound; legal = legal; full = λ full. absurd (let is = well in let other = full in cc) }
-
-  -- between the two, the policy and the settings stayed
-  stays : Stays ahead c.before
-  stays =
-      let P : State → Type 0 = λ x. Stays (state_behind x old.seen) c.before in
-      subst P is (laws.since c.opening c.before c.log old.seen c.replays (rest, c.later.1, c.led h.leads))
 
   pub is_told : (learning : Bool) (budget : ℕ) → IsTold learning budget ahead → IsTold (told_by (is_new_state reply) entry learning) budget (state_behind start new.seen)
   is_told learning budget t =

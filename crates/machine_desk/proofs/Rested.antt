@@ -37,7 +37,7 @@ module _ (laws : DeskLaws) (old new : PassView) (reply : Reply) (leads : IsTrue 
   }
 
   taken : Enters (view_by place 0 old old start false) entries.TakeReport reply (view_by place 0 new old start false)
-  taken = enters laws old new start false entries.TakeReport reply desk stays c place place 0 old refl parts
+  taken = enters laws old new start false entries.TakeReport reply desk stays c tt place place 0 old refl parts
 
 module _ (laws : DeskLaws) (old new : PassView) (leads : IsTrue old.leads) (stays : new.opening ≡ old.opening) (parts : new.parts ≡ old.parts) (from to : SinkView) where
   pub rest_whole : (text : List ℕ) → Calls Turns Allows old entries.TakeReport (replies.Lines text) new → Wrote from to text → RestBy (Ok tt) old new from to

@@ -3,15 +3,15 @@ use Rattle.std.specs.Prelude.{◌≡◌, ◌≢◌, ℕ, ◌^◌, ◌<◌, ◌�
 use Rattle.std.specs.List.{AllByRecursion}
 use Rattle.atomic_table.specs.Seated.{TableId}
 use Rattle.history_lock.specs.declared.view.Known.{Known}
-use Rattle.history_lock.specs.Histories.{AllAt, AreAllowed, Replays, StartsWith, state_behind}
+use Rattle.history_lock.specs.Histories.{AllAt, AreAllowed, Replays, StartsWith, event, state_behind}
 use Rattle.machine_steps.specs.declared.entry.Entry.{Entry}
 use Rattle.machine_steps.specs.declared.entry.Entry.TheVariants.{NewPolicy}
 use Rattle.machine_steps.specs.declared.reply.Reply.{Reply}
-use Rattle.machine_steps.specs.declared.reply.Reply.TheVariants.{NoMemory}
+use Rattle.machine_steps.specs.declared.reply.Reply.TheVariants.{NoMemory, Overload}
 use Rattle.machine_steps.specs.Histories.{IsTurn, Leads, Turn}
 use Rattle.machine_steps.specs.Machine.{State}
 use Rattle.machine_steps.specs.Sound.{IsSound}
-use Rattle.machine_sharing.specs.Legal.{call_of, turns_of}
+use Rattle.machine_sharing.specs.Legal.{call_of, turn_of, turns_of}
 use Rattle.machine_sharing.specs.Sharing.{Call, Allows, Turns}
 
 -- what no entry changes: which hall it is, by which reference its pass was lent, the machine as it was when the hall was opened, the parts of the pass, and
@@ -76,17 +76,27 @@ pub record HadMemory (seen : List Call) (own : List ℕ) : Type 0 where
 abbrev pub IsMemoryTold : Bool → Known State Entry Reply → Type 0
 IsMemoryTold lacked k = lacked ≡ false → HadMemory k.seen k.own
 
+-- no reply of these calls tells that too many packets wait
+abbrev pub NoneOverflowed : List Call → Type 0
+NoneOverflowed calls = AllByRecursion (λ (e : Call). e.reply ≢ Overload) calls
+
+-- the same of turns
+abbrev pub NoneOverflows : List Turn → Type 0
+NoneOverflows turns = AllByRecursion (λ (t : Turn). t.reply ≢ Overload) turns
+
 -- all of it, of what a pass knows, which has seen all that it had seen at the mark
 abbrev pub IsLed : Known State Entry Reply → Known State Entry Reply → State → Bool → Bool → Bool → ℕ → Type 0
 IsLed mark k start worn lacked learning budget =
-    IsDesk k start worn × IsTold learning budget (state_behind start k.seen) × StartsWith k.seen mark.seen × IsMemoryTold lacked k
+    IsDesk k start worn × IsTold learning budget (state_behind start k.seen) × StartsWith k.seen mark.seen × IsMemoryTold lacked k × NoneOverflowed k.seen
 
--- the desk's machine is sound, and its turns are a legal history of the one that it was at first, which begins with those ahead of the mark
+-- the desk's machine is sound, and its turns are a legal history of the one that it was at first, which begins with those ahead of the mark; there was room for
+-- each packet that came
 pub record DeskLaw (d : DeskView) : Type 0 where
   pub sound : IsSound d.now
   pub legal : Leads d.footing.start d.past d.now
   pub begins : StartsWith d.past d.footing.marked
   pub full : d.worn ≡ true → 2 ^ 62 ≤ d.number
+  pub room : NoneOverflows d.past
 
 -- ---- an entry
 
@@ -94,15 +104,16 @@ abbrev pub calls_of : List Turn → List Call
 calls_of turns = map call_of turns
 
 abbrev pub turn : State → Entry → Reply → State → Turn
-turn before entry reply behind = record { before = before; entry = entry; reply = reply; behind = behind }
+turn before entry reply behind = turn_of before (event entry reply behind)
 
--- others did what they may, and then the entry was made, once by this desk; who has all parts has nobody beside
+-- others did what they may, and then the entry was made, once by this desk, and there was room for it; who has all parts has nobody beside
 pub record Enters (a : DeskView) (entry : Entry) (reply : Reply) (b : DeskView) : Type 0 where
   pub others : List Turn
   pub allowed : AreAllowed Allows (calls_of a.past) (calls_of others)
   pub between : State
   pub meanwhile : Leads a.now others between
   pub made : IsTurn (turn between entry reply b.now)
+  pub room : reply ≢ Overload
   pub past : b.past ≡ (a.past ++ others) ++ turn between entry reply b.now ∷ []
   pub own : b.own ≡ a.own ++ length (a.past ++ others) ∷ []
   pub small : b.number < 2 ^ 62

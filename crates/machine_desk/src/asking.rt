@@ -3,6 +3,7 @@ ghost use Rattle.std.specs.Prelude.{◌≡◌, IfErr, IfOk, OnOk};
 ghost use Rattle.machine_moves.specs.Told.{is_new_state};
 ghost use Rattle.machine_steps.specs.Admitting.{Admits, IsOperators};
 ghost use Rattle.machine_steps.specs.declared.entry.Entry.TheVariants as entries;
+ghost use Rattle.machine_desk.specs.Arriving.{HasRoomFor};
 ghost use Rattle.machine_desk.specs.Orders.{Asked, Asks, Changes, Renews, Stops, StopsRenewing};
 
 use crate::Desk;
@@ -29,6 +30,7 @@ impl<'h> Desk<'h> {
     /// `NoMemory`, as the machine replies; `Worn`.
     pub fn ask<R: Wait>(&mut self, rt: &R, entry: Entry) -> Result<Reply, DeskStop>
         requires admits { Admits self.old.now entry }
+        requires room { HasRoomFor entry self.old.now }
         ensures ok { IfOk result (λ reply. Asks entry reply self.old self.new) }
         ensures stops { IfErr result (λ stop. Stops stop entry self.old self.new) }
         ensures footing { self.new.footing ≡ self.old.footing }

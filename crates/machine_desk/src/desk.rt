@@ -4,6 +4,7 @@ ghost use Rattle.history_lock.specs.Passes.{IsPassOf, hall as place_of, known, l
 ghost use Rattle.machine_moves.specs.Told.{is_new_state};
 ghost use Rattle.machine_steps.specs.Admitting.{Admits};
 ghost use Rattle.machine_sharing.specs.Legal.{turns_of};
+ghost use Rattle.machine_desk.specs.Arriving.{HasRoomFor};
 ghost use Rattle.machine_desk.specs.Openings.{IsAhead};
 ghost use Rattle.machine_desk.specs.Desks.{DeskLaw, Enters, HadMemory, WearsOut, calls_of, learning_behind, view_by};
 ghost use Rattle.machine_desk.specs.Working.{Works};
@@ -78,13 +79,15 @@ impl<'h> Desk<'h> {
         }
     }
 
-    /// The machine does what an entry asks. Others may have used it since the last one.
+    /// The machine does what an entry asks. Others may have used it since the last one, but never so that a packet that there
+    /// was room for finds none.
     ///
     /// # Errors
     ///
     /// `Worn`, from the first time on: nothing was made.
     pub fn enter<R: Wait>(&mut self, rt: &R, entry: Entry) -> Result<Reply, Worn>
         requires admits { Admits self.old.now entry }
+        requires room { HasRoomFor entry self.old.now }
         ensures ok { IfOk result (λ reply. Enters self.old entry reply self.new) }
         ensures worn { OnErr result (WearsOut self.old self.new) }
         ensures again { OnOk result (self.old.worn ≡ false) }
@@ -158,7 +161,8 @@ impl<'h> Desk<'h> {
         !self.lacked
     }
 
-    /// What holds of each desk: its machine is sound, its turns are a legal history, and a worn one has read so.
+    /// What holds of each desk: its machine is sound, its turns are a legal history in which no packet found too many waiting,
+    /// and a worn one has read so.
     pub fn law(&self)
         ensures { DeskLaw self.now }
     {

@@ -4,6 +4,7 @@ ghost use Rattle.machine_moves.specs.Told.{is_end};
 ghost use Rattle.machine_steps.specs.Admitting.{IsHeard};
 ghost use Rattle.machine_steps.specs.declared.entry.Entry.TheVariants as entries;
 ghost use Rattle.machine_steps.specs.Machine.{was_opened};
+ghost use Rattle.machine_desk.specs.Arriving.{TakesIn};
 ghost use Rattle.machine_desk.specs.Desks.{WearsOut};
 ghost use Rattle.machine_desk.specs.Hearing.{Closes, Hears, IsStaged, Opens, came_of, goes_on, heard_by, stage_heard, stage_opened, was_begun};
 ghost use Rattle.machine_desk.specs.Orders.{Stops};
@@ -80,7 +81,7 @@ impl<'h> Desk<'h> {
         Ok(())
     }
 
-    /// The machine hears an input of a connection, which may end its session.
+    /// The machine hears an input of a connection, which may end its session. Where a packet comes with it there is room for one.
     ///
     /// # Errors
     ///
@@ -92,6 +93,7 @@ impl<'h> Desk<'h> {
         input: Input,
     ) -> Result<Heard, DeskStop>
         requires heard { IsHeard input }
+        requires room { TakesIn input self.old.now }
         ensures ok { IfOk result (λ heard. Hears input heard self.old inbound.old self.new inbound.new) }
         ensures staged { OnOk result (IsStaged inbound.old self.old.now → IsStaged inbound.new self.new.now) }
         ensures stops { IfErr result (λ stop. Stops stop (entries.Heard inbound.old.connection input) self.old self.new) }

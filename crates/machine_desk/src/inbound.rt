@@ -1,7 +1,7 @@
 // What comes of one connection.
-ghost use Rattle.std.specs.Prelude.{◌≡◌, IfOk, IfSome, OnErr, OnOk, None};
+ghost use Rattle.std.specs.Prelude.{◌≡◌, ◌≤◌, IfOk, IfSome, OnErr, OnOk, None, length};
 ghost use Rattle.of10_stream.specs.declared.reassembly.Next.TheVariants as answers;
-ghost use Rattle.of10_stream.specs.Steps.{Tells, beginning};
+ghost use Rattle.of10_stream.specs.Steps.{Tells, beginning, stored};
 ghost use Rattle.machine_steps.specs.Admitting.{IsHeard};
 ghost use Rattle.machine_desk.specs.declared.inbound.Stage.TheVariants.{Unopened};
 ghost use Rattle.machine_desk.specs.Hearing.{Comes, Feeds, IsSameSession, LacksMemoryFor, told_as};
@@ -69,6 +69,8 @@ impl Inbound {
         ensures err { OnErr result (self.new.from.stream ≡ self.old.from.stream) }
         ensures whole { OnErr result (self.old.from.stream.broken ≡ None) }
         ensures session { IsSameSession self.old self.new }
+        ensures given_back { OnOk result (self.new.from.done ≤ length self.new.from.stream.rest) }
+        ensures stored { OnErr result (stored self.new.from ≤ stored self.old.from) }
     {
         self.from.feed(piece)
     }
@@ -83,6 +85,7 @@ impl Inbound {
         ensures comes { IfOk result (λ found. Comes found self.old self.new) }
         ensures heard { IfOk result (λ found. IfSome found IsHeard) }
         ensures memory { OnErr result (LacksMemoryFor self.old self.new) }
+        ensures stored { stored self.new.from ≤ stored self.old.from }
     {
         match self.stage {
             Stage::Live => next_input(&mut self.from),
@@ -96,6 +99,7 @@ fn next_input(from: &mut Reassembly) -> Result<Option<Input>, NoMemory>
     ensures tells { IfOk result (λ found. Tells (told_as found) from.old.stream from.new.stream) }
     ensures heard { IfOk result (λ found. IfSome found IsHeard) }
     ensures memory { OnErr result (Tells answers.NoMemory from.old.stream from.new.stream) }
+    ensures stored { stored from.new ≤ stored from.old }
 {
     match from.next() {
         Next::Message(message) => Ok(Some(Input::Message(message))),

@@ -4,7 +4,7 @@ ghost use Rattle.machine_steps.specs.Sound.{AreInRange};
 use core_machine::{Core, Entry, JobItem, Reply};
 use device_port::Device;
 use maple_base::{Settings, Turned};
-use model_switch::{Backward, Failing, Logged, Orderly, Shuffled};
+use model_switch::{Backward, Failing, Liar, Logged, Orderly, Refusing, Shuffled};
 use policy_text::read_policy;
 use std::alloc::Global;
 use std::test::Fail;
@@ -101,6 +101,8 @@ fn devices(rt: HostRuntime) -> Result<(), Fail> {
     assert!(&rt; rests(&rt, alloc, Logged::new(alloc, orderly(alloc))));
     assert!(&rt; rests(&rt, alloc, Backward::new(alloc, 1, 3, 2)));
     assert!(&rt; rests(&rt, alloc, Failing::new(orderly(alloc), Vec::new(alloc))));
+    assert!(&rt; rests(&rt, alloc, Refusing::new(orderly(alloc), Vec::new(alloc))));
+    assert!(&rt; rests(&rt, alloc, Liar::new(orderly(alloc), 1, Vec::new(alloc))));
     assert!(&rt; rests(&rt, alloc, Shuffled::new(alloc, 1, 3, 2, 7)));
     let boxed: Box<dyn Device + Send> = Box::new(alloc, orderly(alloc))?;
     assert!(&rt; rests(&rt, alloc, boxed));

@@ -96,9 +96,9 @@ to_end end h = absurd h
 right_report : (end : SimEnd) (g : SimGiven) (after : List Meaning) (history : List Turn) (report : List ℕ) → AllKeep g.devices → is_whole (end_of end) ≡ true → EndsBy end g after history report
     → IsRightReport g report
 right_report sims.Done g after history report keep to e =
-    record { after = after; history = history; followed = e.ends; memory = e.memory refl; world = e.ends.run.world keep }
+    record { after = after; history = history; followed = e.ends; smooth = e.smooth; world = e.ends.run.world keep }
 right_report (sims.Script line kind) g after history report keep to e =
-    record { after = after; history = history; followed = e.ends; memory = e.memory refl; world = e.ends.run.world keep }
+    record { after = after; history = history; followed = e.ends; smooth = e.smooth; world = e.ends.run.world keep }
 right_report end g after history report keep to e = absurd (cc)
 
 right_of : (command : Command) (end : ServeEnd) (policy : Policy) (texts : Texts) (board : BoardView) (after : Switches) (report : List ℕ) → is_whole end ≡ true
@@ -230,6 +230,7 @@ never_run source old board words = record {
   read_fault = λ e. absurd (let no = e in cc);
   spares = record {
     reads_spared = λ u. absurd u;
+    reads_count = omega arith;
     write_fault = λ e. absurd (let no = e in cc);
     writes_spared = λ other. refl;
     board_fault = λ e. absurd (let no = e in cc);

@@ -1,5 +1,5 @@
 -- What a run of the program over its own devices has read and written.
-use Rattle.std.specs.Prelude.{◌≡◌, ◌≢◌, ℕ, zero, suc, true, None, List, [], ◌∷◌, ◌++◌, length}
+use Rattle.std.specs.Prelude.{◌≡◌, ◌≢◌, ◌≤◌, ℕ, zero, suc, true, None, List, [], ◌∷◌, ◌++◌, length}
 use Rattle.maple_io.specs.Answers.{ends as tells_end, fails, given}
 use Rattle.maple_io.specs.declared.act.Act.{Act}
 use Rattle.maple_io.specs.declared.answer.Answer.{Answer}
@@ -12,7 +12,8 @@ use Rattle.device_port.specs.Devices.{Meaning}
 use Rattle.machine_steps.specs.Histories.{Turn}
 use Rattle.model_switch.specs.States.{meaning_of, opened}
 use Rattle.sim_laws.specs.Laws.{AreWorldRun}
-use Rattle.sim_driver.specs.Runs.{AllHadMemory, Given as SimGiven, IsFollowed, given as sim_given}
+use Rattle.sim_steps.specs.Ends.{IsSmooth}
+use Rattle.sim_driver.specs.Runs.{Given as SimGiven, IsFollowed, given as sim_given}
 use Rattle.serve_steps.specs.declared.end.ServeEnd.{ServeEnd}
 use Rattle.serve_steps.specs.Parts.{given as serve_given}
 use Rattle.serve_steps.specs.Runs.{HasEnded as HasServeEnded}
@@ -44,12 +45,12 @@ program_devices = devices_to 64
 -- ---- what is right
 
 -- the report is that of deeds that follow the script, up to its end or its first refused line. The deeds are a run of the world, which is right: each rule
--- that a ready session's switch hits decides as plain evaluation does; memory sufficed for each turn of the machine
+-- that a ready session's switch hits decides as plain evaluation does; no packet found too many others waiting, and memory sufficed for each turn of the machine
 pub record IsRightReport (g : SimGiven) (report : List ℕ) : Type 0 where
   pub after : List Meaning
   pub history : List Turn
   pub followed : IsFollowed g after history report
-  pub memory : AllHadMemory history
+  pub smooth : IsSmooth true history
   pub world : AreWorldRun g.policy g.settings g.devices followed.events followed.last
 
 -- the report of a command that came to its end, or to a refused line, while the board did this
@@ -95,6 +96,7 @@ ResultsIn result words heard before after text =
 -- or the board with a status that can't stand behind one. The board is called by `serve` alone
 pub record Spares (source left : SourceView) (old new : SinkView) (before after : BoardView) (words : List (List ℕ)) (result : Status) : Type 0 where
   pub reads_spared : IsUnhindered result → NoReadFailed source left
+  pub reads_count : source.failed ≤ left.failed
   pub write_fault : result ≡ status.WriteFault → WriteFailed old new
   pub writes_spared : result ≢ status.WriteFault → NoWriteFailed old new
   pub board_fault : result ≡ status.BoardFault → BoardFailed before after

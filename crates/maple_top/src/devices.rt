@@ -1,5 +1,5 @@
 // The devices of the program.
-ghost use Rattle.std.specs.Prelude.{◌≡◌, ◌++◌, [], ◌∷◌, OnOk, map};
+ghost use Rattle.std.specs.Prelude.{◌≡◌, ◌++◌, [], ◌∷◌, OnErr, OnOk, map};
 ghost use Rattle.model_switch.specs.Meanings.{of_shuffled};
 ghost use Rattle.sim_steps.specs.Showing.{AllIdle};
 ghost use Rattle.maple_top.specs.Program.{device_at};
@@ -23,6 +23,7 @@ pub fn push_idle<D: Device>(all: &mut Vec<D>, device: D) -> Result<(), AllocErro
     requires device { (D.meaning device).pending ≡ [] }
     ensures pushed { OnOk result (all.new.items ≡ all.old.items ++ device ∷ []) }
     ensures idle { OnOk result (AllIdle (map D.meaning all.new.items)) }
+    ensures kept { OnErr result (all.new.items ≡ all.old.items) }
 {
     all.push(device)?;
     Ok(())

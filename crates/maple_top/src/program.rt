@@ -1,5 +1,5 @@
 // The program, from a reader to a writer of std.
-ghost use Rattle.std.specs.Prelude.{◌≡◌, ◌≢◌, ◌+◌, [], true, length, map, IfOk, OnErr, OnOk};
+ghost use Rattle.std.specs.Prelude.{◌≡◌, ◌≢◌, ◌≤◌, ◌+◌, [], true, length, map, IfOk, OnErr, OnOk};
 ghost use Rattle.maple_base.specs.Counts.{HasRisen};
 ghost use Rattle.maple_io.specs.Adapters.{answers_of, read_faults, took_of, write_faults};
 ghost use Rattle.maple_io.specs.Answers.{fails, given};
@@ -61,6 +61,7 @@ pub fn run_program<R: Threads + Wait + Copy + Send + Sync, I: Read, W: Write, B:
     // A fault is one of the reader, the writer or the board.
     ensures read_fault { result ≡ Status.ReadFault → HasRisen (read_faults input.old) (read_faults input.new) }
     ensures reads_spared { IsUnhindered result → read_faults input.new ≡ read_faults input.old }
+    ensures reads_count { read_faults input.old ≤ read_faults input.new }
     ensures write_fault { result ≡ Status.WriteFault → HasRisen (write_faults output.old) (write_faults output.new) }
     ensures writes_spared { result ≢ Status.WriteFault → write_faults output.new ≡ write_faults output.old }
     ensures board_fault { result ≡ Status.BoardFault → BoardFailed (B.tells board.old) (B.tells board.new) }

@@ -1,7 +1,7 @@
 // Switches of a board are served.
 ghost use Rattle.std.specs.Prelude.{◌≡◌, ◌≢◌, ◌≤◌};
 ghost use Rattle.command_words.specs.declared.words.Command.{Command};
-ghost use Rattle.desk_jobs.specs.Crews.{most_workers};
+ghost use Rattle.machine_desk.specs.Crews.{most_workers};
 ghost use Rattle.machine_steps.specs.Sound.{AreInRange};
 ghost use Rattle.maple_io.specs.Boards.{BoardFailed, NoBoardFailed};
 ghost use Rattle.maple_io.specs.Views.{NoWriteFailed, WriteFailed};

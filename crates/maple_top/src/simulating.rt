@@ -1,7 +1,7 @@
 // A script is run over devices.
 ghost use Rattle.std.specs.Prelude.{◌≡◌, ◌≢◌, ◌+◌, ◌<◌, ◌≤◌, ◌^◌, ℕ, length, map};
 ghost use Rattle.command_words.specs.declared.words.Command.{Command};
-ghost use Rattle.desk_jobs.specs.Crews.{most_workers};
+ghost use Rattle.machine_desk.specs.Crews.{most_workers};
 ghost use Rattle.gen_script.specs.Summary.{summary_of};
 ghost use Rattle.machine_steps.specs.Sound.{AreInRange};
 ghost use Rattle.maple_io.specs.Views.{NoWriteFailed, WriteFailed};

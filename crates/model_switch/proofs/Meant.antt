@@ -31,8 +31,9 @@ use Rattle.device_port.specs.Switches.Step.{Process, Refuse, Answer}
 use Rattle.device_port.specs.Devices.{Call, with_call, Goes, Fails, SpellAmongFree, Steps, Offers, Turns, Packets}
 use Rattle.device_port.specs.Devices.Call.{Offered, Turning, Looking}
 use Rattle.model_switch.specs.Answers.{reply_of, refusal, is_full, overfills, overfills_by, answer_to, IsWritten, TableBehind, Sees, packet_in}
-use Rattle.model_switch.specs.States.{State, free_count, IsNext, IsOffered, TurnsAt, meaning_of}
+use Rattle.model_switch.specs.States.{State, free_count, IsNext, IsOffered, TurnsAt, RefusesMod, meaning_of}
 use Rattle.model_switch.specs.Faults.{TurnsUnlessFailed, SeesUnlessFailed}
+use Rattle.model_switch.specs.Refusals.{TurnsBy}
 use Rattle.model_switch.proofs.Lists.{NoBarrier, free_apart}
 
 -- a call that was answered stands behind the others, and one without memory left nothing
@@ -237,6 +238,33 @@ turns_meant place (Refused xid) bytes s t faults old new next d logs =
     )
 turns_meant place FailedTurn bytes s t faults old new next h logs = absurd h
 turns_meant place NoMemoryTurn bytes s t faults old new next h logs = (stays faults old new s t h.1 (logs.lacking refl), h.0)
+
+-- ---- turns that refuse
+
+refused_first : (s t : State) (xid : ℕ) (bytes : List ℕ) → RefusesMod xid s bytes t → Turns (Refused xid) bytes (meaning_of 0 None s) (meaning_of 0 None t)
+refused_first s t xid bytes d =
+    let m = d.message in
+    let rest = ap (λ (x : State). x.pending) d.now_is in (
+      goes (Turning (Refused xid) bytes) 0 None None s t (ap (λ (x : State). x.dpid) d.now_is) refl,
+      one_less [] d.behind m s.pending t.pending d.first rest,
+      λ k. (
+        m,
+        sym d.id,
+        record {
+          behind = record { dpid = s.dpid; table = s.table.rules; pending = d.behind; sent = message m.xid refusal ∷ [] };
+          does = record { ahead = []; behind = d.behind; stands = record { place = d.first; free = tt }; change = d.change; kind = 3; code = 0; bytes = []; now_is = refl };
+          table = ap (λ (x : State). x.table.rules) d.now_is;
+          pending = rest;
+          spell = spelled_out (Some (message m.xid refusal)) bytes d.says;
+        },
+      ),
+    )
+
+pub refusing_meant : (due : Bool) (answer : Turned) (bytes : List ℕ) (s t : State) → TurnsBy due s answer bytes t → Turns answer bytes (meaning_of 0 None s) (meaning_of 0 None t)
+refusing_meant true (Refused xid) bytes s t h = refused_first s t xid bytes h
+refusing_meant true NoMemoryTurn bytes s t h = (ap (λ (x : State). meaning_of 0 None x) h.1, h.0)
+refusing_meant true answer bytes s t h = absurd h
+refusing_meant false answer bytes s t h = turns_meant 0 answer bytes s t 0 None None (omega arith) h (record { lacking = λ e. refl; answered = λ f. refl })
 
 -- ---- packets
 

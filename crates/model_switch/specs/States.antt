@@ -1,14 +1,14 @@
 -- What is seen of a model switch, and what its calls do.
-use Rattle.std.specs.Prelude.{◌≡◌, ℕ, ◌<◌, ◌-◌, suc, max, true, if◌then◌else◌, List, [], ◌∷◌, ◌++◌, length, Option}
+use Rattle.std.specs.Prelude.{◌≡◌, ℕ, ◌<◌, ◌-◌, suc, max, Bool, true, false, if◌then◌else◌, List, [], ◌∷◌, ◌++◌, length, Option, Some}
 use Rattle.maple_base.specs.declared.device.Turned.{Turned}
-use Rattle.maple_base.specs.declared.device.Turned.TheVariants.{Nothing, Failed as FailedTurn, NoMemory as NoMemoryTurn}
+use Rattle.maple_base.specs.declared.device.Turned.TheVariants.{Nothing, Refused, Failed as FailedTurn, NoMemory as NoMemoryTurn}
 use Rattle.flow_table.specs.Tables.{Entries}
 use Rattle.of10_codec.specs.declared.message.Message.{Message}
 use Rattle.device_port.specs.declared.device.Took.{Took}
 use Rattle.device_port.specs.declared.device.Took.TheVariants.{Taken, Failed as FailedOffer, NoMemory as NoMemoryOffer}
-use Rattle.device_port.specs.Switches.{is_barrier}
+use Rattle.device_port.specs.Switches.{is_barrier, is_flow_mod, message as said}
 use Rattle.device_port.specs.Devices.{Meaning, Call, IsOffer}
-use Rattle.model_switch.specs.Answers.{Carries}
+use Rattle.model_switch.specs.Answers.{Carries, refusal, IsWritten}
 
 -- its datapath id, how many ports it has, its flow table, and the messages that wait, in order
 pub record State : Type 0 where
@@ -60,6 +60,27 @@ TurnsAt place s Nothing bytes t = (s.pending ≡ []) × (bytes ≡ []) × (t ≡
 TurnsAt place s FailedTurn bytes t = ⊥
 TurnsAt place s NoMemoryTurn bytes t = (bytes ≡ []) × (t ≡ s)
 TurnsAt place s answer bytes t = DealsAt place s answer bytes t
+
+-- the first message is a flow mod
+abbrev pub is_mod_first : List Message → Bool
+is_mod_first [] = false
+is_mod_first (m ∷ ms) = is_flow_mod m.body
+
+-- the first message is a flow mod and goes, by the ERROR of a full table with its id; the table stays
+pub record RefusesMod (xid : ℕ) (s : State) (bytes : List ℕ) (t : State) : Type 0 where
+  pub message : Message
+  pub behind : List Message
+  pub first : s.pending ≡ message ∷ behind
+  pub change : is_flow_mod message.body ≡ true
+  pub id : xid ≡ message.xid
+  pub says : IsWritten (Some (said message.xid refusal)) bytes
+  pub now_is : t ≡ record s { pending = behind }
+
+-- a turn that refuses the first message, unless memory ran out
+abbrev pub RefusesFirst : State → Turned → List ℕ → State → Type 0
+RefusesFirst s (Refused xid) bytes t = RefusesMod xid s bytes t
+RefusesFirst s NoMemoryTurn bytes t = (bytes ≡ []) × (t ≡ s)
+RefusesFirst s answer bytes t = ⊥
 
 -- what a device means that is such a switch, with this count of faults, and these calls where it tells them
 abbrev pub meaning_of : ℕ → Option (List Call) → State → Meaning

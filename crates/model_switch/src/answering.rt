@@ -112,7 +112,8 @@ fn apply(xid: u32, change: &TableMod, table: &mut Table, out: &mut Vec<u8>) -> T
     }
 }
 
-fn refuse(xid: u32, out: &mut Vec<u8>) -> Turned
+/// Appends that there is no room.
+pub fn refuse(xid: u32, out: &mut Vec<u8>) -> Turned
     ensures { Appends out.old.items out.new.items (λ bytes. Refuses xid result bytes) }
 {
     let body = BodyRef::Error {

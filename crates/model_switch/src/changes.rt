@@ -1,6 +1,6 @@
 // What messages are, to a switch.
 ghost use Rattle.std.specs.Prelude.{◌≡◌};
-ghost use Rattle.device_port.specs.Switches.{is_barrier, is_plain, change_by, change_of};
+ghost use Rattle.device_port.specs.Switches.{is_barrier, is_flow_mod, is_plain, change_by, change_of};
 
 use maple_base::openflow::{ADD, DELETE, DELETE_STRICT, NO_BUFFER, NO_PORT};
 use maple_base::{Match, Rule, TableMod};
@@ -11,6 +11,13 @@ pub fn is_barrier(body: &Body) -> bool
     ensures { result ≡ is_barrier body.now }
 {
     matches!(body, Body::BarrierRequest)
+}
+
+/// Whether a message is a flow mod.
+pub fn is_flow_mod(body: &Body) -> bool
+    ensures { result ≡ is_flow_mod body.now }
+{
+    matches!(body, Body::FlowMod { .. })
 }
 
 /// The change that a message asks for, of those that a switch here knows.

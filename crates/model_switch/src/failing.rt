@@ -52,6 +52,7 @@ impl Failing {
     // Counts a call that fails.
     fn fail(&mut self)
         ensures inner { self.new.inner ≡ self.old.inner }
+        ensures list { self.new.fails.items ≡ self.old.fails.items }
         ensures calls { self.new.calls ≡ next_count self.old.calls }
         ensures faults { self.new.faults ≡ next_count self.old.faults }
         ensures grown { self.old.faults ≤ self.new.faults }
@@ -71,7 +72,10 @@ impl Device for Failing {
         requires { (x : Message) × IsOffer x message.now }
         ensures meets { Offers message.now result (of_failing self.old) (of_failing self.new) }
         ensures just { (result ≡ took.Failed → ⊥) → IsOffered message.now result self.old.inner.switch self.new.inner.switch }
+        ensures kept { result ≡ took.Failed → self.new.inner.switch ≡ self.old.inner.switch }
         ensures fails { FailsJust result took.Failed took.NoMemory self.old.fails.items self.old.calls self.new.calls }
+        ensures list { self.new.fails.items ≡ self.old.fails.items }
+        ensures counted { result ≡ took.Failed → self.new.faults ≡ next_count self.old.faults }
     {
         if self.is_due() {
             self.fail();
@@ -89,6 +93,8 @@ impl Device for Failing {
         ensures meets { Appends out.old.items out.new.items (λ bytes. Turns result bytes (of_failing self.old) (of_failing self.new)) }
         ensures just { Appends out.old.items out.new.items (λ bytes. TurnsUnlessFailed self.old.inner.switch result bytes self.new.inner.switch) }
         ensures fails { FailsJust result turned.Failed turned.NoMemory self.old.fails.items self.old.calls self.new.calls }
+        ensures list { self.new.fails.items ≡ self.old.fails.items }
+        ensures counted { result ≡ turned.Failed → self.new.faults ≡ next_count self.old.faults }
     {
         if self.is_due() {
             self.fail();
@@ -108,6 +114,8 @@ impl Device for Failing {
         ensures just { Appends out.old.items out.new.items (λ bytes. SeesUnlessFailed port frame.now self.old.inner.switch.table result bytes) }
         ensures kept { self.new.inner.switch ≡ self.old.inner.switch }
         ensures fails { FailsJust result seen.Failed seen.NoMemory self.old.fails.items self.old.calls self.new.calls }
+        ensures list { self.new.fails.items ≡ self.old.fails.items }
+        ensures counted { result ≡ seen.Failed → self.new.faults ≡ next_count self.old.faults }
     {
         if self.is_due() {
             self.fail();

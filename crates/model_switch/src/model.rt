@@ -1,8 +1,8 @@
 // A switch in memory.
-ghost use Rattle.std.specs.Prelude.{◌≡◌, ◌≤◌, length};
+ghost use Rattle.std.specs.Prelude.{◌≡◌, ◌≤◌, true, length};
 ghost use Rattle.of10_codec.specs.declared.message.Message.{Message};
 
-use crate::answering::carry_out;
+use crate::answering::{carry_out, refuse};
 use crate::looking::look_up;
 use crate::waiting::Waiting;
 use device_port::Took;
@@ -40,7 +40,7 @@ impl Model for ModelSwitch {
 impl ModelSwitch {
     ghost use Rattle.device_port.specs.Devices.{Appends, IsOffer};
     ghost use Rattle.model_switch.specs.Answers.{Sees};
-    ghost use Rattle.model_switch.specs.States.{opened, free_count, IsNext, IsOffered, TurnsAt};
+    ghost use Rattle.model_switch.specs.States.{opened, free_count, is_mod_first, IsNext, IsOffered, TurnsAt, RefusesFirst};
 
     pub fn new(alloc: Global, dpid: u64, ports: u16, capacity: u32) -> ModelSwitch
         requires { ports ≤ 1364 }
@@ -100,6 +100,32 @@ impl ModelSwitch {
         }
         self.waiting.take_out(place);
         answer
+    }
+
+    /// Whether the first message is a flow mod.
+    pub fn is_mod_first(&self) -> bool
+        ensures { result ≡ is_mod_first self.now.pending }
+    {
+        self.waiting.is_mod_first()
+    }
+
+    /// Refuses the first message, which is a flow mod: it goes, and the table stays.
+    pub fn refuse_first(&mut self, out: &mut Vec<u8>) -> Turned
+        requires { is_mod_first self.old.pending ≡ true }
+        ensures { Appends out.old.items out.new.items (λ bytes. RefusesFirst self.old result bytes self.new) }
+    {
+        let xid = self.waiting.get(0).xid;
+        let answer = refuse(xid, out);
+        if let Turned::NoMemory = answer {
+            return answer;
+        }
+        self.waiting.take_out(0);
+        answer
+    }
+
+    /// The allocator that it was made with.
+    pub fn alloc(&self) -> Global {
+        self.alloc
     }
 
     /// Looks a frame up.

@@ -50,6 +50,7 @@ impl Device for Shuffled {
         requires { (x : Message) × IsOffer x message.now }
         ensures meets { Offers message.now result (of_shuffled self.old) (of_shuffled self.new) }
         ensures just { IsOffered message.now result self.old.switch self.new.switch }
+        ensures undrawn { self.new.random ≡ self.old.random }
     {
         self.switch.offer(message)
     }
@@ -74,6 +75,7 @@ impl Device for Shuffled {
         ensures meets { Appends out.old.items out.new.items (λ bytes. Packets port frame.now result bytes (of_shuffled self.old) (of_shuffled self.new)) }
         ensures just { Appends out.old.items out.new.items (λ bytes. Sees port frame.now self.old.switch.table result bytes) }
         ensures kept { self.new.switch ≡ self.old.switch }
+        ensures undrawn { self.new.random ≡ self.old.random }
     {
         self.switch.packet(port, frame, out)
     }

@@ -4,9 +4,9 @@ ghost use Rattle.std.specs.List.{remove};
 ghost use Rattle.of10_codec.specs.declared.message.Message.{Message};
 ghost use Rattle.device_port.specs.Devices.{IsOfController};
 ghost use Rattle.device_port.specs.Switches.{is_barrier};
-ghost use Rattle.model_switch.specs.States.{free_count, IsNext};
+ghost use Rattle.model_switch.specs.States.{free_count, is_mod_first, IsNext};
 
-use crate::changes::is_barrier;
+use crate::changes::{is_barrier, is_flow_mod};
 use maple_base::NoMemory;
 use of10_codec::Message;
 use std::alloc::Global;
@@ -70,6 +70,16 @@ impl Waiting {
         ensures sent { IsOfController result.now.body }
     {
         &self.list[place]
+    }
+
+    /// Whether the first message is a flow mod.
+    pub fn is_mod_first(&self) -> bool
+        ensures { result ≡ is_mod_first self.now }
+    {
+        if self.len() == 0 {
+            return false;
+        }
+        is_flow_mod(&self.get(0).body)
     }
 
     /// Puts a message behind the others.

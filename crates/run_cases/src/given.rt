@@ -1,16 +1,22 @@
 // What a run is given besides its words and its input.
-use crate::devices::{Kind, kind_of};
+ghost use Rattle.std.specs.Prelude.{◌≡◌, [], IfOk};
+ghost use Rattle.model_switch.specs.Meanings.{of_liar};
+
+use crate::devices::{Kind, kind_of, liar};
 use case_text::{CaseStop, Words};
 use maple_base::NoMemory;
 use maple_top::DEVICES;
+use model_switch::Liar;
 use std::alloc::{AllocError, Global};
 
 /// Devices, and the numbers of the reads and of the writes that fail.
 #[derive(Drop)]
 pub struct Given {
+    alloc: Global,
     // Whether the devices are these kinds, and not the program's own.
     is_told: bool,
     kinds: Vec<Kind>,
+    lies: Vec<Vec<u8>>,
     pub reads: Vec<u64>,
     pub writes: Vec<u64>,
 }
@@ -19,8 +25,10 @@ impl Given {
     /// The program's own devices, and no faults.
     pub fn new(alloc: Global) -> Given {
         Given {
+            alloc,
             is_told: false,
             kinds: Vec::new(alloc),
+            lies: Vec::new(alloc),
             reads: Vec::new(alloc),
             writes: Vec::new(alloc),
         }
@@ -29,7 +37,8 @@ impl Given {
     /// One device more, behind those told so far.
     pub fn device(&mut self, call: Words<'_>) -> Result<(), CaseStop> {
         self.is_told = true;
-        self.kinds.push(kind_of(call)?)?;
+        let kind = kind_of(call, self.alloc, &mut self.lies)?;
+        self.kinds.push(kind)?;
         Ok(())
     }
 
@@ -48,6 +57,16 @@ impl Given {
             _ => return Err(CaseStop::Unread),
         }
         Ok(())
+    }
+
+    /// A liar, whose turn of the first number tells the lie of the second.
+    pub fn liar(&self, at: u64, lie: usize) -> Result<Liar, AllocError>
+        ensures { IfOk result (λ device. (of_liar device).pending ≡ []) }
+    {
+        match self.lies.get(lie) {
+            Some(bytes) => liar(self.alloc, at, bytes),
+            None => liar(self.alloc, at, &[]),
+        }
     }
 
     /// The devices, by their places.

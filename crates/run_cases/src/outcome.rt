@@ -1,5 +1,5 @@
 // What comes of a run.
-use crate::devices::{Kind, backward, failing, logged, orderly};
+use crate::devices::{Kind, backward, failing, logged, orderly, refusing};
 use crate::given::Given;
 use crate::words::words_of;
 use case_text::push_text;
@@ -60,6 +60,8 @@ pub fn outcome_of<R: Threads + Wait + Copy + Send + Sync>(
             Kind::Backward(n) => push_idle(&mut boxes, Box::new(alloc, backward(alloc, n))?)?,
             Kind::Logged(n) => push_idle(&mut boxes, Box::new(alloc, logged(alloc, n))?)?,
             Kind::Failing(call) => push_idle(&mut boxes, Box::new(alloc, failing(alloc, call)?)?)?,
+            Kind::Refusing(n) => push_idle(&mut boxes, Box::new(alloc, refusing(alloc, n)?)?)?,
+            Kind::Liar(n, lie) => push_idle(&mut boxes, Box::new(alloc, given.liar(n, lie)?)?)?,
         }
     }
     let status = maple(

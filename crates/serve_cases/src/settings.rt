@@ -1,10 +1,10 @@
 // The limits of a run.
 ghost use Rattle.std.specs.Prelude.{◌≤◌, IfOk};
 ghost use Rattle.machine_steps.specs.Sound.{AreInRange};
-ghost use Rattle.desk_jobs.specs.Crews.{most_workers};
+ghost use Rattle.machine_desk.specs.Crews.{most_workers};
 
 use case_text::CaseStop;
-use desk_jobs::MOST_WORKERS;
+use machine_desk::MOST_WORKERS;
 use maple_base::{MOST_BUDGET, Settings};
 
 /// Those of a command line without options.

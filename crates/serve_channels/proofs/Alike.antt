@@ -13,8 +13,9 @@ use Rattle.machine_steps.specs.declared.reply.Reply.TheVariants as replies
 use Rattle.machine_steps.specs.Histories.{Turn}
 use Rattle.machine_steps.specs.Machine.{State}
 use Rattle.sim_steps.specs.Agreeing.{AreCut}
-use Rattle.serve_steps.specs.Deeds.{Past, acts_of, bytes_of, ends, ends_by_link, has_failed, input_in, inputs_of, is_open, is_over, opens, opens_by, out_by, out_in, taken_of, tells_end, tells_link_end, was_accepted, was_cut}
+use Rattle.serve_steps.specs.Deeds.{Past, acts_of, bytes_of, ends, ends_by_link, has_failed, input_in, inputs_of, is_open, is_over, opens, out_by, out_in, taken_of, tells_end, tells_link_end, was_accepted, was_cut}
 use Rattle.serve_steps.specs.Deeds.Deed.{Enters}
+use Rattle.serve_steps.proofs.Heard.{open_if}
 use Rattle.serve_channels.specs.declared.connection.Connection.{Connection}
 use Rattle.serve_channels.specs.Keeping.{Agrees, IsForgotten, IsHeardTo, IsUnused, is_message}
 use Rattle.serve_channels.specs.Servers.{number_of}
@@ -151,17 +152,13 @@ is_about c (entries.Gone d fault) = d == c
 is_about c (entries.TakeOut d) = d == c
 is_about c entry = false
 
-opens_another : (c d : ℕ) (r : Reply) → (d == c) ≡ false → opens_by c (entries.Open d) r ≡ false
-opens_another c d replies.Done e = e
-opens_another c d r e = refl
-
 gives_another : (c d : ℕ) (r : Reply) → (d == c) ≡ false → out_by c (entries.TakeOut d) r ≡ []
 gives_another c d (replies.Out bytes) e = rw e refl
 gives_another c d r e = refl
 
 spared_by : (c : ℕ) (before behind : State) (e : Entry) (r : Reply) → is_about c e ≡ false
     → Spares c (record { before = before; entry = e; reply = r; behind = behind })
-spared_by c before behind (entries.Open d) r other = record { opens_not = opens_another c d r other; ends_not = and_left (d == c) (tells_end r) other; cuts_not = and_left (d == c) (tells_link_end r) other; hears_not = refl; gives_not = refl }
+spared_by c before behind (entries.Open d) r other = record { opens_not = open_if c d r other; ends_not = and_left (d == c) (tells_end r) other; cuts_not = and_left (d == c) (tells_link_end r) other; hears_not = refl; gives_not = refl }
 spared_by c before behind (entries.Heard d input) r other = record { opens_not = refl; ends_not = and_left (d == c) (tells_end r) other; cuts_not = and_left (d == c) (tells_link_end r) other; hears_not = rw other refl; gives_not = refl }
 spared_by c before behind (entries.Gone d fault) r other = record { opens_not = refl; ends_not = and_left (d == c) (tells_end r) other; cuts_not = and_left (d == c) (tells_link_end r) other; hears_not = refl; gives_not = refl }
 spared_by c before behind (entries.TakeOut d) r other = record { opens_not = refl; ends_not = refl; cuts_not = refl; hears_not = refl; gives_not = gives_another c d r other }

@@ -4,6 +4,8 @@ use Rattle.maple_io.specs.declared.act.Act.{Act}
 use Rattle.machine_desk.specs.Desks.{DeskLaw, DeskView}
 use Rattle.machine_desk.specs.Orders.{Asked, refusal}
 use Rattle.machine_desk.specs.Orders.{Renews as RenewsAtDesk}
+use Rattle.machine_desk.proofs.Tended.{same_by}
+use Rattle.machine_desk.proofs.Replies.{had_memory}
 use Rattle.machine_moves.specs.Told.{is_heard}
 use Rattle.machine_steps.specs.declared.entry.Entry.{Entry}
 use Rattle.machine_steps.specs.declared.entry.Entry.TheVariants as entries
@@ -18,14 +20,12 @@ use Rattle.serve_channels.specs.declared.connection.Connection.{Connection}
 use Rattle.serve_channels.specs.declared.server.Server.{Server}
 use Rattle.serve_channels.specs.Controlling.{Answers}
 use Rattle.serve_channels.specs.Keeping.{Goes}
-use Rattle.serve_channels.specs.Servers.{IsKnown, IsSame}
+use Rattle.serve_channels.specs.Servers.{IsKnown, IsSame, home}
 use Rattle.serve_channels.specs.Serving.{ServingLaws}
 use Rattle.serve_channels.proofs.Alike.{is_about}
 use Rattle.serve_channels.proofs.Entering.{at_desk, begins, is_over_now}
 use Rattle.serve_channels.proofs.Entries.{entry_jobs, goes_about_none, unheard}
-use Rattle.serve_channels.proofs.Kept.{same_desk}
 use Rattle.serve_channels.proofs.Others.{lawful}
-use Rattle.serve_channels.proofs.Replies.{had_memory}
 use Rattle.serve_channels.proofs.Stretching.{goes_then, went_nowhere}
 
 -- the board does nothing meanwhile
@@ -71,7 +71,7 @@ module _ (laws : ServingLaws) (a : Server) (d : DeskView) (law : DeskLaw a.desk)
   pub answered : (ask : Ask) (entry : Entry) → Asked entry a.desk d → IsOrder entry → IsEntryOf ask entry → AnswersBy (ask ∷ []) a b
   answered ask entry h is of log g before past kept pre =
       let enters = h.asks.enters in
-      let same : IsSame a b = same_desk a b refl enters.footing in
+      let same : IsSame a b = same_by home a b refl enters.footing in
       let others = entered enters.others [] in
       is_over_now (Answers (ask ∷ []) past) (goes_about_none laws (begins kept (lawful law)) b enters same
       (unheard a b enters None (others ++ past) is.own is.unheard refl (rw is.asked (had_memory h.reply h.asks.memory))) (unread entry h.reply is.asked) refl is.about)

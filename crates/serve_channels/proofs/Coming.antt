@@ -6,26 +6,29 @@ use Rattle.std.specs.List.{slice_get}
 use Rattle.maple_io.specs.declared.act.Act.{Act}
 use Rattle.of10_stream.specs.Cut.{IsOpen}
 use Rattle.machine_steps.specs.declared.entry.Input.{Input}
+use Rattle.machine_desk.specs.Arriving.{TakesIn}
 use Rattle.machine_desk.specs.Desks.{DeskLaw, DeskView}
 use Rattle.machine_desk.specs.Hearing.{Comes, IsSameSession, IsStaged, came_of, is_live}
-use Rattle.machine_desk.specs.Working.{RoundsClose}
 use Rattle.machine_desk.specs.declared.hearing.Heard.{Heard}
 use Rattle.machine_desk.specs.declared.inbound.Inbound.{Inbound}
+use Rattle.machine_desk.proofs.Smooth.{takes_in}
 use Rattle.sim_steps.specs.Agreeing.{AreCut}
 use Rattle.serve_steps.specs.Deeds.{Past, bytes_of, inputs_of}
 use Rattle.serve_steps.specs.Parts.{Given}
 use Rattle.serve_channels.specs.declared.connection.Connection.{Connection}
 use Rattle.machine_desk.specs.declared.hearing.Came.{Came}
 use Rattle.machine_desk.specs.declared.hearing.Came.TheVariants as came
+use Rattle.machine_desk.proofs.Tended.{alone_back}
+use Rattle.machine_desk.proofs.Crewed.{still_crew}
+use Rattle.machine_desk.proofs.Arrived.{none_came}
 use Rattle.serve_channels.specs.declared.server.Server.{Server}
 use Rattle.serve_channels.specs.Keeping.{ServesSome, Went, Agrees, IsHeardTo, IsKept}
 use Rattle.serve_channels.specs.Passing.{Follows, HasCrew, HearsAt, HearsInput, HearsSome, MakesRoomFor}
-use Rattle.serve_channels.specs.Servers.{IsSame, SameNumbers, number_of, with_inbound}
+use Rattle.serve_channels.specs.Servers.{IsSame, SameNumbers, home, number_of, with_inbound}
 use Rattle.serve_channels.specs.Serving.{ServingLaws}
 use Rattle.serve_channels.proofs.Alike.{alike_same}
-use Rattle.serve_channels.proofs.Kept.{number_there, still_crew, same_connections, IsLeft, IsSessionStill, IsTold, kept_at, kept_but, kept_whole}
+use Rattle.serve_channels.proofs.Kept.{number_there, same_connections, IsLeft, IsSessionStill, IsTold, kept_at, kept_but, kept_whole}
 use Rattle.serve_channels.proofs.Numbered.{numbers_at, numbers_then, there_at, numbers_of}
-use Rattle.serve_channels.proofs.OneHeard.{comes_none}
 use Rattle.serve_channels.proofs.Others.{lawful}
 use Rattle.serve_channels.proofs.Passing.{HasCome, fewer_left, went_on}
 use Rattle.serve_channels.proofs.Stretching.{went_nowhere}
@@ -43,7 +46,7 @@ module _ (g : Given) (before : List Act) (past : Past) (log : List Act) (here : 
 
   -- the stream is the same, and its session
   none_yet : (j.from.stream ≡ k.inbound.from.stream) × (is_live k.inbound.stage ≡ true → IsOpen k.inbound.from.stream.rest)
-  none_yet = comes_none k.inbound j comes (λ live. (agrees.heard live).unbroken)
+  none_yet = (let none = none_came k.inbound j comes in (none.0, λ live. (none.1 live).1))
 
   abbrev l : Connection
   l = with_inbound (record k.inbound { from = j.from }) k
@@ -132,7 +135,14 @@ module _ (here : ℕ) (old : Server) (k : Connection) (j : Inbound) (within : he
     fewer = λ told. absurd (cc);
   }
 
-  module _ (laws : ServingLaws) (close : RoundsClose) (law : DeskLaw old.desk) (serves : ServesSome old) (room mid new : Server) (input : Input) (heard : Heard)
+  -- there is room for the packet in it: with nobody beside the server none waits
+  pub room_there : ServesSome old → (room : Server) (input : Input) → MakesRoomFor input source room → TakesIn input room.desk.now
+  room_there serves room input makes =
+      takes_in home input room makes.room (λ alone.
+      (let alone_then = alone_back home makes.tends.same alone in
+      ap (λ (s : Server). s.desk.now.jobs) (makes.alone alone_then) ∙ serves.1.kept.jobs alone_then))
+
+  module _ (laws : ServingLaws) (law : DeskLaw old.desk) (serves : ServesSome old) (room mid new : Server) (input : Input) (heard : Heard)
       (comes : Comes (Some input) k.inbound j) (makes : MakesRoomFor input source room) (hears : HearsInput here input heard room mid) (same : IsSame room mid) where
     has_come : Follows heard mid new → HasCome here old source room mid new k j input heard
     has_come follows = record { there = there; comes = comes; taken = refl; makes = makes; hears = hears; same = same; follows = follows }
@@ -141,9 +151,9 @@ module _ (here : ℕ) (old : Server) (k : Connection) (j : Inbound) (within : he
     hears_at follows = record {
       goes = λ c at log g before past kept pre.
           subst (λ n. Went g before (HearsSome n (came_of heard) past) past log new) (number_there here c k old.connections.items there at)
-          (went_on laws close (has_come follows) (lawful law) kept);
+          (went_on laws (has_come follows) (lawful law) kept);
       fewer = λ told.
-          fewer_left laws close (has_come follows) (lawful law) serves.1.kept told;
+          fewer_left laws (has_come follows) (lawful law) serves.1.kept told;
     }
 
     -- by what is told of it

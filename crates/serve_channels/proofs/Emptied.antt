@@ -16,10 +16,12 @@ use Rattle.machine_sharing.specs.Legal.{call_of}
 use Rattle.machine_desk.specs.Desks.{DeskView}
 use Rattle.machine_desk.specs.Hearing.{is_live}
 use Rattle.machine_desk.specs.declared.inbound.Inbound.{Inbound}
-use Rattle.desk_jobs.specs.Laws.{Meanwhile}
+use Rattle.machine_desk.specs.Laws.{Meanwhile}
 use Rattle.world_steps.specs.Worlds.{messages_for, outbox_of}
 use Rattle.core_machine.proofs.Hearing.{set_there}
-use Rattle.desk_jobs.proofs.Lists.{set_beside}
+use Rattle.machine_desk.proofs.Lists.{set_beside, some_at}
+use Rattle.machine_desk.specs.Next.{EntersNext}
+use Rattle.machine_desk.proofs.Tended.{ahead, meanwhile_ahead, enters_next}
 use Rattle.serve_steps.specs.Deeds.{Deed, Past, ends, ends_by_link, is_of, is_over, tells_end, tells_link_end, was_cut}
 use Rattle.serve_steps.specs.Deeds.Deed.{Enters, Does}
 use Rattle.serve_channels.specs.declared.connection.Connection.{Connection}
@@ -28,8 +30,8 @@ use Rattle.serve_channels.specs.Delivering.{Empties, Leaves, SendsOut, TakesOut}
 use Rattle.serve_channels.specs.Keeping.{IsServing}
 use Rattle.serve_channels.specs.Servers.{number_of}
 use Rattle.serve_channels.specs.Serving.{ServingLaws}
-use Rattle.serve_channels.proofs.Entering.{EntersNext, ahead, enters_next, meanwhile_ahead, next_lawful, next_session}
-use Rattle.serve_channels.proofs.Others.{IsLawful, meanwhile_lawful, some_at}
+use Rattle.serve_channels.proofs.Entering.{next_lawful, next_session}
+use Rattle.serve_channels.proofs.Others.{IsLawful, meanwhile_lawful}
 use Rattle.serve_channels.proofs.TakenOut.{with_more}
 use Rattle.serve_channels.proofs.Sorted.{apart}
 

@@ -2,22 +2,25 @@
 use Rattle.std.proofs.Common.{◌≡◌, ℕ, true, false, not, ◌&&◌, List, [], ◌∷◌, ◌++◌, Option, Some, None, append-nil, refl, sym, ap, ◌∙◌, subst, ⊎_elim}
 use Rattle.std.specs.Prelude.{is_some}
 use Rattle.std.proofs.lemmas.Bool.{cases_Bool, eq-eqb}
-use Rattle.desk_jobs.proofs.Crewed.{same_crew}
+use Rattle.machine_desk.proofs.Crewed.{same_crew}
 use Rattle.maple_io.specs.declared.act.Act.{Act}
 use Rattle.machine_steps.specs.declared.entry.Entry.{Entry}
 use Rattle.machine_steps.specs.declared.entry.Entry.TheVariants as entries
 use Rattle.machine_steps.specs.declared.reply.Reply.{Reply}
-use Rattle.machine_steps.specs.Histories.{IsTurn, Leads, Turn}
+use Rattle.machine_steps.specs.Histories.{Leads, Turn}
 use Rattle.machine_steps.specs.Machine.{Session, session_at}
 use Rattle.machine_steps.specs.Machine.{was_opened as was_session}
 use Rattle.machine_moves.specs.Told.{is_end, may_end}
-use Rattle.machine_desk.specs.Desks.{DeskView, Enters as EntersDesk, Footing, calls_of, turn}
-use Rattle.desk_jobs.specs.Laws.{Meanwhile}
+use Rattle.machine_desk.specs.Desks.{DeskView, Footing, calls_of, turn}
+use Rattle.machine_desk.specs.Laws.{Meanwhile}
+use Rattle.machine_desk.proofs.Meanwhile.{leads_then}
+use Rattle.machine_desk.specs.Next.{EntersNext}
 use Rattle.serve_steps.specs.Runs.{taken_in, taken_report}
 use Rattle.serve_steps.specs.Deeds.{Past, acts_of, is_asked, is_others}
 use Rattle.serve_steps.specs.Deeds.Deed.{Enters}
 use Rattle.serve_steps.specs.Laws.{entered}
-use Rattle.serve_steps.specs.Parts.{Given, ends_due, entry_if, had_memory, hears_open, is_free, keeps_due, own_of}
+use Rattle.serve_steps.specs.Parts.{Given, ends_due, entry_if, had_memory, hears_open, IsFree, keeps_due, own_of}
+use Rattle.serve_steps.proofs.Entered.{entered_ahead}
 use Rattle.serve_channels.specs.declared.server.Server.{Server}
 use Rattle.serve_channels.specs.Keeping.{IsKept, Went}
 use Rattle.serve_channels.specs.Servers.{IsSame, IsUnknown, WorksAlone}
@@ -25,28 +28,11 @@ use Rattle.serve_channels.specs.Serving.{ServingLaws}
 use Rattle.serve_channels.specs.Stretches.{IsAside, Owes}
 use Rattle.serve_channels.proofs.Alike.{Spares, alike_turn, aside_turn, is_about, spares_another}
 use Rattle.serve_channels.proofs.Kept.{IsKeptBut, IsLeft, IsSessionStill, IsTold, kept_but, kept_whole}
-use Rattle.serve_channels.proofs.Others.{DidBeside, IsLawful, entered_ahead, leads_then, meanwhile_others, others_aside, others_kept, others_lawful, others_owe}
+use Rattle.serve_channels.proofs.Others.{DidBeside, IsLawful, meanwhile_others, others_aside, others_kept, others_lawful, others_owe}
 use Rattle.serve_channels.proofs.Stretching.{aside_nothing, nothing_done}
 use Rattle.serve_channels.proofs.Told.{taken_others}
 
 -- ---- behind what others did
-
--- the machine was given an entry, and nothing was done between
-pub record EntersNext (e : Entry) (r : Reply) (a b : DeskView) : Type 0 where
-  pub made : IsTurn (turn a.now e r b.now)
-  pub past : b.past ≡ a.past ++ turn a.now e r b.now ∷ []
-  pub footing : b.footing ≡ a.footing
-
-module _ {e : Entry} {r : Reply} {a b : DeskView} (h : EntersDesk a e r b) where
-  -- what the desk knows ahead of the entry
-  abbrev pub ahead : DeskView
-  ahead = record a { past = a.past ++ h.others; now = h.between }
-
-  abbrev pub meanwhile_ahead : Meanwhile a ahead
-  meanwhile_ahead = record { turns = h.others; past = refl; leads = h.meanwhile; allowed = h.allowed }
-
-  pub enters_next : EntersNext e r ahead b
-  enters_next = record { made = h.made; past = h.past; footing = h.footing }
 
 -- a server at a desk that knows more
 abbrev pub at_desk : Server → DeskView → Server
@@ -120,7 +106,7 @@ module _ (laws : ServingLaws) {g : Given} {before : List Act} {past : Past} {log
 -- ---- in a stretch
 
 pub owes_next : (to : Option ℕ) (own : List Entry) (done ahead : Past) (t : Turn) → Owes to own done ahead → is_others t.entry ≡ false → keeps_due to (Enters t) ≡ true
-    → had_memory (Enters t) ≡ true → hears_open t.entry (done ++ ahead) ≡ true → is_free (Enters t) (done ++ ahead) ≡ true
+    → had_memory (Enters t) ≡ true → hears_open t.entry (done ++ ahead) ≡ true → IsFree (Enters t) (done ++ ahead)
     → Owes None (own ++ entry_if (is_asked t.entry && not (ends_due to t.entry)) t.entry) (Enters t ∷ done) ahead
 owes_next to own done ahead t h others keeps memory opened free = record {
   quiet = h.quiet;

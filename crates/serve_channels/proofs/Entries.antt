@@ -9,31 +9,32 @@ use Rattle.machine_steps.specs.Histories.{Turn}
 use Rattle.machine_moves.specs.Told.{is_end, is_heard, may_end}
 use Rattle.machine_desk.specs.Desks.{Enters as EntersDesk, turn}
 use Rattle.machine_desk.specs.Hearing.{IsStaged}
+use Rattle.machine_desk.proofs.Tended.{alone_back, none_waits_between, ahead, meanwhile_ahead, enters_next}
+use Rattle.machine_desk.specs.Next.{EntersNext}
 use Rattle.world_steps.specs.Worlds.{lacks_memory}
 use Rattle.serve_steps.specs.Runs.{taken_in}
 use Rattle.serve_steps.specs.Deeds.{Past, is_asked, is_others}
 use Rattle.serve_steps.specs.Deeds.Deed.{Enters}
 use Rattle.serve_steps.specs.Laws.{entered}
-use Rattle.serve_steps.specs.Parts.{Given, ends_due, entry_if, hears_open, keeps_due, may_stand, is_overload}
+use Rattle.serve_steps.specs.Parts.{Given, ends_due, entry_if, hears_open, keeps_due, MayStand}
 use Rattle.serve_channels.specs.declared.connection.Connection.{Connection}
 use Rattle.serve_channels.specs.declared.server.Server.{Server}
 use Rattle.serve_channels.specs.Keeping.{Agrees}
-use Rattle.serve_channels.specs.Servers.{IsGap, IsSame, IsUnknown, WorksAlone, number_of}
+use Rattle.serve_channels.specs.Servers.{IsGap, IsSame, IsUnknown, WorksAlone, number_of, home}
 use Rattle.serve_channels.specs.Serving.{ServingLaws}
 use Rattle.serve_channels.specs.Stretches.{Owes}
 use Rattle.serve_channels.proofs.Alike.{Spares, is_about, spares_another}
-use Rattle.serve_channels.proofs.Entering.{EntersNext, IsUnderWay, ahead, at_desk, beside_at, enters_next, goes_beside, goes_next, meanwhile_ahead, next_another, next_spared, next_told, owes_next}
-use Rattle.serve_channels.proofs.Kept.{IsKeptBut, IsLeft, IsTold, alone_back, kept_at, kept_new, kept_same, set_unknown}
-use Rattle.serve_channels.proofs.Others.{DidBeside, IsLawful, meanwhile_none}
-use Rattle.serve_channels.proofs.Replies.{few_wait}
+use Rattle.serve_channels.proofs.Entering.{IsUnderWay, at_desk, beside_at, goes_beside, goes_next, next_another, next_spared, next_told, owes_next}
+use Rattle.serve_channels.proofs.Kept.{IsKeptBut, IsLeft, IsTold, kept_at, kept_new, kept_same, set_unknown}
+use Rattle.serve_channels.proofs.Others.{DidBeside, IsLawful}
 use Rattle.serve_channels.proofs.Sorted.{inserted_number, inserted_unknown}
 
 -- ---- where it may stand
 
-stands_freely : (e : Entry) (r : Reply) (past : Past) → is_others e ≡ false → may_stand e r past ≡ true
+stands_freely : (e : Entry) (r : Reply) (past : Past) → is_others e ≡ false → MayStand e r past
 stands_freely (entries.Commit job run) r past own = absurd (cc)
 stands_freely (entries.Decide job) r past own = absurd (cc)
-stands_freely e r past own = refl
+stands_freely e r past own = tt
 
 hears_nothing : (e : Entry) (past : Past) → is_heard e ≡ false → hears_open e past ≡ true
 hears_nothing (entries.Heard c input) past other = absurd (cc)
@@ -45,7 +46,6 @@ pub record IsOwn (to : Option ℕ) (e : Entry) (r : Reply) (t : Turn) (past : Pa
   pub keeps : keeps_due to (Enters t) ≡ true
   pub memory : (is_asked e && lacks_memory r) ≡ false
   pub opened : hears_open e past ≡ true
-  pub few : is_overload r ≡ false
 
 -- ---- behind what others did
 
@@ -65,13 +65,12 @@ module _ (a b : Server) {e : Entry} {r : Reply} (h : EntersDesk a.desk e r b.des
   -- one that hears nothing
   pub unheard : (to : Option ℕ) (past : Past) → is_others e ≡ false → is_heard e ≡ false → keeps_due to (Enters own_turn) ≡ true → (is_asked e && lacks_memory r) ≡ false
       → IsOwn to e r own_turn past
-  unheard to past own other keeps memory =
-      record { own = own; keeps = keeps; memory = memory; opened = hears_nothing e past other; few = few_wait e h.between r b.desk.now other own h.made.steps }
+  unheard to past own other keeps memory = record { own = own; keeps = keeps; memory = memory; opened = hears_nothing e past other }
 
   -- no packet waits behind it where none did
   pub entry_jobs : ServingLaws → IsLawful a.desk → IsSame a b → is_heard e ≡ false → (WorksAlone a → a.desk.now.jobs ≡ []) → WorksAlone b → b.desk.now.jobs ≡ []
   entry_jobs laws law same other jobs alone =
-      laws.driving.none h.between e r b.desk.now (meanwhile_none laws law others_ahead.meanwhile (jobs (alone_back same alone))) other h.made.steps
+      laws.driving.none h.between e r b.desk.now (none_waits_between laws.driving law.sound others_ahead.meanwhile (jobs (alone_back home same alone))) other h.made.steps
 
 -- ---- in a call
 
@@ -104,7 +103,7 @@ module _ (laws : ServingLaws) {g : Given} {before : List Act} {past : Past} {to 
     asks = own ++ entry_if (is_asked e && not (ends_due to e)) e
 
     pub owes_now : Owes None asks (Enters t ∷ did) past
-    owes_now = owes_next to own did past t ahead_now.owes is.own is.keeps (ap not is.memory) is.opened (rw (stands_freely e r (did ++ past) is.own) (ap not is.few))
+    owes_now = owes_next to own did past t ahead_now.owes is.own is.keeps (ap not is.memory) is.opened (stands_freely e r (did ++ past) is.own)
 
     pub kept_about_none : b.connections.items ≡ a.connections.items → ((c : ℕ) → is_about c e ≡ false) → IsKeptBut g before (Enters t ∷ (did ++ past)) log b
     kept_about_none items none = kept_same ahead_now.kept told_now items (λ c. another c (none c))

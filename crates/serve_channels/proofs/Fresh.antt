@@ -13,6 +13,7 @@ use Rattle.maple_io.specs.Boards.{BoardFailed, BoardView, NoBoardFailed}
 use Rattle.maple_io.specs.Turns.{started_acts}
 use Rattle.machine_steps.specs.Machine.{State, opening, session_at}
 use Rattle.machine_steps.specs.Machine.{was_opened as was_session}
+use Rattle.machine_desk.proofs.Tended.{same_self}
 use Rattle.serve_steps.specs.Deeds.{Past, acts_of, turns_of}
 use Rattle.serve_steps.specs.Deeds.Deed.{Does}
 use Rattle.serve_steps.specs.Parts.{Given}
@@ -21,7 +22,8 @@ use Rattle.serve_channels.specs.declared.server.Server.{Server}
 use Rattle.serve_channels.specs.Keeping.{IsKept}
 use Rattle.serve_channels.specs.Starting.{FreshIsKept, IsFresh, Starts, StartsBy, started_deeds}
 use Rattle.serve_channels.proofs.Acts.{act_alike}
-use Rattle.serve_channels.proofs.Kept.{IsLeft, IsTold, kept_but, kept_same, kept_whole, same_self}
+use Rattle.serve_channels.proofs.Kept.{IsLeft, IsTold, kept_but, kept_same, kept_whole}
+use Rattle.serve_channels.specs.Servers.{home}
 
 -- ---- nothing was done
 
@@ -55,7 +57,7 @@ module _ (g : Given) (log : List Act) (s : Server) (h : IsFresh s) (opens : s.de
     );
     sessions = record {
       staged = λ at k there. absurd (none_there at k there);
-      alone = λ c unknown. ap (λ (m : State). is_some (session_at c m)) now_is;
+      others = λ c unknown. ap (λ (m : State). is_some (session_at c m)) now_is;
     };
     crew = h.crew;
     jobs = λ alone. ap (λ (m : State). m.jobs) now_is;
@@ -75,7 +77,7 @@ module _ (g : Given) (before : List Act) (past : Past) (listen control : ℕ) (o
 
   start_told : new ≡ old ++ start ∷ [] → IsTold before (Does start ∷ past) new s s
   start_told log_is = record {
-    same = same_self s;
+    same = same_self home s;
     turns = kept.turns ∙ sym (append-nil (turns_of past));
     acts = log_is ∙ ap (λ (xs : List Act). xs ++ start ∷ []) kept.acts ∙ append_assoc before (acts_of past) (start ∷ []);
     settings = refl;

@@ -13,12 +13,12 @@ use Rattle.serve_channels.specs.declared.connection.Connection.{Connection}
 use Rattle.machine_desk.specs.declared.hearing.Came.{Came}
 use Rattle.machine_desk.specs.declared.hearing.Came.TheVariants.{Nothing, Message, Ended}
 use Rattle.machine_desk.specs.Hearing.{goes_on}
+use Rattle.machine_desk.proofs.Tended.{same_self, same_then}
 use Rattle.serve_channels.specs.declared.server.Server.{Server}
 use Rattle.serve_channels.specs.Hearing.{Hears, HearsWhile, UpTo}
 use Rattle.serve_channels.specs.Keeping.{Agrees, Goes, ServesSome}
 use Rattle.serve_channels.specs.Passing.{HearsAt, HearsSome}
-use Rattle.serve_channels.specs.Servers.{IsAt, IsMissing, IsSame, SameNumbers, number_of}
-use Rattle.serve_channels.proofs.Kept.{same_then, same_self}
+use Rattle.serve_channels.specs.Servers.{IsAt, IsMissing, IsSame, SameNumbers, number_of, home}
 use Rattle.serve_channels.proofs.Numbered.{numbers_then, stay_known, numbers_same}
 use Rattle.serve_channels.proofs.Rounds.{serving_on}
 use Rattle.serve_channels.proofs.Stretching.{goes_so, goes_then, went_nowhere}
@@ -176,7 +176,7 @@ on_none c at s is serves = record {
   goes = λ log g before past kept pre.
       went_nowhere g before (HearsSome c Message past) past log s (hears_none c past is.connection (kept.agree at is.connection is.there) is.number) kept;
   numbers = numbers_same s;
-  same = same_self s;
+  same = same_self home s;
 }
 
 module _ (c at : ℕ) (k : Came) (old now new : Server) (h : HearsOn c at old now) (next : HearsAt at k now new) (numbers : SameNumbers now new) (same : IsSame now new) where
@@ -189,7 +189,7 @@ module _ (c at : ℕ) (k : Came) (old now new : Server) (h : HearsOn c at old no
   numbers_now = numbers_then old now new h.numbers numbers
 
   pub same_now : IsSame old new
-  same_now = same_then h.same same
+  same_now = same_then home h.same same
 
   -- what came is heard, and more may come
   pub on_more : HearsOn c at old new

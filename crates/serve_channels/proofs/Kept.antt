@@ -1,11 +1,9 @@
 -- What a server keeps, from before to behind: where nothing is done with any connection, with all but one, or with all but a new one.
-use Rattle.std.proofs.Common.{◌≡◌, ◌⊎◌, ℕ, true, false, List, [], ◌++◌, set, refl, sym, ap, ◌∙◌, subst, inl, inr, ⊎_elim}
-use Rattle.std.specs.Prelude.{IfSome, Option, Some, None, is_some}
+use Rattle.std.proofs.Common.{◌≡◌, ◌⊎◌, ℕ, true, false, List, [], ◌++◌, set, sym, ap, ◌∙◌, subst, inl, inr, ⊎_elim}
+use Rattle.std.specs.Prelude.{Some, is_some}
 use Rattle.std.specs.List.{insert, slice_get}
 use Rattle.std.proofs.lemmas.Bool.{cases_Bool, cases_eq}
 use Rattle.std.proofs.lemmas.Option.{same_Some}
-use Rattle.desk_jobs.proofs.Crewed.{crew_then, same_crew, some_crew}
-use Rattle.maple_base.specs.declared.decision.Settings.{Settings}
 use Rattle.maple_io.specs.declared.act.Act.{Act}
 use Rattle.maple_io.specs.Boards.{was_opened}
 use Rattle.machine_steps.specs.Machine.{State, opening, session_at}
@@ -14,15 +12,14 @@ use Rattle.machine_desk.specs.Desks.{Footing}
 use Rattle.machine_desk.specs.Hearing.{IsStaged}
 use Rattle.machine_desk.specs.declared.inbound.Inbound.{Inbound}
 use Rattle.core_machine.proofs.Hearing.{set_there}
-use Rattle.desk_jobs.specs.declared.crew.Crew.{Crew}
-use Rattle.desk_jobs.specs.Crews.{IsCrew, MayHave, SameCrew}
-use Rattle.desk_jobs.proofs.Lists.{set_beside}
+use Rattle.machine_desk.proofs.Lists.{set_beside}
+use Rattle.machine_desk.proofs.Tended.{same_by, staffed_on}
 use Rattle.serve_steps.specs.Deeds.{Past, acts_of, bytes_of, turns_of}
 use Rattle.serve_steps.specs.Parts.{Given}
 use Rattle.serve_channels.specs.declared.connection.Connection.{Connection}
 use Rattle.serve_channels.specs.declared.server.Server.{Server}
 use Rattle.serve_channels.specs.Keeping.{Agrees, IsForgotten, IsKept, IsUnused, Keeps}
-use Rattle.serve_channels.specs.Servers.{AreSorted, IsAt, IsGap, IsKnown, IsSame, IsUnknown, WorksAlone, number_of}
+use Rattle.serve_channels.specs.Servers.{AreSorted, IsAt, IsGap, IsKnown, IsSame, IsUnknown, WorksAlone, number_of, home}
 use Rattle.serve_channels.proofs.Alike.{IsAlike, agrees_alike, forgotten_alike, unused_alike}
 use Rattle.serve_channels.proofs.Sorted.{apart, at_there, inserted_from, inserted_number, inserted_unknown, none_at, sorted_insert}
 
@@ -55,42 +52,12 @@ kept_whole h jobs = kept_with h jobs
 
 -- ---- the same server
 
-pub still_crew : (c d : Option Crew) → SameCrew c d → IfSome c IsCrew → IfSome d IsCrew
-still_crew None None s is = tt
-still_crew (Some c) (Some d) s is = s.is is
-still_crew None (Some d) s is = absurd s
-still_crew (Some c) None s is = absurd s
-
-pub same_self : (a : Server) → IsSame a a
-same_self a = record { footing = refl; crew = same_crew a.crew }
-
-pub same_then : {a b c : Server} → IsSame a b → IsSame b c → IsSame a c
-same_then {a} {b} {c} h k = record { footing = k.footing ∙ h.footing; crew = crew_then a.crew b.crew c.crew h.crew k.crew }
-
 -- where the desk knows more, and connections may change
 pub same_but : (a b : Server) → b ≡ record a { desk = b.desk; connections = b.connections } → b.desk.footing ≡ a.desk.footing → IsSame a b
-same_but a b rest footing = record { footing = footing; crew = subst (SameCrew a.crew) (sym (ap (λ (x : Server). x.crew) rest)) (same_crew a.crew) }
-
-pub same_desk : (a b : Server) → b ≡ record a { desk = b.desk } → b.desk.footing ≡ a.desk.footing → IsSame a b
-same_desk a b rest footing = record { footing = footing; crew = subst (SameCrew a.crew) (sym (ap (λ (x : Server). x.crew) rest)) (same_crew a.crew) }
+same_but a b rest = same_by home a b (ap (λ (x : Server). x.crew) rest)
 
 pub same_connections : (a b : Server) → b ≡ record a { connections = b.connections } → IsSame a b
-same_connections a b rest =
-    record { footing = ap (λ (x : Server). x.desk.footing) rest; crew = subst (SameCrew a.crew) (sym (ap (λ (x : Server). x.crew) rest)) (same_crew a.crew) }
-
-pub same_server : (a b : Server) → b ≡ a → IsSame a b
-same_server a b e = record { footing = ap (λ (x : Server). x.desk.footing) e; crew = subst (SameCrew a.crew) (sym (ap (λ (x : Server). x.crew) e)) (same_crew a.crew) }
-
-pub alone_back : {a b : Server} → IsSame a b → WorksAlone b → WorksAlone a
-alone_back {a} {b} h alone = sym (some_crew a.crew b.crew h.crew) ∙ alone
-
-crew_on : (a b : Server) → IsSame a b → b.desk.now.settings ≡ a.desk.now.settings → MayHave a.crew a.desk.footing.parts a.desk.now
-    → MayHave b.crew b.desk.footing.parts b.desk.now
-crew_on a b h settings may = record {
-  alone = λ none. ap (λ (f : Footing). f.parts) h.footing ∙ may.alone (sym (some_crew a.crew b.crew h.crew) ∙ none);
-  none = λ solo. some_crew a.crew b.crew h.crew ∙ may.none (sym (ap (λ (s : Settings). s.workers) settings) ∙ solo);
-  is = still_crew a.crew b.crew h.crew may.is;
-}
+same_connections a b rest = same_by home a b (ap (λ (x : Server). x.crew) rest) (ap (λ (x : Server). x.desk.footing) rest)
 
 -- ---- connections
 
@@ -180,7 +147,7 @@ module _ {g : Given} {before : List Act} {past after : Past} {old_log log : List
   forgotten_left c left unknown = forgotten_alike c past after left.alike (kept.forgotten c unknown)
 
   alone_left : (c : ℕ) → IsLeft past after a b c → IsUnknown c a.connections.items → is_some (session_at c b.desk.now) ≡ false
-  alone_left c left unknown = left.session.live ∙ kept.sessions.alone c unknown
+  alone_left c left unknown = left.session.live ∙ kept.sessions.others c unknown
 
   agrees_left : (at : ℕ) (k : Connection) → IsLeft past after a b (number_of k) → slice_get a.connections.items at ≡ Some k → Agrees after k
   agrees_left at k left there = agrees_alike k past after left.alike (left.bytes (at, at_there at k a.connections.items there)) (kept.agree at k there)
@@ -199,9 +166,9 @@ module _ {g : Given} {before : List Act} {past after : Past} {old_log log : List
     unused = λ c none. unused_left c (left c) none;
     sessions = record {
       staged = λ at k there. staged_left at k (left (number_of k)) (sym (ap (λ ks. slice_get ks at) e) ∙ there);
-      alone = λ c unknown. alone_left c (left c) (subst (IsUnknown c) e unknown);
+      others = λ c unknown. alone_left c (left c) (subst (IsUnknown c) e unknown);
     };
-    crew = crew_on a b told.same told.settings kept.crew;
+    crew = staffed_on home told.same told.settings kept.crew;
     jobs = tt;
   }
 
@@ -247,9 +214,9 @@ module _ {g : Given} {before : List Act} {past after : Past} {old_log log : List
       unused = λ c none. unused_left c (never_this c (swapped (cases_eq c (number_of k))) none) none;
       sessions = record {
         staged = by_place (λ x. IsStaged x.inbound b.desk.now) staged (λ n x other is. staged_left n x (others (number_of x) (other_number n x other is)) is);
-        alone = λ c unknown. alone_left c (others c (gone c unknown).1) (gone c unknown).0;
+        others = λ c unknown. alone_left c (others c (gone c unknown).1) (gone c unknown).0;
       };
-      crew = crew_on a b told.same told.settings kept.crew;
+      crew = staffed_on home told.same told.settings kept.crew;
       jobs = tt;
     }
 
@@ -286,8 +253,8 @@ module _ {g : Given} {before : List Act} {past after : Past} {old_log log : List
       unused = λ c none. unused_left c (never_new c (swapped (cases_eq c (number_of l))) none) none;
       sessions = record {
         staged = by_either (λ x. IsStaged x.inbound b.desk.now) staged (λ n x is. staged_left n x (others (number_of x) (old_number n x is)) is);
-        alone = λ c none. alone_left c (others c (not_new c none)) (was_unknown c none);
+        others = λ c none. alone_left c (others c (not_new c none)) (was_unknown c none);
       };
-      crew = crew_on a b told.same told.settings kept.crew;
+      crew = staffed_on home told.same told.settings kept.crew;
       jobs = tt;
     }

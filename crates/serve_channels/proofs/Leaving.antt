@@ -16,6 +16,9 @@ use Rattle.machine_desk.specs.Desks.{Enters as EntersDesk, turn}
 use Rattle.machine_desk.specs.Hearing.{IsStaged, is_live}
 use Rattle.machine_desk.specs.declared.inbound.Inbound.{Inbound}
 use Rattle.machine_desk.specs.declared.inbound.Stage.TheVariants.{Over}
+use Rattle.machine_desk.proofs.Replies.{gone_none, gone_live, gone_enough}
+use Rattle.machine_desk.specs.Next.{EntersNext}
+use Rattle.machine_desk.proofs.Lists.{some_at}
 use Rattle.serve_steps.specs.Deeds.{Past, acts_of, is_over, taken_of, tells_end, tells_link_end, was_accepted, was_cut}
 use Rattle.serve_steps.specs.Deeds.Deed.{Enters}
 use Rattle.serve_steps.specs.Laws.{entered}
@@ -27,11 +30,11 @@ use Rattle.serve_channels.specs.Keeping.{Agrees, Are, Goes}
 use Rattle.serve_channels.specs.Servers.{IsMissing, IsSame, WorksAlone, number_of}
 use Rattle.serve_channels.specs.Serving.{ServingLaws}
 use Rattle.serve_channels.proofs.Alike.{Spares, spares_gone}
-use Rattle.serve_channels.proofs.Entering.{EntersNext, IsUnderWay, begins, is_over_now, next_opened, next_session}
+use Rattle.serve_channels.proofs.Entering.{IsUnderWay, begins, is_over_now, next_opened, next_session}
 use Rattle.serve_channels.proofs.Entries.{ahead_now, between, entry_jobs, goes_with_none, goes_with_one, next_ahead, own_turn, unheard}
 use Rattle.serve_channels.proofs.Kept.{IsKeptBut}
-use Rattle.serve_channels.proofs.Others.{IsLawful, some_at}
-use Rattle.serve_channels.proofs.Replies.{cut_by, gone_enough, gone_live, gone_none}
+use Rattle.serve_channels.proofs.Others.{IsLawful}
+use Rattle.serve_channels.proofs.Replies.{cut_by}
 
 -- ---- a turn that tells the machine so
 
@@ -164,7 +167,7 @@ module _ (laws : ServingLaws) (c : ℕ) (fault : Bool) (r : Reply) (a b : Server
   missing_goes log g before past kept pre =
       let u = begins kept law in
       let v = ahead_now laws u b h in
-      let nobody = gone_none c fault h.between r b.desk.now (v.kept.sessions.alone c (missing v.kept.sorted)) h.made.steps in
+      let nobody = gone_none c fault h.between r b.desk.now (v.kept.sessions.others c (missing v.kept.sorted)) h.made.steps in
       is_over_now (Are (entry ∷ []) past) (goes_with_none laws u b h same
       (unheard a b h None (entered h.others [] ++ past) refl refl refl (gone_enough c fault h.between r b.desk.now h.made.steps)) refl items
       (λ n. subst (λ (x : Reply). Spares n (turn h.between entry x b.desk.now)) (sym nobody) (spares_gone n h.between b.desk.now c fault)) (λ n e. absurd (cc))

@@ -1,6 +1,5 @@
 pub mod Acts
 pub mod Alike
-pub mod Answered
 pub mod AskedFor
 pub mod Attended
 pub mod Coming

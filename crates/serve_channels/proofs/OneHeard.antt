@@ -10,8 +10,8 @@ use Rattle.of10_codec.specs.declared.fault.Bad.{Bad as Fault}
 use Rattle.of10_codec.specs.Messages.{Spelled}
 use Rattle.of10_stream.specs.declared.reassembly.Next.{Next}
 use Rattle.of10_stream.specs.declared.reassembly.Next.TheVariants as next
-use Rattle.of10_stream.specs.Cut.{IsOpen, IsBad}
-use Rattle.of10_stream.specs.Steps.{Answers, AnswersBehind, Held, Stream, Takes, Tells}
+use Rattle.of10_stream.specs.Cut.{IsBad}
+use Rattle.of10_stream.specs.Steps.{Answers, AnswersBehind, Stream, Takes, Tells}
 use Rattle.machine_steps.specs.declared.entry.Entry.TheVariants as entries
 use Rattle.machine_steps.specs.declared.entry.Input.{Input}
 use Rattle.machine_steps.specs.declared.entry.Input.TheVariants.{Message as Whole, Bad}
@@ -20,10 +20,11 @@ use Rattle.machine_steps.specs.declared.reply.Reply.TheVariants.{Ended}
 use Rattle.machine_steps.specs.Machine.{State, session_at}
 use Rattle.machine_steps.specs.Steps.{Steps}
 use Rattle.machine_desk.specs.Desks.{turn}
-use Rattle.machine_desk.specs.Hearing.{Comes, ComesAt, heard_by, is_live, stage_heard, told_as, was_begun}
+use Rattle.machine_desk.specs.Hearing.{Comes, heard_by, is_live, stage_heard, told_as, was_begun}
 use Rattle.machine_desk.specs.declared.inbound.Inbound.{Inbound}
 use Rattle.machine_desk.specs.declared.inbound.Stage.{Stage}
-use Rattle.machine_desk.specs.declared.inbound.Stage.TheVariants.{Live, Over, Unopened}
+use Rattle.machine_desk.specs.declared.inbound.Stage.TheVariants.{Live}
+use Rattle.machine_desk.proofs.Arrived.{some_came}
 use Rattle.world_steps.specs.Worlds.{lacks_memory}
 use Rattle.sim_steps.specs.Agreeing.{AreCut}
 use Rattle.serve_steps.specs.Deeds.{Past, acts_of, bytes_of, inputs_of, is_open, is_over, taken_of, tells_end, tells_link_end, was_accepted, was_cut}
@@ -73,25 +74,6 @@ cut_fault inputs place bad bytes rest all cut at is =
 -- where no fault was met
 answers_so : (s t : Stream) (n : Next) → s.broken ≡ None → Tells n s t → Answers n s t
 answers_so s t n whole h = subst (λ (b : Option (ℕ × Fault)). AnswersBehind b n s t) whole h
-
--- something comes only while the session is open
-pub comes_live : (input : Input) (i j : Inbound) → Comes (Some input) i j → (i.stage ≡ Live) × Tells (told_as (Some input)) i.from.stream j.from.stream
-comes_live input i j comes = go i.stage refl comes.0
-  where
-    go : (stage : Stage) → i.stage ≡ stage → ComesAt stage (Some input) i.from j.from → (i.stage ≡ Live) × Tells (told_as (Some input)) i.from.stream j.from.stream
-    go Live e tells = (e, tells)
-    go Unopened e h = (let f = h.0 in absurd (cc))
-    go Over e h = (let f = h.0 in absurd (cc))
-
--- nothing comes: the stream stays, and while the session is open it has no more
-pub comes_none : (i j : Inbound) → Comes None i j → (is_live i.stage ≡ true → i.from.stream.broken ≡ None)
-    → (j.from.stream ≡ i.from.stream) × (is_live i.stage ≡ true → IsOpen i.from.stream.rest)
-comes_none i j comes whole = go i.stage refl comes.0
-  where
-    go : (stage : Stage) → i.stage ≡ stage → ComesAt stage None i.from j.from → (j.from.stream ≡ i.from.stream) × (is_live i.stage ≡ true → IsOpen i.from.stream.rest)
-    go Live e tells = (let a = answers_so i.from.stream j.from.stream next.More (whole (ap is_live e)) tells in (a.1, λ open_now. a.0))
-    go Unopened e h = (ap (λ (x : Held). x.stream) h.1, λ open_now. (let f : false ≡ true = sym (ap is_live e) ∙ open_now in absurd (cc)))
-    go Over e h = (ap (λ (x : Held). x.stream) h.1, λ open_now. (let f : false ≡ true = sym (ap is_live e) ∙ open_now in absurd (cc)))
 
 -- ---- the stage behind a reply
 
@@ -181,7 +163,7 @@ module _ {k : Connection} {j : Inbound} {input : Input} {m : State} {reply : Rep
   behind = with_inbound (record j { stage = stage_heard (heard_by reply) j.stage }) k
 
   live : is_live k.inbound.stage ≡ true
-  live = ap is_live (comes_live input k.inbound j comes).0
+  live = ap is_live (some_came input k.inbound j comes).0
 
   pub was_open : is_open its past ≡ true
   was_open = agrees.live ∙ live
@@ -190,7 +172,7 @@ module _ {k : Connection} {j : Inbound} {input : Input} {m : State} {reply : Rep
   not_over = agrees.over ∙ ap not live
 
   stage_is : behind.inbound.stage ≡ stage_by reply
-  stage_is = ap (λ (s : Stage). stage_heard (heard_by reply) s) (comes.1.1 ∙ (comes_live input k.inbound j comes).0)
+  stage_is = ap (λ (s : Stage). stage_heard (heard_by reply) s) (comes.1.1 ∙ (some_came input k.inbound j comes).0)
 
   live_is : is_live behind.inbound.stage ≡ not (tells_end reply)
   live_is = ap is_live stage_is ∙ live_by reply
@@ -202,7 +184,7 @@ module _ {k : Connection} {j : Inbound} {input : Input} {m : State} {reply : Rep
   heard_to = agrees.heard live
 
   answers : Answers (told_as (Some input)) k.inbound.from.stream j.from.stream
-  answers = answers_so k.inbound.from.stream j.from.stream (told_as (Some input)) heard_to.unbroken (comes_live input k.inbound j comes).1
+  answers = answers_so k.inbound.from.stream j.from.stream (told_as (Some input)) heard_to.unbroken (some_came input k.inbound j comes).1
 
   goes_on : (i : Input) → input ≡ i → tells_end reply ≡ false → IsHeardTo its now j.from.stream
   goes_on (Whole x) is open_still =

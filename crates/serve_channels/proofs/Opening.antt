@@ -18,10 +18,12 @@ use Rattle.machine_moves.specs.Told.{is_end}
 use Rattle.machine_desk.specs.Desks.{DeskLaw, Enters as EntersDesk, turn}
 use Rattle.machine_desk.specs.Hearing.{IsStaged, Opens, is_live, stage_opened, was_begun}
 use Rattle.machine_desk.specs.declared.inbound.Inbound.{Inbound}
+use Rattle.machine_desk.proofs.Replies.{had_memory}
 use Rattle.world_steps.specs.Worlds.{lacks_memory}
 use Rattle.serve_steps.specs.Deeds.{Past, acts_of, bytes_of, inputs_of, is_over, opens_by, taken_of, tells_end, tells_link_end, was_accepted, was_cut}
 use Rattle.serve_steps.specs.Deeds.Deed.{Enters}
 use Rattle.serve_steps.specs.Laws.{entered}
+use Rattle.serve_steps.proofs.Entered.{entered_ahead}
 use Rattle.serve_channels.specs.declared.connection.Connection.{Connection}
 use Rattle.serve_channels.specs.declared.server.Server.{Server}
 use Rattle.serve_channels.specs.Keeping.{Agrees, Are, GoesFrom, IsBegun}
@@ -30,8 +32,8 @@ use Rattle.serve_channels.specs.Serving.{ServingLaws}
 use Rattle.serve_channels.proofs.Alike.{IsAlike, unused_alike}
 use Rattle.serve_channels.proofs.Entering.{begins, is_over_now}
 use Rattle.serve_channels.proofs.Entries.{entry_jobs, goes_with_new, others_ahead, own_turn, unheard}
-use Rattle.serve_channels.proofs.Others.{bytes_entered, entered_ahead, lawful, meanwhile_others, meanwhile_session, others_alike}
-use Rattle.serve_channels.proofs.Replies.{had_memory, opened_so}
+use Rattle.serve_channels.proofs.Others.{bytes_entered, lawful, meanwhile_others, meanwhile_session, others_alike}
+use Rattle.serve_channels.proofs.Replies.{opened_so}
 
 -- ---- a new connection
 

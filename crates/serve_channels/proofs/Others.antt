@@ -1,35 +1,31 @@
 -- Turns of others, and of the server's own work on packets: what they leave of connections, of the machine and of what is kept, and where they stand in a stretch.
 use Rattle.std.proofs.Common.{◌≡◌, ℕ, Bool, true, false, not, ◌&&◌, List, [], ◌∷◌, ◌++◌, map, Option, Some, None, append-nil, refl, sym, ap, ◌∙◌, subst}
 use Rattle.std.proofs.lemmas.Bool.{and_from}
-use Rattle.std.specs.Prelude.{filter, is_some}
-use Rattle.std.specs.FinSet as set
-use Rattle.std.proofs.lemmas.List.{append_assoc}
 use Rattle.maple_io.specs.declared.act.Act.{Act}
 use Rattle.history_lock.specs.Histories.{AreAllowed}
 use Rattle.machine_steps.specs.declared.entry.Entry.{Entry}
 use Rattle.machine_steps.specs.declared.entry.Entry.TheVariants as entries
 use Rattle.machine_steps.specs.Histories.{Leads, Turn}
-use Rattle.machine_steps.specs.declared.job.Job.{Job}
-use Rattle.machine_steps.specs.Machine.{Session, State, opening, session_at}
+use Rattle.machine_steps.specs.Machine.{State, opening}
 use Rattle.machine_steps.specs.Sound.{IsSound}
-use Rattle.machine_steps.specs.Waiting.{Waiting}
-use Rattle.machine_sharing.specs.Between.{Both, OnlyGrows, Stays}
 use Rattle.machine_sharing.specs.Legal.{call_of}
-use Rattle.machine_sharing.specs.Sharing.{Allows, Call}
-use Rattle.packet_workers.specs.declared.worked.Worked.{Worked}
+use Rattle.machine_sharing.specs.Sharing.{Allows}
 use Rattle.machine_desk.specs.Desks.{DeskLaw, DeskView, Footing}
-use Rattle.machine_desk.specs.Working.{Works}
-use Rattle.desk_jobs.specs.Laws.{Meanwhile}
-use Rattle.serve_steps.specs.Deeds.{Past, acts_of, bytes_of, is_asked, is_others, turns_of}
+use Rattle.machine_desk.specs.Laws.{Meanwhile}
+use Rattle.machine_desk.proofs.Tended.{alone_back, sound_between, live_between, opened_between, stays_between, none_waits_between}
+use Rattle.machine_desk.proofs.Meanwhile.{leads_then}
+use Rattle.serve_steps.specs.Deeds.{Past, bytes_of, is_asked, is_others, turns_of}
 use Rattle.serve_steps.specs.Deeds.Deed.{Enters}
 use Rattle.serve_steps.specs.Laws.{entered}
 use Rattle.serve_steps.specs.Parts.{AreFree, Given, all_told, due, ends_due, entry_if, hears_open, keeps_due, own_of}
+use Rattle.serve_steps.proofs.Entered.{acts_entered, are_others, AreOthers}
+use Rattle.serve_steps.proofs.States.{turns_go_on}
 use Rattle.serve_channels.specs.declared.server.Server.{Server}
-use Rattle.serve_channels.specs.Servers.{IsSame, WorksAlone}
+use Rattle.serve_channels.specs.Servers.{IsSame, WorksAlone, home}
 use Rattle.serve_channels.specs.Serving.{ServingLaws}
 use Rattle.serve_channels.specs.Stretches.{IsAside, Owes}
 use Rattle.serve_channels.proofs.Alike.{IsAlike, alike_same, alike_then, alike_turn, aside_turn, is_about, spares_another}
-use Rattle.serve_channels.proofs.Kept.{IsKeptBut, alone_back, IsLeft, IsSessionStill, IsTold, kept_same}
+use Rattle.serve_channels.proofs.Kept.{IsKeptBut, IsLeft, IsSessionStill, IsTold, kept_same}
 
 -- ---- entries of others
 
@@ -45,25 +41,6 @@ of_others entries.OpenJobs h = record { asked = refl; about = λ c. refl; heard 
 of_others (entries.Commit job run) h = record { asked = refl; about = λ c. refl; heard = λ past. refl }
 of_others (entries.Decide job) h = record { asked = refl; about = λ c. refl; heard = λ past. refl }
 of_others e h = absurd (cc)
-
--- all these turns are of such entries
-abbrev pub AreOthers : List Turn → Type 0
-AreOthers [] = Unit {0}
-AreOthers (t ∷ ts) = (is_others t.entry ≡ true) × AreOthers ts
-
--- ---- deeds behind deeds
-
-pub entered_ahead : (ts : List Turn) (done past : Past) → entered ts done ++ past ≡ entered ts (done ++ past)
-entered_ahead [] done past = refl
-entered_ahead (t ∷ ts) done past = entered_ahead ts (Enters t ∷ done) past
-
-turns_entered : (ts : List Turn) (past : Past) → turns_of (entered ts past) ≡ turns_of past ++ ts
-turns_entered [] past = sym (append-nil (turns_of past))
-turns_entered (t ∷ ts) past = turns_entered ts (Enters t ∷ past) ∙ append_assoc (turns_of past) (t ∷ []) ts
-
-acts_entered : (ts : List Turn) (past : Past) → acts_of (entered ts past) ≡ acts_of past
-acts_entered [] past = refl
-acts_entered (t ∷ ts) past = acts_entered ts (Enters t ∷ past) ∙ append-nil (acts_of past)
 
 pub others_alike : (c : ℕ) (ts : List Turn) (past : Past) → AreOthers ts → IsAlike c past (entered ts past)
 others_alike c [] past h = alike_same c past
@@ -124,54 +101,22 @@ pub record IsLawful (d : DeskView) : Type 0 where
 pub lawful : {d : DeskView} → DeskLaw d → IsLawful d
 lawful h = record { sound = h.sound; legal = h.legal }
 
-pub leads_then : (m : State) (xs ys : List Turn) (n last : State) → Leads m xs n → Leads n ys last → Leads m (xs ++ ys) last
-leads_then m [] ys n last e more = subst (λ (x : State). Leads x ys last) e more
-leads_then m (x ∷ xs) ys n last (begins, made, rest) more = (begins, made, leads_then x.behind xs ys n last rest more)
-
-pub some_at : {X : Type 0} (o : Option X) → is_some o ≡ true → (x : X) × (o ≡ Some x)
-some_at None e = absurd (cc)
-some_at (Some x) e = (x, refl)
-
-both_some : (R : Session → Session → Type 0) (o p : Option Session) → Both R o p → is_some p ≡ is_some o
-both_some R None None h = refl
-both_some R (Some s) (Some t) h = refl
-both_some R None (Some t) h = absurd h
-both_some R (Some s) None h = absurd h
-
 -- ---- what others did at the desk
 
-pub worked_meanwhile : (item : Waiting) (how : Worked) (a b : DeskView) → Works item how a b → Meanwhile a b
-worked_meanwhile item how a b w = record { turns = w.turns; past = w.past; leads = w.meanwhile; allowed = w.allowed }
+module _ (laws : ServingLaws) {a b : DeskView} (law : IsLawful a) (h : Meanwhile a b) where
+  pub meanwhile_others : AreOthers h.turns
+  meanwhile_others = are_others (map call_of a.past) h.turns h.allowed
 
-module _ (laws : ServingLaws) where
-  are_others : (log : List Call) (ts : List Turn) → AreAllowed Allows log (map call_of ts) → AreOthers ts
-  are_others log [] h = tt
-  are_others log (t ∷ ts) h = (laws.allowed log t.entry h.0, are_others (log ++ call_of t ∷ []) ts h.1)
+  pub meanwhile_lawful : b.footing ≡ a.footing → IsLawful b
+  meanwhile_lawful footing = record {
+    sound = sound_between laws.driving law.sound h;
+    legal =
+        subst (λ (f : Footing). Leads f.start b.past b.now) (sym footing)
+        (subst (λ ts. Leads a.footing.start ts b.now) (sym h.past) (leads_then a.footing.start a.past h.turns a.now b.now law.legal h.leads));
+  }
 
-  module _ {a b : DeskView} (law : IsLawful a) (h : Meanwhile a b) where
-    pub meanwhile_others : AreOthers h.turns
-    meanwhile_others = are_others (map call_of a.past) h.turns h.allowed
-
-    pub meanwhile_stays : Stays a.now b.now
-    meanwhile_stays = laws.driving.stays (map call_of a.past) (map call_of h.turns) a.now b.now (laws.driving.calls a.now h.turns b.now law.sound h.leads).replays h.allowed
-
-    pub meanwhile_lawful : b.footing ≡ a.footing → IsLawful b
-    meanwhile_lawful footing = record {
-      sound = laws.driving.legal a.now (map call_of h.turns) b.now law.sound (laws.driving.calls a.now h.turns b.now law.sound h.leads).replays;
-      legal =
-          subst (λ (f : Footing). Leads f.start b.past b.now) (sym footing)
-          (subst (λ ts. Leads a.footing.start ts b.now) (sym h.past) (leads_then a.footing.start a.past h.turns a.now b.now law.legal h.leads));
-    }
-
-    pub meanwhile_session : (c : ℕ) → IsSessionStill c a.now b.now
-    meanwhile_session c = record {
-      live = both_some OnlyGrows (session_at c a.now) (session_at c b.now) (meanwhile_stays.found c).0;
-      opened = ap (λ s. set.contains s c) meanwhile_stays.opened;
-    }
-
-    -- no packet waits where none did
-    pub meanwhile_none : a.now.jobs ≡ [] → b.now.jobs ≡ []
-    meanwhile_none none = meanwhile_stays.jobs.1 ∙ ap (λ (js : List Job). filter meanwhile_stays.jobs.0 js) none
+  pub meanwhile_session : (c : ℕ) → IsSessionStill c a.now b.now
+  meanwhile_session c = record { live = live_between laws.driving law.sound h c; opened = opened_between laws.driving law.sound h c }
 
 -- ---- beside a server
 
@@ -189,9 +134,9 @@ module _ (laws : ServingLaws) {g : Given} {before : List Act} {past : Past} {log
   others_told : IsTold before after log a b
   others_told = record {
     same = h.same;
-    turns = h.meanwhile.past ∙ ap (λ (ts : List Turn). ts ++ h.meanwhile.turns) kept.turns ∙ sym (turns_entered h.meanwhile.turns past);
+    turns = h.meanwhile.past ∙ ap (λ (ts : List Turn). ts ++ h.meanwhile.turns) kept.turns ∙ sym (turns_go_on h.meanwhile.turns past);
     acts = kept.acts ∙ ap (λ (acts : List Act). before ++ acts) (sym (acts_entered h.meanwhile.turns past));
-    settings = (meanwhile_stays laws law h.meanwhile).settings;
+    settings = (stays_between laws.driving law.sound h.meanwhile).settings;
   }
 
   pub others_left : (c : ℕ) → IsLeft past after a b c
@@ -208,7 +153,7 @@ module _ (laws : ServingLaws) {g : Given} {before : List Act} {past : Past} {log
   others_lawful = meanwhile_lawful laws law h.meanwhile h.same.footing
 
   pub others_jobs : (WorksAlone a → a.desk.now.jobs ≡ []) → WorksAlone b → b.desk.now.jobs ≡ []
-  others_jobs jobs alone = meanwhile_none laws law h.meanwhile (jobs (alone_back h.same alone))
+  others_jobs jobs alone = none_waits_between laws.driving law.sound h.meanwhile (jobs (alone_back home h.same alone))
 
 -- the machine's history so far
 pub legal_past : (g : Given) (before : List Act) (past : Past) (log : List Act) (s : Server) → IsKeptBut g before past log s → IsLawful s.desk

@@ -1,56 +1,50 @@
 -- What comes next of a connection is heard: the deeds of that, and what is kept behind them.
-use Rattle.std.proofs.Common.{◌≡◌, ℕ, ◌<◌, true, false, List, [], ◌∷◌, ◌++◌, length, set, refl, sym, ap, ◌∙◌, subst, ⊎_elim, arith}
+use Rattle.std.proofs.Common.{◌≡◌, ℕ, ◌<◌, true, false, List, [], ◌∷◌, ◌++◌, length, set, refl, sym, ap, ◌∙◌, subst, arith}
 use Rattle.std.specs.Prelude.{Some, None}
 use Rattle.std.specs.List.{slice_get}
 use Rattle.std.proofs.lemmas.Bool.{ne_eqb}
 use Rattle.std.proofs.lemmas.List.{set-set}
 use Rattle.std.proofs.lemmas.Option.{same_Some}
-use Rattle.desk_jobs.proofs.Crewed.{some_crew}
-use Rattle.desk_jobs.specs.Homes.{rest_of}
+use Rattle.machine_desk.specs.Homes.{rest_of}
 use Rattle.maple_io.specs.declared.act.Act.{Act}
 use Rattle.machine_steps.specs.declared.entry.Entry.{Entry}
 use Rattle.machine_steps.specs.declared.entry.Entry.TheVariants as entries
 use Rattle.machine_steps.specs.declared.entry.Input.{Input}
-use Rattle.machine_steps.specs.declared.job.Job.{Job}
 use Rattle.machine_steps.specs.declared.reply.Reply.{Reply}
 use Rattle.machine_steps.specs.declared.reply.Reply.TheVariants.{Ended, Job as JobOpened, Overload}
 use Rattle.machine_steps.specs.Histories.{Turn}
 use Rattle.machine_moves.specs.Told.{WaitsAs}
 use Rattle.machine_desk.specs.Desks.{DeskView, Enters as EntersDesk}
 use Rattle.machine_desk.specs.Hearing.{Comes, IsStaged, came_of, goes_on, heard_by, is_live, stage_heard}
-use Rattle.machine_desk.specs.Working.{RoundsClose}
 use Rattle.machine_desk.specs.declared.hearing.Heard.{Heard}
 use Rattle.machine_desk.specs.declared.inbound.Inbound.{Inbound}
+use Rattle.machine_desk.proofs.Tended.{alone_back}
+use Rattle.machine_desk.proofs.NoneLeft.{answered}
+use Rattle.machine_desk.proofs.Replies.{had_memory}
+use Rattle.machine_desk.proofs.Arrived.{some_came}
 use Rattle.world_steps.specs.Worlds.{lacks_memory}
 use Rattle.sim_steps.specs.Agreeing.{AreCut}
 use Rattle.core_machine.proofs.Hearing.{set_there}
 use Rattle.serve_steps.specs.Deeds.{Past, bytes_of, inputs_of, is_open, is_over, tells_end}
 use Rattle.serve_steps.specs.Deeds.Deed.{Enters}
 use Rattle.serve_steps.specs.Laws.{entered}
-use Rattle.serve_steps.specs.Parts.{Given, is_overload}
+use Rattle.serve_steps.specs.Parts.{Given}
 use Rattle.serve_channels.specs.declared.connection.Connection.{Connection}
 use Rattle.serve_channels.specs.declared.server.Server.{Server}
 use Rattle.serve_channels.specs.Hearing.{UpTo}
 use Rattle.serve_channels.specs.Keeping.{IsKept, Went}
 use Rattle.serve_channels.specs.Passing.{Follows, HearsInput, HearsSome, MakesRoomFor, rest_at}
-use Rattle.serve_channels.specs.Servers.{IsSame, WorksAlone, number_of, with_inbound}
+use Rattle.serve_channels.specs.Servers.{IsSame, WorksAlone, number_of, with_inbound, home}
 use Rattle.serve_channels.specs.Serving.{ServingLaws}
 use Rattle.serve_channels.proofs.Alike.{IsAlike, alike_open, alike_then}
-use Rattle.serve_channels.proofs.Answered.{answered}
 use Rattle.serve_channels.proofs.Attended.{alike_beside, beside_none, beside_of, bytes_beside}
 use Rattle.serve_channels.proofs.Entering.{IsUnderWay, begins, goes_beside, is_over_now}
 use Rattle.serve_channels.proofs.Entries.{ahead_now, between, goes_with_one, others_ahead, own_turn}
-use Rattle.serve_channels.proofs.HeardReply.{Tells, tells_so}
-use Rattle.serve_channels.proofs.Kept.{alone_back}
-use Rattle.serve_channels.proofs.OneHeard.{HeardBy, comes_live, cut_now, fewer_now, inputs_are, one_agrees, over_now, was_open}
+use Rattle.serve_channels.proofs.HeardReply.{unlinked}
+use Rattle.serve_channels.proofs.OneHeard.{HeardBy, cut_now, fewer_now, inputs_are, one_agrees, over_now, was_open}
 use Rattle.serve_channels.proofs.Others.{DidBeside, IsLawful, meanwhile_others, others_jobs}
-use Rattle.serve_channels.proofs.Replies.{had_memory}
 
 -- ---- by the reply
-
-few_told : (c : ℕ) (reply : Reply) (jobs : List Job) → WaitsAs c reply jobs → is_overload reply ≡ false
-few_told c Overload jobs waits = absurd waits
-few_told c reply jobs waits = refl
 
 -- the session is over, or goes on
 up_to_by : (reply : Reply) (c : ℕ) (past : Past) (rest : List ℕ) → (tells_end reply ≡ true → is_over c past ≡ true) → UpTo (came_of (heard_by reply)) c past rest
@@ -73,7 +67,7 @@ pub record HasCome (here : ℕ) (old source room mid new : Server) (k : Connecti
   pub same : IsSame room mid
   pub follows : Follows heard mid new
 
-module _ (laws : ServingLaws) (close : RoundsClose) {here : ℕ} {old source room mid new : Server} {k : Connection} {j : Inbound} {input : Input} {heard : Heard}
+module _ (laws : ServingLaws) {here : ℕ} {old source room mid new : Server} {k : Connection} {j : Inbound} {input : Input} {heard : Heard}
     (h : HasCome here old source room mid new k j input heard) (law : IsLawful old.desk) where
   open h use {there, comes, taken, makes, hears, same, follows}
 
@@ -138,12 +132,6 @@ module _ (laws : ServingLaws) (close : RoundsClose) {here : ℕ} {old source roo
   memory : lacks_memory reply ≡ false
   memory = had_memory reply hears.does.0.asks.memory
 
-  tells : Tells input before_it.now reply
-  tells = tells_so c input before_it.now reply mid.desk.now entered_so.made.steps
-
-  alone_mid : WorksAlone old → WorksAlone roomy
-  alone_mid alone = some_crew old.crew room.crew makes.tends.same.crew ∙ alone
-
   module _ {g : Given} {before : List Act} {past : Past} {log : List Act} (kept : IsKept g before past log old) where
     -- ---- ahead of it
 
@@ -181,9 +169,9 @@ module _ (laws : ServingLaws) (close : RoundsClose) {here : ℕ} {old source roo
       agrees = second.kept.agree here k there;
       comes = comes;
       steps = entered_so.made.steps;
-      session = (second.kept.sessions.staged here k there).live ∙ ap is_live (comes_live input k.inbound j comes).0;
+      session = (second.kept.sessions.staged here k there).live ∙ ap is_live (some_came input k.inbound j comes).0;
       memory = memory;
-      unlinked = tells.unlinked;
+      unlinked = unlinked c input before_it.now reply mid.desk.now entered_so.made.steps;
     }
 
     open_ahead : is_open c past2 ≡ true
@@ -191,16 +179,6 @@ module _ (laws : ServingLaws) (close : RoundsClose) {here : ℕ} {old source roo
 
     waits : WorksAlone roomy → WaitsAs c reply mid.desk.now.jobs
     waits alone = laws.driving.jobs before_it.now c input reply mid.desk.now (none_ahead alone) entered_so.made.steps
-
-    fits : is_overload reply ≡ false
-    fits =
-        ⊎_elim
-        (λ few. few)
-        (λ many. ⊎_elim (λ alone. few_waited (alone_mid alone)) (λ few. (let most = many.1 in absurd (omega (arith, few, most)))) (makes.room many.0 before_it ready_beside.meanwhile))
-        tells.few
-      where
-        few_waited : WorksAlone roomy → is_overload reply ≡ false
-        few_waited alone = few_told c reply mid.desk.now.jobs (waits alone)
 
     -- ---- behind it
 
@@ -221,7 +199,7 @@ module _ (laws : ServingLaws) (close : RoundsClose) {here : ℕ} {old source roo
 
     third : IsUnderWay g before past None (entry ∷ []) done3 log mid
     third =
-        goes_with_one laws first mid entered_so roomy_same (record { own = refl; keeps = refl; memory = memory; opened = open_ahead; few = fits })
+        goes_with_one laws first mid entered_so roomy_same (record { own = refl; keeps = refl; memory = memory; opened = open_ahead })
         refl here k l there set_is comes.1.0 (λ d other. ne_eqb c d (λ e. other (sym e))) (λ agrees. one_agrees by) staged_mid
 
     -- ---- what is done about it
@@ -230,17 +208,17 @@ module _ (laws : ServingLaws) (close : RoundsClose) {here : ℕ} {old source roo
     Followed = DidBeside mid new × (WorksAlone new → new.desk.now.jobs ≡ [])
 
     nothing_more : new ≡ mid → (WorksAlone roomy → mid.desk.now.jobs ≡ []) → Followed
-    nothing_more e jobs = (beside_none mid new e, λ alone. ap (λ (s : Server). s.desk.now.jobs) e ∙ jobs (alone_back roomy_same (subst WorksAlone e alone)))
+    nothing_more e jobs = (beside_none mid new e, λ alone. ap (λ (s : Server). s.desk.now.jobs) e ∙ jobs (alone_back home roomy_same (subst WorksAlone e alone)))
 
     follow_by : (r : Reply) → reply ≡ r → Follows (heard_by r) mid new → (WorksAlone roomy → WaitsAs c r mid.desk.now.jobs) → Followed
     follow_by (JobOpened item) is f waiting = (beside_of mid new f.tends, none_left)
       where
         none_left : WorksAlone new → new.desk.now.jobs ≡ []
         none_left alone =
-            let alone_then = alone_back f.tends.same alone in
-            let (one, waits_now, item_is, its) = waiting (alone_back roomy_same alone_then) in
-            answered laws close item one mid.desk new.desk third.law (third.kept.crew.alone alone_then) waits_now item_is (f.alone alone_then)
-    follow_by Overload is f waiting = (let g : false ≡ true = sym fits ∙ ap is_overload is in absurd (cc))
+            let alone_then = alone_back home f.tends.same alone in
+            let (one, waits_now, item_is, its) = waiting (alone_back home roomy_same alone_then) in
+            answered laws.driving item one mid.desk new.desk third.law.sound (third.kept.crew.alone alone_then) waits_now item_is (f.alone alone_then)
+    follow_by Overload is f waiting = absurd (entered_so.room is)
     follow_by other is f waiting = nothing_more f waiting
 
     followed : Followed

@@ -18,7 +18,7 @@ use Rattle.board_lines.specs.Deliveries.{OnlySends, SendsAll, is_failed_reach, i
 use Rattle.board_lines.specs.Queues.{QueueView}
 use Rattle.machine_steps.specs.declared.entry.Entry.{Entry}
 use Rattle.machine_desk.specs.Hearing.{is_live}
-use Rattle.desk_jobs.proofs.Lists.{set_beside}
+use Rattle.machine_desk.proofs.Lists.{set_beside}
 use Rattle.serve_steps.specs.Deeds.{Past, last_answer, takes_out}
 use Rattle.serve_steps.specs.Deeds.Deed.{Does}
 use Rattle.serve_steps.specs.Parts.{is_quiet}

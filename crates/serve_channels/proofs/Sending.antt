@@ -8,7 +8,7 @@ use Rattle.std.proofs.lemmas.Bool.{and_parts, ne_eqb}
 use Rattle.std.proofs.lemmas.Grind.{flat_map-append}
 use Rattle.std.proofs.lemmas.List.{append_cancel_left}
 use Rattle.std.proofs.lemmas.List.Folds.{list_any-append}
-use Rattle.desk_jobs.proofs.Crewed.{same_crew}
+use Rattle.machine_desk.proofs.Crewed.{same_crew}
 use Rattle.maple_io.specs.Fronts.{IsFront}
 use Rattle.maple_io.specs.declared.act.Act.{Act}
 use Rattle.maple_io.specs.declared.act.Act.TheVariants as acts
@@ -44,7 +44,7 @@ owes_act to own done past act quiet due_is next h = record {
   while_open = (tt, h.while_open);
   told = ap (λ (o : Option ℕ). keeps_due o (Does act) && all_told done) h.due_is ∙ h.told;
   due_is = ap (λ (o : Option ℕ). due_by (Does act) o) h.due_is ∙ due_is;
-  free = (refl, h.free);
+  free = (tt, h.free);
   in_order = (next, h.in_order);
 }
 

@@ -20,11 +20,13 @@ use Rattle.machine_steps.specs.declared.entry.Entry.TheVariants as entries
 use Rattle.machine_steps.specs.Histories.{Turn}
 use Rattle.machine_desk.specs.Hearing.{is_live}
 use Rattle.machine_desk.specs.declared.inbound.Inbound.{Inbound}
+use Rattle.machine_desk.proofs.Tended.{ahead, meanwhile_ahead}
 use Rattle.core_machine.proofs.Hearing.{set_there}
 use Rattle.serve_steps.specs.Deeds.{Deed, Past, last_answer, takes_out}
 use Rattle.serve_steps.specs.Deeds.Deed.{Enters, Does}
 use Rattle.serve_steps.specs.Laws.{entered}
 use Rattle.serve_steps.specs.Parts.{Given, ends_due, entry_if}
+use Rattle.serve_steps.proofs.Entered.{AreOthers}
 use Rattle.serve_channels.specs.declared.connection.Connection.{Connection}
 use Rattle.serve_channels.specs.declared.server.Server.{Server}
 use Rattle.serve_channels.specs.Delivering.{IsSentOut, IsServed, Leaves, SendsBy, SendsOut, ServesAt, TakesOut}
@@ -34,9 +36,9 @@ use Rattle.serve_channels.specs.Serving.{ServingLaws}
 use Rattle.serve_channels.specs.Stretches.{IsAside}
 use Rattle.serve_channels.proofs.Acts.{did, did_last}
 use Rattle.serve_channels.proofs.Alike.{aside_turn, spares_another}
-use Rattle.serve_channels.proofs.Entering.{IsUnderWay, ahead, is_over_now, meanwhile_ahead}
+use Rattle.serve_channels.proofs.Entering.{IsUnderWay, is_over_now}
 use Rattle.serve_channels.proofs.Leaving.{goes_gone, gone_jobs, gone_turn}
-use Rattle.serve_channels.proofs.Others.{AreOthers, IsLawful, meanwhile_others, others_aside}
+use Rattle.serve_channels.proofs.Others.{IsLawful, meanwhile_others, others_aside}
 use Rattle.serve_channels.proofs.Sending.{AreGood, Requeues, aside_good, aside_one, goes_failed, goes_good, send_to}
 use Rattle.serve_channels.proofs.Stretching.{aside_nothing, went_nowhere}
 use Rattle.serve_channels.proofs.TakenOut.{ServesSoFar, serves_taken, with_more}

@@ -5,13 +5,16 @@ use Rattle.std.specs.Prelude.{Option, Some, None, is_some, unwrap_or}
 use Rattle.std.specs.List.{remove, slice_get}
 use Rattle.std.proofs.lemmas.Bool.{cases_eq, ne_eqb, both_ways}
 use Rattle.std.proofs.lemmas.List.Folds.{list_any-append}
+use Rattle.std.proofs.lemmas.Option.{same_Some}
 use Rattle.maple_io.specs.declared.act.Act.{Act}
 use Rattle.maple_io.specs.declared.act.Act.TheVariants as acts
 use Rattle.maple_io.specs.Boards.{is_opening, was_opened}
 use Rattle.machine_steps.specs.declared.entry.Entry.{Entry}
 use Rattle.machine_steps.specs.Machine.{session_at}
 use Rattle.machine_steps.specs.Machine.{was_opened as was_session}
-use Rattle.machine_desk.specs.Hearing.{is_live}
+use Rattle.machine_desk.specs.Hearing.{is_live, was_begun}
+use Rattle.machine_desk.specs.declared.inbound.Stage.{Stage}
+use Rattle.machine_desk.specs.declared.inbound.Stage.TheVariants.{Live, Over, Unopened}
 use Rattle.serve_steps.specs.Runs.{taken_report}
 use Rattle.serve_steps.specs.Deeds.{Past, acts_of, turns_of}
 use Rattle.serve_steps.specs.Deeds.Deed.{Does}
@@ -79,7 +82,7 @@ module _ {g : Given} {before : List Act} {past : Past} {old : List Act} {s : Ser
   alone_left c unknown =
       ⊎_elim
       (λ same. subst (λ (d : ℕ). is_some (session_at d s.desk.now) ≡ false) same ((kept.sessions.staged at k there).live ∙ over))
-      (λ other. kept.sessions.alone c (unknown_back c unknown other)) (cases_eq (number_of k) c)
+      (λ other. kept.sessions.others c (unknown_back c unknown other)) (cases_eq (number_of k) c)
 
   -- a number that was never opened is none of those that are there
   not_opened : (c : ℕ) → was_opened c (acts_of past) ≡ false → (number_of k == c) ≡ false
@@ -107,7 +110,7 @@ module _ {g : Given} {before : List Act} {past : Past} {old : List Act} {s : Ser
         sessions = record {
           staged = λ n l here. (let f = came_from s.connections.items at n l (ap (λ (ks : List Connection). slice_get ks n) back ∙ here) in
               kept.sessions.staged f.from l f.there);
-          alone = λ c unknown. alone_left c (subst (λ (ks : List Connection). IsUnknown c ks) removed unknown);
+          others = λ c unknown. alone_left c (subst (λ (ks : List Connection). IsUnknown c ks) removed unknown);
         };
         crew = kept.crew;
         jobs = kept.jobs;
@@ -175,6 +178,18 @@ was_opened_at log s at k h there =
     ap (was_opened (number_of k)) h.kept.acts ∙ list_any-append (is_opening (number_of k)) h.before (acts_of h.past)
     ∙ ap (λ (b : Bool). was_opened (number_of k) h.before || b) (h.kept.agree at k there).opened ∙ or-true (was_opened (number_of k) h.before)
 
+-- one that isn't open was
+over_stage : (stage : Stage) → was_begun stage ≡ true → is_live stage ≡ false → stage ≡ Over
+over_stage Over begun shut = refl
+over_stage Live begun shut = absurd (cc)
+over_stage Unopened begun shut = absurd (cc)
+
+pub over_at : (log : List Act) (s : Server) (at : ℕ) (k : Connection) → IsServing log s → at < length s.connections.items → k ≡ get_or s.connections.items at k
+    → is_live k.inbound.stage ≡ false → IsOverAt at s
+over_at log s at k serving within is shut x there =
+    over_stage x.inbound.stage (serving.kept.agree at x there).begun
+    (ap (λ (y : Connection). is_live y.inbound.stage) (same_Some x k (sym there ∙ there_at s.connections.items at k within is)) ∙ shut)
+
 pub closes_at : (at n : ℕ) (s t : Server) (old new : List Act) (k : Connection) → at < length s.connections.items → k ≡ get_or s.connections.items at k
     → IsOverAt at s → n ≡ number_of k → new ≡ old ++ acts.Closes n ∷ [] → t ≡ record s { connections = t.connections }
     → t.connections.items ≡ remove s.connections.items at → ClosesAt at s t old new
@@ -183,7 +198,7 @@ closes_at at n s t old new k within is over number log rest removed =
     record {
       connection = k;
       there = there;
-      over = over k there;
+      over = ap is_live (over k there);
       log = log ∙ ap (λ (c : ℕ). old ++ acts.Closes c ∷ []) number;
       rest = rest;
       removed = removed;

@@ -6,6 +6,7 @@ use Rattle.maple_io.specs.declared.act.Act.{Act}
 use Rattle.machine_desk.specs.Desks.{DeskLaw, DeskView, calls_of}
 use Rattle.machine_desk.specs.Reports.{Reports as ReportsAtDesk, ReportsBy}
 use Rattle.machine_desk.specs.declared.report.ReportStop.{ReportStop}
+use Rattle.machine_desk.proofs.Tended.{same_by, ahead, meanwhile_ahead}
 use Rattle.machine_steps.specs.declared.entry.Entry.{Entry}
 use Rattle.machine_steps.specs.declared.entry.Entry.TheVariants as entries
 use Rattle.machine_steps.specs.declared.reply.Reply.{Reply}
@@ -18,13 +19,13 @@ use Rattle.serve_steps.specs.Deeds.Deed.{Enters}
 use Rattle.serve_steps.specs.Laws.{entered}
 use Rattle.serve_channels.specs.declared.server.Server.{Server}
 use Rattle.serve_channels.specs.Delivering.{GoesReporting, IsStill}
-use Rattle.serve_channels.specs.Servers.{IsSame, number_of}
+use Rattle.serve_channels.specs.Servers.{IsSame, number_of, home}
 use Rattle.serve_channels.specs.Serving.{ServingLaws}
 use Rattle.serve_channels.proofs.Alike.{aside_turn, spares_another}
 use Rattle.serve_channels.proofs.Emptied.{nothing_beside}
-use Rattle.serve_channels.proofs.Entering.{ahead, at_desk, begins, meanwhile_ahead}
+use Rattle.serve_channels.proofs.Entering.{at_desk, begins}
 use Rattle.serve_channels.proofs.Entries.{entry_jobs, kept_about_none, others_ahead, owes_now, own_turn, unheard}
-use Rattle.serve_channels.proofs.Kept.{kept_whole, same_desk}
+use Rattle.serve_channels.proofs.Kept.{kept_whole}
 use Rattle.serve_channels.proofs.Others.{lawful, meanwhile_others, others_aside}
 use Rattle.serve_channels.proofs.Stretching.{aside_nothing}
 use Rattle.serve_channels.proofs.Told.{taken_others}
@@ -46,7 +47,7 @@ module _ (laws : ServingLaws) (a : Server) (d : DeskView) (old new : SinkView) (
   others = entered h.enters.others []
 
   same : IsSame a b
-  same = same_desk a b refl h.enters.footing
+  same = same_by home a b refl h.enters.footing
 
   pub reported : (log : List Act) → GoesReporting old new a log b log
   reported log g before past kept =

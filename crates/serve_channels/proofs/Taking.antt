@@ -1,5 +1,5 @@
 -- A turn of the board comes.
-use Rattle.std.proofs.Common.{◌≡◌, ◌≢◌, ℕ, ◌+◌, Bool, true, false, ◌==◌, List, [], ◌∷◌, ◌++◌, length, Option, append-nil, length-append, refl, sym, ap, ◌∙◌, subst, inl, inr, arith}
+use Rattle.std.proofs.Common.{◌≡◌, ◌≢◌, ℕ, ◌+◌, true, false, ◌==◌, List, [], ◌∷◌, ◌++◌, length, Option, append-nil, length-append, refl, sym, ap, ◌∙◌, subst, inl, inr, arith}
 use Rattle.std.specs.Prelude.{is_some, Result, Ok, Err, OnErr}
 use Rattle.std.specs.List.{list_all}
 use Rattle.std.proofs.lemmas.Bool.{eq-eqb, ne_eqb, or_parts, both_ways}
@@ -19,20 +19,22 @@ use Rattle.machine_steps.specs.Machine.{State, session_at}
 use Rattle.machine_steps.specs.Machine.{was_opened as was_session}
 use Rattle.machine_desk.specs.Hearing.{IsStaged}
 use Rattle.machine_desk.specs.declared.inbound.Inbound.{Inbound}
-use Rattle.desk_jobs.specs.declared.stopped.Stopped.{Stopped}
+use Rattle.machine_desk.specs.declared.stopped.Stopped.{Stopped}
+use Rattle.machine_desk.proofs.Tended.{alone_back, same_self}
 use Rattle.sim_steps.specs.Agreeing.{AreCut}
-use Rattle.serve_steps.specs.Deeds.{Past, acts_of, bytes_of, came_by, inputs_of, taken_of, turns_of}
+use Rattle.serve_steps.specs.Deeds.{Past, acts_of, bytes_of, inputs_of, taken_of, turns_of}
 use Rattle.serve_steps.specs.Deeds.Deed.{Does}
 use Rattle.serve_steps.specs.Parts.{Given}
+use Rattle.serve_steps.proofs.Heard.{came_other, concerns}
 use Rattle.serve_channels.specs.declared.connection.Connection.{Connection}
 use Rattle.serve_channels.specs.declared.server.Server.{Server}
 use Rattle.serve_channels.specs.Delivering.{FailsBy, GivesOne, IsNew, OpensOnce, bytes_in, given_act, given_deeds}
 use Rattle.serve_channels.specs.Feeding.{FeedsBy, FeedsOne}
 use Rattle.serve_channels.specs.Keeping.{Agrees, IsHeardTo, IsKept, is_message}
-use Rattle.serve_channels.specs.Servers.{IsKnown, IsSame, number_of}
+use Rattle.serve_channels.specs.Servers.{IsKnown, IsSame, number_of, home}
 use Rattle.serve_channels.proofs.Acts.{act_alike}
 use Rattle.serve_channels.proofs.Alike.{IsAlike, unused_alike}
-use Rattle.serve_channels.proofs.Kept.{IsKeptBut, IsLeft, IsTold, alone_back, kept_at, kept_but, kept_same, kept_whole, number_there, same_connections, same_server}
+use Rattle.serve_channels.proofs.Kept.{IsKeptBut, IsLeft, IsTold, kept_at, kept_but, kept_same, kept_whole, number_there, same_connections}
 
 -- ---- what a turn leaves of a connection
 
@@ -42,17 +44,6 @@ module _ (c : ℕ) (t : BoardTurn) (bytes : List ℕ) (past : Past) where
 
   pub given_alike : IsAlike c past (Does given ∷ past)
   given_alike = act_alike c given past refl refl refl
-
--- bytes come on another connection, or another is opened
-abbrev is_turn_of : ℕ → BoardTurn → Bool
-is_turn_of c (turn.Opened d) = d == c
-is_turn_of c (turn.Bytes d n) = d == c
-is_turn_of c t = false
-
-came_not : (c : ℕ) (t : BoardTurn) (bytes xs : List ℕ) → is_turn_of c t ≡ false → came_by c (acts.Gives t bytes) xs ≡ xs
-came_not c (turn.Opened d) bytes xs e = rw e refl
-came_not c (turn.Bytes d n) bytes xs e = rw e refl
-came_not c t bytes xs e = refl
 
 -- more bytes behind those that were cut belong to the rest
 cut_more : (place : ℕ) (inputs : List Input) (bytes rest more : List ℕ) → list_all is_message inputs ≡ true → AreCut place inputs bytes rest
@@ -107,21 +98,21 @@ module _ {g : Given} {before : List Act} {past : Past} {log : List Act} {a : Ser
       settings = ap (λ d. d.now.settings) desk;
     }
 
-    left : b.desk ≡ a.desk → (c : ℕ) → (IsKnown c a.connections.items → is_turn_of c t ≡ false) → IsLeft past (after t bytes) a b c
+    left : b.desk ≡ a.desk → (c : ℕ) → (IsKnown c a.connections.items → concerns c t ≡ false) → IsLeft past (after t bytes) a b c
     left desk c other = record {
       alike = given_alike c t bytes past;
-      bytes = λ known. came_not c t bytes (bytes_of c past) (other known);
+      bytes = λ known. came_other c t bytes (bytes_of c past) (other known);
       session = record { live = ap (λ d. is_some (session_at c d.now)) desk; opened = ap (λ d. was_session c d.now) desk };
     }
 
     whole : b.desk ≡ a.desk → IsSame a b → IsKeptBut g before (after t bytes) new_log b → IsKept g before (after t bytes) new_log b
-    whole desk same k = kept_whole k (λ alone. ap (λ d. d.now.jobs) desk ∙ kept.jobs (alone_back same alone))
+    whole desk same k = kept_whole k (λ alone. ap (λ d. d.now.jobs) desk ∙ kept.jobs (alone_back home same alone))
 
     -- no connection changes
-    given_kept : b ≡ a → ((c : ℕ) → IsKnown c a.connections.items → is_turn_of c t ≡ false) → IsKept g before (after t bytes) new_log b
+    given_kept : b ≡ a → ((c : ℕ) → IsKnown c a.connections.items → concerns c t ≡ false) → IsKept g before (after t bytes) new_log b
     given_kept e others =
         (let desk = ap (λ (s : Server). s.desk) e in
-        let same = same_server a b e in
+        let same = subst (IsSame a) (sym e) (same_self home a) in
         whole desk same (kept_same (kept_but kept) (told desk same) (ap (λ (s : Server). s.connections.items) e) (λ c. left desk c (others c))))
 
   -- bytes on a connection that is there
@@ -207,7 +198,7 @@ module _ {g : Given} {before : List Act} {past : Past} {log : List Act} {a : Ser
     passes : (log_is : new_log ≡ log ++ []) → b ≡ a → IsKept g before past new_log b
     passes log_is e = subst (IsKept g before past new_log) (sym e) (subst (λ ls. IsKept g before past ls a) (sym (log_is ∙ append-nil log)) kept)
 
-    quiet : (t : BoardTurn) (bytes : List ℕ) → new_log ≡ log ++ acts.Gives t bytes ∷ [] → ((c : ℕ) → is_turn_of c t ≡ false) → b ≡ a
+    quiet : (t : BoardTurn) (bytes : List ℕ) → new_log ≡ log ++ acts.Gives t bytes ∷ [] → ((c : ℕ) → concerns c t ≡ false) → b ≡ a
         → IsKept g before (Does (acts.Gives t bytes) ∷ past) new_log b
     quiet t bytes log_is others e = given_kept t bytes log_is e (λ c known. others c)
 

@@ -6,16 +6,17 @@ use Rattle.std.proofs.lemmas.List.Folds.{list_any-append}
 use Rattle.board_lines.specs.declared.control_item.ControlItem.{ControlItem}
 use Rattle.board_lines.specs.Laws.{given_by, given_of, held_behind}
 use Rattle.board_lines.specs.Readings.{Reading, beginning, behind, item_at, last_item}
+use Rattle.machine_desk.proofs.Tended.{same_self, same_then}
 use Rattle.serve_steps.specs.Texts.{Ask, asks_of, control_quits, is_quit, quits}
 use Rattle.serve_steps.specs.Laws.{EndedIsGiven}
+use Rattle.serve_steps.proofs.Control.{given_on}
 use Rattle.serve_channels.specs.declared.scripting.ScriptEnd.TheVariants.{Whole}
 use Rattle.serve_channels.specs.declared.server.Server.{Server}
 use Rattle.serve_channels.specs.Controlling.{IsReading, IsReadTo}
-use Rattle.serve_channels.specs.Servers.{IsSame}
+use Rattle.serve_channels.specs.Servers.{IsSame, home}
 use Rattle.serve_channels.proofs.AskedFor.{AnswersBy, answers_none, answers_then}
 use Rattle.serve_channels.proofs.Items.{Splits, StandsFirst, control_first, list_end, script_does, script_first}
 use Rattle.serve_channels.proofs.Items.Splits.{EndsHere, GoesOn}
-use Rattle.serve_channels.proofs.Kept.{same_self, same_then}
 
 -- ---- a text is followed
 
@@ -30,7 +31,7 @@ pub record Followed {X : Type 0} (asks : List ControlItem → List Ask) (end : L
 
 pub followed_none : {X : Type 0} (asks : List ControlItem → List Ask) (end : List ControlItem → X) (all left : List ControlItem) (s : Server) → all ≡ left
     → Followed asks end all (asks left) (end left) s s
-followed_none asks end all left s e = record { asked = []; asks_are = ap asks e; end_is = ap end e; goes = answers_none s; connections = refl; same = same_self s }
+followed_none asks end all left s e = record { asked = []; asks_are = ap asks e; end_is = ap end e; goes = answers_none s; connections = refl; same = same_self home s }
 
 module _ {X : Type 0} {asks : List ControlItem → List Ask} {end : List ControlItem → X} {all : List ControlItem} where
   -- nothing is to be done any more
@@ -46,7 +47,7 @@ module _ {X : Type 0} {asks : List ControlItem → List Ask} {end : List Control
     end_is = h.end_is ∙ f;
     goes = answers_then h.asked more old mid new connections h.goes goes;
     connections = connections ∙ h.connections;
-    same = same_then h.same same;
+    same = same_then home h.same same;
   }
 
   -- what stands first was done
@@ -100,12 +101,6 @@ pub script_last : (r : Reading) (text : List ℕ) (i : ℕ) (given : Option Cont
 script_last r text i given end is = rw (drop_all i text end, is) refl
 
 -- ---- the control text
-
-given_on : (r : Reading) (xs ys : List ℕ) → given_by r (xs ++ ys) ≡ given_by r xs ++ given_by (held_behind r xs) ys
-given_on r [] ys = refl
-given_on r (x ∷ xs) ys =
-    ap (λ (is : List ControlItem). option_to_list (item_at r x) ++ is) (given_on (behind r x) xs ys)
-    ∙ sym (append_assoc (option_to_list (item_at r x)) (given_by (behind r x) xs) (given_by (held_behind (behind r x) xs) ys))
 
 held_on : (r : Reading) (xs ys : List ℕ) → held_behind r (xs ++ ys) ≡ held_behind (held_behind r xs) ys
 held_on r [] ys = refl

@@ -17,11 +17,10 @@ use Rattle.machine_steps.specs.declared.entry.Entry.TheVariants as entries
 use Rattle.machine_steps.specs.declared.reply.Reply.TheVariants as replies
 use Rattle.machine_steps.specs.Machine.{was_opened as was_session}
 use Rattle.machine_desk.specs.declared.inbound.Inbound.{Inbound}
-use Rattle.machine_desk.specs.Hearing.{is_live}
-use Rattle.machine_desk.specs.Hearing.{Closes as EndsSession}
+use Rattle.machine_desk.specs.Hearing.{is_live, Closes as EndsSession}
 use Rattle.machine_desk.specs.Orders.{Asks}
-use Rattle.desk_jobs.specs.Connections.{IsDone, IsTaken, Moves, OthersStay as OthersStayAt}
-use Rattle.desk_jobs.specs.Homes.{NoneWaits}
+use Rattle.machine_desk.specs.Connections.{AreTaken, IsDone, IsTaken, Moves, OthersStay as OthersStayAt, IsOver}
+use Rattle.machine_desk.specs.Homes.{NoneWaits}
 use Rattle.serve_steps.specs.Deeds.{Past, acts_of, last_answer, takes_out, turns_of}
 use Rattle.serve_steps.specs.Deeds.Deed.{Does}
 use Rattle.serve_steps.specs.Parts.{Given}
@@ -111,7 +110,7 @@ TakenAt at s = IsTaken links at s
 
 -- nor for any
 abbrev pub AllTaken : Server → Type 0
-AllTaken s = (at : ℕ) → TakenAt at s
+AllTaken s = AreTaken links s
 
 -- no packet waits, and the machine has nothing for an open session: so it stays, whatever anybody else does
 abbrev pub IsStill : Server → Type 0
@@ -186,7 +185,7 @@ pub record Closes (new : Server) (past : Past) (own : List Entry) (done : Past) 
 
 -- the session of the connection with this index is over
 abbrev pub IsOverAt : ℕ → Server → Type 0
-IsOverAt at s = (k : Connection) → slice_get s.connections.items at ≡ Some k → is_live k.inbound.stage ≡ false
+IsOverAt at s = IsOver links at s
 
 -- the connection with this index, whose session is over, is closed and left out
 pub record ClosesAt (at : ℕ) (s t : Server) (old new : List Act) : Type 0 where

@@ -3,7 +3,7 @@ use Rattle.std.specs.Prelude.{◌≡◌, ◌⊎◌, ℕ, List}
 use Rattle.maple_io.specs.declared.board.Turn.{Turn as BoardTurn}
 use Rattle.maple_io.specs.declared.board.Turn.TheVariants as turn
 use Rattle.machine_desk.specs.Hearing.{Feeds as FeedsInbound}
-use Rattle.desk_jobs.specs.Connections.{Fills}
+use Rattle.machine_desk.specs.Connections.{Fills}
 use Rattle.serve_channels.specs.declared.server.Server.{Server}
 use Rattle.serve_channels.specs.Servers.{IsAt, IsMissing, links, with_inbound}
 

@@ -10,15 +10,14 @@ use Rattle.machine_steps.specs.declared.entry.Input.TheVariants.{Message, Bad}
 use Rattle.machine_steps.specs.Machine.{opening}
 use Rattle.machine_steps.specs.Machine.{was_opened as was_session}
 use Rattle.machine_desk.specs.Hearing.{is_live, was_begun}
-use Rattle.desk_jobs.specs.Crews.{MayHave}
-use Rattle.desk_jobs.specs.Homes.{NoneWaits}
+use Rattle.machine_desk.specs.Homes.{IsStaffed, LeavesNone}
 use Rattle.sim_steps.specs.Agreeing.{AreCut}
 use Rattle.serve_steps.specs.Deeds.{Past, acts_of, bytes_of, has_failed, inputs_of, is_open, is_over, taken_of, turns_of, was_accepted, was_cut}
 use Rattle.serve_steps.specs.Parts.{Given}
 use Rattle.serve_steps.specs.Runs.{taken_report}
 use Rattle.serve_channels.specs.declared.connection.Connection.{Connection}
 use Rattle.serve_channels.specs.declared.server.Server.{Server}
-use Rattle.serve_channels.specs.Servers.{AreSessions, AreSorted, IsUnknown, WorksAlone, number_of}
+use Rattle.serve_channels.specs.Servers.{AreSessions, AreSorted, IsUnknown, home, number_of}
 use Rattle.serve_channels.specs.Stretches.{IsAside, Stretch}
 
 -- ---- a connection
@@ -79,12 +78,12 @@ pub record Keeps (g : Given) (before : List Act) (past : Past) (log : List Act) 
   pub forgotten : (c : ℕ) → IsUnknown c s.connections.items → IsForgotten c past
   pub unused : (c : ℕ) → was_opened c (acts_of past) ≡ false → IsUnused c past × (was_session c s.desk.now ≡ false)
   pub sessions : AreSessions s.connections.items s.desk.now
-  pub crew : MayHave s.crew s.desk.footing.parts s.desk.now
+  pub crew : IsStaffed home s
   pub jobs : Jobs
 
 -- with nobody beside the server none waits
 abbrev pub IsKept : Given → List Act → Past → List Act → Server → Type 0
-IsKept g before past log s = Keeps g before past log s (WorksAlone s → NoneWaits s.desk)
+IsKept g before past log s = Keeps g before past log s (LeavesNone home s)
 
 -- so it is of some deeds
 pub record IsServing (log : List Act) (s : Server) : Type 0 where

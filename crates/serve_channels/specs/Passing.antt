@@ -8,14 +8,11 @@ use Rattle.machine_steps.specs.Waiting.{Waiting}
 use Rattle.machine_desk.specs.Desks.{DeskView}
 use Rattle.machine_desk.specs.declared.hearing.Came.{Came}
 use Rattle.machine_desk.specs.Hearing.{Hears as HearsAtDesk, IsStaged, goes_on}
-use Rattle.machine_desk.specs.Working.{Works}
 use Rattle.machine_desk.specs.declared.hearing.Heard.{Heard}
 use Rattle.machine_desk.specs.declared.inbound.Inbound.{Inbound}
-use Rattle.packet_workers.specs.declared.worked.Worked.{Worked}
-use Rattle.desk_jobs.specs.Crews.{IsCrew}
-use Rattle.desk_jobs.specs.Connections.{Moves, rest_at as rest_at_index}
-use Rattle.desk_jobs.specs.Homes.{Attends as AttendsAt, Follows as FollowsAt, MakesRoom as MakesRoomAt, MakesRoomFor as MakesRoomForAt, IsTended}
-use Rattle.desk_jobs.specs.Tending.{IsWhole}
+use Rattle.machine_desk.specs.Crews.{IsCrew}
+use Rattle.machine_desk.specs.Connections.{Moves, rest_at as rest_at_index}
+use Rattle.machine_desk.specs.Homes.{Attends as AttendsAt, Follows as FollowsAt, MakesRoom as MakesRoomAt, MakesRoomFor as MakesRoomForAt, IsTended}
 use Rattle.sim_steps.specs.Agreeing.{AreCut}
 use Rattle.serve_steps.specs.Deeds.{Past, bytes_of, inputs_of, is_open, was_accepted}
 use Rattle.serve_channels.specs.declared.server.Server.{Server}
@@ -33,7 +30,7 @@ HasCrew s = IfSome s.crew IsCrew
 abbrev pub Tends : Server → Server → Type 0
 Tends old new = IsTended home old new
 
--- there is room for a packet, whatever others do until it is heard
+-- there is room for a packet, or nobody works beside the server
 abbrev pub MakesRoom : Server → Server → Type 0
 MakesRoom old new = MakesRoomAt home old new
 
@@ -41,18 +38,13 @@ MakesRoom old new = MakesRoomAt home old new
 abbrev pub MakesRoomFor : Input → Server → Server → Type 0
 MakesRoomFor input old new = MakesRoomForAt home input old new
 
-pub record IsWorked (item : Waiting) (a b : DeskView) : Type 0 where
-  pub worked : Worked
-  pub works : Works item worked a b
-  pub whole : IsWhole worked
-
 -- a packet that waits was answered, or handed over to who works beside
 abbrev pub Attends : Waiting → Server → Server → Type 0
-Attends item old new = AttendsAt home (IsWorked item) item old new
+Attends item old new = AttendsAt home item old new
 
 -- what is done about an input
 abbrev pub Follows : Heard → Server → Server → Type 0
-Follows heard old new = FollowsAt home IsWorked heard old new
+Follows heard old new = FollowsAt home heard old new
 
 -- ---- a message
 

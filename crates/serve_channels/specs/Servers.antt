@@ -1,12 +1,9 @@
 -- A server: the machine at its desk, who works beside it, and the connections of switches.
-use Rattle.std.specs.Prelude.{◌≡◌, ℕ, ◌<◌, ◌≤◌, false, List, length, Some, is_some}
-use Rattle.std.specs.List.{slice_get}
-use Rattle.machine_steps.specs.Machine.{State, session_at}
-use Rattle.machine_desk.specs.Desks.{SameHall}
+use Rattle.std.specs.Prelude.{ℕ, ◌<◌, ◌≤◌, List, length}
+use Rattle.machine_steps.specs.Machine.{State}
 use Rattle.machine_desk.specs.declared.inbound.Inbound.{Inbound}
-use Rattle.desk_jobs.specs.Connections.{AreStaged, Connections}
-use Rattle.desk_jobs.specs.Crews.{SameCrew}
-use Rattle.desk_jobs.specs.Homes.{Home, IsAlone, IsSame as IsSameAt}
+use Rattle.machine_desk.specs.Connections.{AreSessions as AreSessionsOf, Connections, IsAt as IsAtIndex, IsKnown as IsKnownOf, IsUnknown as IsUnknownOf}
+use Rattle.machine_desk.specs.Homes.{Home, IsAlone, IsSame as IsSameAt, IsSameHall as IsSameHallAt}
 use Rattle.serve_channels.specs.declared.connection.Connection.{Connection}
 use Rattle.serve_channels.specs.declared.server.Server.{Server}
 
@@ -15,18 +12,30 @@ use Rattle.serve_channels.specs.declared.server.Server.{Server}
 abbrev pub number_of : Connection → ℕ
 number_of k = k.inbound.connection
 
+-- where a server has its desk, who works beside it, and its connections
+abbrev pub home : Home Server
+home = record { desk = λ (s : Server). s.desk; crew = λ (s : Server). s.crew; moved = λ (s : Server) desk crew. record s { desk = desk; crew = crew } }
+
+abbrev pub links : Connections Server Connection
+links = record {
+  home = home;
+  all = λ (s : Server). s.connections.items;
+  number = λ (at : ℕ) (k : Connection). number_of k;
+  inbound = λ (k : Connection). k.inbound;
+  moved = λ (old new : Server). record old { desk = new.desk; connections = new.connections };
+  filled = λ (old new : Server). record old { connections = new.connections };
+}
+
 -- the connection with this index is that of this number
-pub record IsAt (at c : ℕ) (ks : List Connection) : Type 0 where
-  pub connection : Connection
-  pub there : slice_get ks at ≡ Some connection
-  pub number : number_of connection ≡ c
+abbrev pub IsAt : ℕ → ℕ → List Connection → Type 0
+IsAt at c ks = IsAtIndex links at c ks
 
 -- there is one of this number
 abbrev pub IsKnown : ℕ → List Connection → Type 0
-IsKnown c ks = (at : ℕ) × IsAt at c ks
+IsKnown c ks = IsKnownOf links c ks
 
 abbrev pub IsUnknown : ℕ → List Connection → Type 0
-IsUnknown c ks = IsKnown c ks → ⊥
+IsUnknown c ks = IsUnknownOf links c ks
 
 -- they stand in the order of their numbers, and so no number stands twice
 abbrev pub AreSorted : List Connection → Type 0
@@ -45,25 +54,10 @@ pub record IsGap (at c : ℕ) (ks : List Connection) : Type 0 where
 -- ---- the machine
 
 -- the sessions of the machine are those of these connections
-pub record AreSessions (ks : List Connection) (m : State) : Type 0 where
-  pub staged : AreStaged (λ (k : Connection). k.inbound) ks m
-  pub alone : (c : ℕ) → IsUnknown c ks → is_some (session_at c m) ≡ false
+abbrev pub AreSessions : List Connection → State → Type 0
+AreSessions ks m = AreSessionsOf links ks m
 
 -- ---- what no call changes
-
-abbrev pub home : Home Server
-home = record { desk = λ (s : Server). s.desk; crew = λ (s : Server). s.crew; moved = λ (s : Server) desk crew. record s { desk = desk; crew = crew } }
-
--- where it has its connections
-abbrev pub links : Connections Server Connection
-links = record {
-  home = home;
-  all = λ (s : Server). s.connections.items;
-  number = λ (at : ℕ) (k : Connection). number_of k;
-  inbound = λ (k : Connection). k.inbound;
-  moved = λ (old new : Server). record old { desk = new.desk; connections = new.connections };
-  filled = λ (old new : Server). record old { connections = new.connections };
-}
 
 -- a connection of which this came
 abbrev pub with_inbound : Inbound → Connection → Connection
@@ -74,9 +68,8 @@ abbrev pub IsSame : Server → Server → Type 0
 IsSame old new = IsSameAt home old new
 
 -- the same, but for what is marked of the turns
-pub record IsSameHall (old new : Server) : Type 0 where
-  pub hall : SameHall old.desk.footing new.desk.footing
-  pub crew : SameCrew old.crew new.crew
+abbrev pub IsSameHall : Server → Server → Type 0
+IsSameHall old new = IsSameHallAt home old new
 
 -- the same connections are there
 abbrev pub SameNumbers : Server → Server → Type 0

@@ -1,5 +1,5 @@
 -- The laws that a server rests on.
-use Rattle.desk_jobs.specs.Driving.{DrivingLaws}
+use Rattle.machine_desk.specs.Driving.{DrivingLaws}
 use Rattle.serve_steps.specs.Laws.{AllowedAreOthers, OthersAreFree}
 
 -- those of the machine; and where what others do may stand in a run

@@ -7,11 +7,12 @@ use Rattle.maple_io.specs.declared.board.Started.TheVariants as started
 use Rattle.maple_io.specs.Boards.{BoardFailed, BoardView, NoBoardFailed}
 use Rattle.machine_desk.specs.Openings.{IsOpenedAt}
 use Rattle.machine_steps.specs.Machine.{opening}
-use Rattle.desk_jobs.specs.Crews.{MayHave}
+use Rattle.machine_desk.specs.Homes.{IsStaffed}
 use Rattle.serve_steps.specs.Deeds.{Past}
 use Rattle.serve_steps.specs.Deeds.Deed.{Does}
 use Rattle.serve_steps.specs.Parts.{Given}
 use Rattle.serve_channels.specs.declared.server.Server.{Server}
+use Rattle.serve_channels.specs.Servers.{home}
 use Rattle.serve_channels.specs.Keeping.{IsKept}
 
 -- ---- ahead of all
@@ -20,7 +21,7 @@ use Rattle.serve_channels.specs.Keeping.{IsKept}
 pub record IsFresh (s : Server) : Type 0 where
   pub opened : IsOpenedAt s.desk
   pub alone : s.connections.items ≡ []
-  pub crew : MayHave s.crew s.desk.footing.parts s.desk.now
+  pub crew : IsStaffed home s
 
 -- nothing was done, and so all is kept, whatever the board did before
 abbrev pub FreshIsKept : Type 0

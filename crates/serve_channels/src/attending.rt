@@ -4,23 +4,20 @@ ghost use Rattle.serve_channels.specs.Passing.{Attends, HasCrew, MakesRoom};
 ghost use Rattle.serve_channels.specs.Servers.{IsSame};
 
 use crate::Server;
-use crate::laws::serving_laws;
 use core_machine::JobItem;
-use desk_jobs::{Handed, Stopped, answered, tending_laws};
+use machine_desk::{Handed, Stopped, answered, tending_laws};
 use packet_workers::Gate;
 use std::sync::Wait;
 
 impl<'h> Server<'h> {
-    // Beside workers: waits until the machine takes a further packet in, whatever they do then.
+    // Beside workers: waits until there is room for a further packet.
     pub(crate) fn make_room<R: Wait, G: Gate>(&mut self, rt: &R, gate: &G) -> Result<(), Stopped>
         requires crew { HasCrew self.old }
         ensures room { OnOk result (MakesRoom self.old self.new) }
         ensures connections { self.new.connections.items ≡ self.old.connections.items }
         ensures same { IsSame self.old self.new }
     {
-        serving_laws();
         tending_laws();
-        self.desk.law();
         match &mut self.crew {
             None => Ok(()),
             Some(crew) => Ok(crew.make_room(rt, gate, self.alloc, &mut self.desk)?),

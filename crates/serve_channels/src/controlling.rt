@@ -11,7 +11,7 @@ ghost use Rattle.serve_channels.specs.Servers.{IsSame};
 
 use crate::Server;
 use board_lines::{ControlItem, ControlReader};
-use desk_jobs::Stopped;
+use machine_desk::Stopped;
 use serve_steps::text_laws;
 use std::sync::Wait;
 

@@ -13,7 +13,7 @@ ghost use Rattle.serve_channels.specs.Stretches.{IsQuietly};
 use crate::{Server, serving_laws};
 use board_lines::{Reach, send_all};
 use core_machine::{Entry, Reply};
-use desk_jobs::Stopped;
+use machine_desk::Stopped;
 use maple_base::Bytes;
 use maple_io::Board;
 use std::sync::Wait;

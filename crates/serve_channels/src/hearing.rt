@@ -2,6 +2,7 @@
 ghost use Rattle.std.specs.Prelude.{◌≡◌, ◌<◌, IfOk, List, OnOk, length};
 ghost use Rattle.maple_io.specs.declared.act.Act.{Act};
 ghost use Rattle.machine_steps.specs.Admitting.{IsHeard};
+ghost use Rattle.machine_desk.specs.Arriving.{TakesIn};
 ghost use Rattle.serve_channels.specs.Hearing.{Hears};
 ghost use Rattle.machine_desk.specs.declared.hearing.Came.TheVariants.{Nothing};
 ghost use Rattle.serve_channels.specs.Keeping.{Goes, ServesSome};
@@ -11,8 +12,7 @@ ghost use Rattle.serve_channels.specs.Servers.{IsSame, SameNumbers};
 use crate::Server;
 use crate::laws::serving_laws;
 use core_machine::Input;
-use desk_jobs::{Stopped, is_packet};
-use machine_desk::{Came, Heard, working_laws};
+use machine_desk::{Came, Heard, Stopped, is_packet};
 use packet_workers::Gate;
 use std::sync::Wait;
 
@@ -50,7 +50,6 @@ impl<'h> Server<'h> {
         ensures same { IsSame self.old self.new }
     {
         serving_laws();
-        working_laws();
         self.desk.law();
         let Some(input) = self.connections[at].inbound.next()? else {
             return Ok(Came::Nothing);
@@ -62,7 +61,7 @@ impl<'h> Server<'h> {
         Ok(came)
     }
 
-    // Where a packet came: waits until the machine takes it in.
+    // Where a packet came: waits until there is room for it in the machine.
     fn make_room_for<R: Wait, G: Gate>(
         &mut self,
         rt: &R,
@@ -80,10 +79,11 @@ impl<'h> Server<'h> {
         self.make_room(rt, gate)
     }
 
-    // An input of the connection with this index is heard, whose session may end by it.
+    // An input of the connection with this index is heard, whose session may end by it; there is room for the packet in it.
     fn hear_input<R: Wait>(&mut self, rt: &R, at: usize, input: Input) -> Result<Heard, Stopped>
         requires within { at < length self.old.connections.items }
         requires heard { IsHeard input }
+        requires room { TakesIn input self.old.desk.now }
         ensures hears { IfOk result (λ heard. HearsInput at input heard self.old self.new) }
         ensures numbers { SameNumbers self.old self.new }
         ensures same { IsSame self.old self.new }

@@ -2,7 +2,7 @@
 ghost use Rattle.serve_channels.specs.Serving.{ServingLaws};
 ghost use Rattle.serve_channels.specs.Starting.{FreshIsKept};
 
-use desk_jobs::driving_laws;
+use machine_desk::driving_laws;
 use serve_steps::run_laws;
 
 /// What each entry does to the machine's sessions, what its reply tells, and what others leave of it; and where what these do may stand in a run.

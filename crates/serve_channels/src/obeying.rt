@@ -14,8 +14,8 @@ ghost use Rattle.serve_channels.specs.Servers.{IsSame};
 use crate::{ScriptEnd, Server, serving_laws};
 use board_lines::ControlItem;
 use core_machine::{Entry, Note};
-use desk_jobs::Stopped;
 use env_cells::Update;
+use machine_desk::Stopped;
 use script_text::{ScriptRefusal, Step, StepStop, step_of};
 use std::sync::Wait;
 

@@ -8,7 +8,7 @@ ghost use Rattle.serve_channels.specs.Keeping.{IsServing};
 ghost use Rattle.serve_channels.specs.Servers.{IsSame};
 
 use crate::Server;
-use desk_jobs::Stopped;
+use machine_desk::Stopped;
 use maple_io::{Board, Turn};
 
 impl<'h> Server<'h> {

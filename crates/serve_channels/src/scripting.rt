@@ -9,7 +9,7 @@ ghost use Rattle.serve_channels.specs.Servers.{IsSame};
 
 use crate::Server;
 use board_lines::{ControlItem, ControlReader, control_laws};
-use desk_jobs::Stopped;
+use machine_desk::Stopped;
 use script_text::ScriptRefusal;
 use std::sync::Wait;
 

@@ -4,8 +4,7 @@ ghost use Rattle.machine_desk.specs.Desks.{DeskLaw, HadMemory, calls_of};
 ghost use Rattle.serve_channels.specs.Servers.{IsAt, IsGap, IsMissing};
 
 use crate::Connection;
-use desk_jobs::Crew;
-use machine_desk::Desk;
+use machine_desk::{Crew, Desk};
 use std::alloc::Global;
 
 /// Who drives the machine at its desk, and serves the connections of switches, which a board gives by number.

@@ -11,8 +11,7 @@ use crate::laws::serving_laws;
 use crate::{Connection, Server};
 use board_lines::SendQueue;
 use core_machine::Entry;
-use desk_jobs::Stopped;
-use machine_desk::{Inbound, Stage};
+use machine_desk::{Inbound, Stage, Stopped};
 use std::sync::Wait;
 
 impl<'h> Server<'h> {

@@ -7,7 +7,7 @@ ghost use Rattle.serve_channels.specs.Servers.{IsSame};
 
 use crate::Server;
 use crate::laws::serving_laws;
-use desk_jobs::{QUEUE_PLACES, Stopped, answered, tending_laws};
+use machine_desk::{QUEUE_PLACES, Stopped, answered, tending_laws};
 use packet_workers::Gate;
 use std::sync::Wait;
 

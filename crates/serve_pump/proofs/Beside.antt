@@ -4,14 +4,14 @@ use Rattle.std.specs.Prelude.{◌≢◌, Err, Ok, Result, Some}
 use Rattle.atomic_table.specs.Seated.{TableId}
 use Rattle.maple_io.specs.Boards.{BoardView}
 use Rattle.maple_io.specs.Fronts.{IsFront}
-use Rattle.maple_io.specs.Views.{NoWriteFailed, SinkView, WriteFailed, Wrote}
+use Rattle.maple_io.specs.Views.{SinkView, Wrote}
 use Rattle.maple_io.proofs.Pieces.{wrote_nothing, wrote_then}
 use Rattle.maple_base.specs.Counts.{HasRisen}
 use Rattle.history_lock.specs.Histories.{AreAllPositions, HasSeenLegal, IsAllowedSince, Replays, StartsWith, state_behind}
 use Rattle.history_lock.proofs.States.{replays_begins, replays_end}
 use Rattle.machine_desk.specs.declared.report.ReportStop.{ReportStop}
 use Rattle.machine_desk.specs.declared.report.ReportStop.TheVariants as reports
-use Rattle.machine_desk.specs.Desks.{DeskView, Enters as EntersAtDesk, WearsOut, turn, view_by}
+use Rattle.machine_desk.specs.Desks.{DeskView, Enters as EntersAtDesk, NoneOverflows, WearsOut, turn, view_by}
 use Rattle.machine_desk.specs.Reports.{ReportsBy, ReportsInPart}
 use Rattle.machine_desk.specs.Resting.{finds_worn}
 use Rattle.machine_desk.proofs.Turning.{turns_length}
@@ -26,18 +26,21 @@ use Rattle.machine_steps.specs.Sound.{IsSound}
 use Rattle.machine_steps.specs.Waiting.{Waiting}
 use Rattle.packet_workers.specs.Adding.{PassView}
 use Rattle.packet_workers.specs.Crewing.{Makes}
+use Rattle.worker_crew.specs.declared.gave_up.GaveUp.{GaveUp}
 use Rattle.worker_crew.specs.declared.gave_up.GaveUp.TheVariants as gave_up
 use Rattle.worker_crew.specs.declared.rule.Account.{Account}
 use Rattle.worker_crew.specs.Tasks.{Toiled, Worked}
-use Rattle.desk_jobs.proofs.HadMemory.{had_at_all, had_joined}
+use Rattle.machine_desk.specs.Crews.{given_up}
+use Rattle.machine_desk.proofs.Smooth.{memory_joined, room_joined}
+use Rattle.sim_steps.specs.Ends.{IsFaultOf}
 use Rattle.serve_steps.specs.declared.end.ServeEnd.{ServeEnd}
 use Rattle.serve_steps.specs.declared.end.ServeEnd.TheVariants as ends
 use Rattle.serve_steps.specs.Deeds.{Past, acts_of, turns_of}
 use Rattle.serve_steps.specs.Deeds.Deed.{Enters}
 use Rattle.serve_steps.specs.Laws.{first_entered, parts_entered}
-use Rattle.serve_steps.specs.Parts.{AreCutAtTurns, AreOpenedOnce, Given, Part, deeds_of, is_overload}
-use Rattle.serve_steps.specs.Runs.{AllHadMemory, ArePartsButLast, EndsWith, HasCause, HasRun, IsBrokenOff, IsLastAsked, is_whole, taken_in, taken_report}
-use Rattle.serve_pump.specs.Ending.{DroveBy, IsCaused, joined, told_as}
+use Rattle.serve_steps.specs.Parts.{AreCutAtTurns, AreOpenedOnce, Given, Part, deeds_of}
+use Rattle.serve_steps.specs.Runs.{AllHadMemory, ArePartsButLast, EndsWith, HasCause, HasRun, IsBrokenOff, IsLastAsked, IsSmooth, is_whole, taken_in, taken_report}
+use Rattle.serve_pump.specs.Ending.{DroveBy, IsCaused, joined, serve_ends, told_as}
 use Rattle.serve_pump.specs.EndLaws.{EndingLaws}
 use Rattle.serve_pump.specs.Resting.{RestsBy, RestsSo}
 use Rattle.serve_pump.proofs.Broken.{taken_front}
@@ -47,15 +50,10 @@ use Rattle.serve_pump.proofs.Whole.{lines_taken}
 
 -- ---- by how the workers ended
 
--- a run that came to its end beside workers did so with all of them
-whole_joined : (end : ServeEnd) (outcome : Worked) → is_whole (joined end outcome) ≡ true → (is_whole end ≡ true) × (done : Unit {0}) × (outcome ≡ Ok done)
-whole_joined ends.Done (Ok done) whole = (refl, done, refl)
-whole_joined ends.Done (Err gave_up.NoMemory) whole = absurd (cc)
-whole_joined ends.Done (Err gave_up.Worn) whole = absurd (cc)
-whole_joined (ends.Script line kind) (Ok done) whole = (refl, done, refl)
-whole_joined (ends.Script line kind) (Err gave_up.NoMemory) whole = absurd (cc)
-whole_joined (ends.Script line kind) (Err gave_up.Worn) whole = absurd (cc)
-whole_joined end outcome whole = absurd (cc)
+-- no run came to its end where somebody gave up
+short : (cause : GaveUp) → is_whole (given_up serve_ends cause) ≡ false
+short gave_up.NoMemory = refl
+short gave_up.Worn = refl
 
 module _ (old_board new_board : BoardView) (old new : SinkView) where
   gives_up : (end other : ServeEnd) → end ≢ ends.BoardFault → end ≢ ends.WriteFault → other ≢ ends.BoardFault → other ≢ ends.WriteFault
@@ -107,12 +105,13 @@ module _ (laws : EndingLaws) (g : Given) (start : State) (is : start ≡ Opens g
         subst (λ (ts : List Turn). n ≤ length ts) (sym turns_now)
         (let a = ap length since.1 in let b = turns_length start (mine.seen ++ rest) in omega (arith, a, b, few))
 
-    memory_now : AreAllPositions (length x.seen) x.own → is_whole (joined end outcome) ≡ true → AllHadMemory (turns_of (deeds_of first_now parts_now))
-    memory_now positions whole =
-        let so = whole_joined end outcome whole in
-        let went_on = subst (λ (o : Worked). Toiled (λ item told made. Makes budget item told made) mine account o x w) so.2 toiled in
-        let had = had_at_all start x.seen x.own (had_joined start budget mine x account w so.1 went_on (drove.memory so.0)) positions in
-        subst AllHadMemory (ap (turns_along start) since.1 ∙ sym turns_now) had
+    smooth_now : AreAllPositions (length x.seen) x.own → IsSmooth (is_whole (joined end outcome)) (turns_along start (mine.seen ++ rest))
+    smooth_now positions = record {
+      room = room_joined laws.room start mine.seen rest m all since.2 drove.smooth.room;
+      memory = λ whole.
+          subst AllHadMemory (ap (turns_along start) since.1)
+          (memory_joined serve_ends short end outcome start budget mine x account w drove.smooth toiled positions whole);
+    }
 
     -- but for a fault of the board
     pub closed_beside : end ≢ ends.BoardFault → x.number ≤ length x.seen → AreAllPositions (length x.seen) x.own
@@ -122,9 +121,8 @@ module _ (laws : EndingLaws) (g : Given) (start : State) (is : start ≡ Opens g
         run_of laws g (joined end outcome) (turns_along start (mine.seen ++ rest)) m first_now parts_now drove.ran.text old_board new_board old new turns_now
         leads_now cuts.0 cuts.1 log_now
         (ends_on laws g start is sound mine.seen rest m all since.2 drove.ran.first drove.ran.parts drove.ran.turns end outcome mine.number drove.ran.text other
-        drove.ran.ends (long_now mine.number (omega (arith, number, enough))) (λ worn. long_now (2 ^ 62) (omega (arith, toiled.worn worn, enough)))
-        (memory_now positions))
-        drove.ran.wrote
+        drove.ran.ends (long_now mine.number (omega (arith, number, enough))) (λ worn. long_now (2 ^ 62) (omega (arith, toiled.worn worn, enough))))
+        (smooth_now positions) drove.ran.wrote
 
   legal_x : (legal : HasSeenLegal Turns x) → Replays Turns start (mine.seen ++ rest) legal.0
   legal_x legal = subst (λ (cs : List Call). Replays Turns start cs legal.0) since.1 (seen_legal laws g start x opens legal)
@@ -134,6 +132,11 @@ module _ (laws : EndingLaws) (g : Given) (start : State) (is : start ≡ Opens g
   joined_ends other legal enough positions = closed_beside legal.0 (legal_x legal) other enough positions
 
 -- ---- behind a fault of the board
+
+-- one more turn
+room_then : (ts : List Turn) (t : Turn) → NoneOverflows ts → t.reply ≢ replies.Overload → NoneOverflows (ts ++ t ∷ [])
+room_then [] t h one = (one, tt)
+room_then (x ∷ ts) t h one = (h.0, room_then ts t h.1 one)
 
 -- the report is taken once more
 taken_last : (first : Past) (parts : List Part) (t : Turn) → taken_report (deeds_of (first_entered (t ∷ []) first parts) (parts_entered (t ∷ []) parts))
@@ -191,6 +194,11 @@ module _ (laws : EndingLaws) (g : Given) (start : State) (is : start ≡ Opens g
       failed_on laws g start is sound mine.seen since.0 (state_behind start x.seen) all since.2 drove.ran.first drove.ran.parts drove.ran.turns ran_text
       drove.ran.ends
 
+  room_x : NoneOverflows (turns_along start x.seen)
+  room_x =
+      subst (λ (cs : List Call). NoneOverflows (turns_along start cs)) (sym since.1)
+      (room_joined laws.room start mine.seen since.0 (state_behind start x.seen) all since.2 drove.smooth.room)
+
   abbrev at_x : DeskView
   at_x = view_by place 0 x x start false
 
@@ -198,7 +206,7 @@ module _ (laws : EndingLaws) (g : Given) (start : State) (is : start ≡ Opens g
   at_l worn = view_by place 0 l x start worn
 
   -- by the reply
-  module _ (r : Reply) (worn : Bool) (e : EntersAtDesk at_x entries.TakeReport r (at_l worn)) (whole : x.parts ≡ 1024) (fits : is_overload r ≡ false) where
+  module _ (r : Reply) (worn : Bool) (e : EntersAtDesk at_x entries.TakeReport r (at_l worn)) (whole : x.parts ≡ 1024) where
     abbrev t : Turn
     t = turn e.between entries.TakeReport r (state_behind start l.seen)
 
@@ -208,22 +216,27 @@ module _ (laws : EndingLaws) (g : Given) (start : State) (is : start ≡ Opens g
     abbrev parts_l : List Part
     parts_l = parts_entered (t ∷ []) ps
 
+    one_more : turns_along start l.seen ≡ turns_along start x.seen ++ t ∷ []
+    one_more = e.past ∙ ap (λ (ts : List Turn). ts ++ t ∷ []) (ap (λ (ts : List Turn). turns_along start x.seen ++ ts) (e.alone whole) ∙ append-nil (turns_along start x.seen))
+
     turns_l : turns_of (deeds_of first_l parts_l) ≡ turns_along start l.seen
-    turns_l =
-        (laws.stand (t ∷ []) f ps).turns ∙ ap (λ (ts : List Turn). ts ++ t ∷ []) turns_x
-        ∙ sym (e.past ∙ ap (λ (ts : List Turn). ts ++ t ∷ []) (ap (λ (ts : List Turn). turns_along start x.seen ++ ts) (e.alone whole) ∙ append-nil (turns_along start x.seen)))
+    turns_l = (laws.stand (t ∷ []) f ps).turns ∙ ap (λ (ts : List Turn). ts ++ t ∷ []) turns_x ∙ sym one_more
+
+    smooth_l : IsSmooth false (turns_along start l.seen)
+    smooth_l = record { room = subst NoneOverflows (sym one_more) (room_then (turns_along start x.seen) t room_x e.room); memory = λ whole. absurd (cc) }
 
     leads_on : Leads (Opens g) (turns_of (deeds_of first_l parts_l)) legal.0
     leads_on = subst (λ (ts : List Turn). Leads (Opens g) ts legal.0) (sym turns_l) leads_l
 
     asked : ArePartsButLast g first_l parts_l × IsLastAsked g first_l parts_l
-    asked = laws.taken g f ps t refl fits failed.asked
+    asked = laws.taken g f ps t refl failed.asked
 
-    run_l : (end : ServeEnd) (text : List ℕ) → EndsWith end g first_l parts_l text → Wrote old to text → HasRun end g old_board new_board old to
-    run_l end text ends wrote =
-        let cut = laws.taken_cut g f ps t refl fits cuts in
+    run_l : (end : ServeEnd) (text : List ℕ) → is_whole end ≡ false → EndsWith end g first_l parts_l text → Wrote old to text → HasRun end g old_board new_board old to
+    run_l end text not_whole ends wrote =
+        let cut = laws.taken_cut g f ps t refl cuts in
         run_of laws g end (turns_along start l.seen) legal.0 first_l parts_l text old_board new_board old to turns_l leads_l cut.0 cut.1
-        (log_x ∙ ap (λ xs. old_board.log ++ xs) (sym (laws.stand (t ∷ []) f ps).acts)) ends wrote
+        (log_x ∙ ap (λ xs. old_board.log ++ xs) (sym (laws.stand (t ∷ []) f ps).acts)) ends
+        (subst (λ (b : Bool). IsSmooth b (turns_along start l.seen)) (sym not_whole) smooth_l) wrote
 
     taken_is : taken_report (deeds_of first_l parts_l) ≡ ran_text ++ taken_in (Enters t)
     taken_is = taken_last f ps t ∙ ap (λ xs. xs ++ taken_in (Enters t)) (sym failed.text_is)
@@ -241,10 +254,8 @@ module _ (laws : EndingLaws) (g : Given) (start : State) (is : start ≡ Opens g
     -- all of it was
     whole_l : (more : List ℕ) → more ≡ taken_in (Enters t) → (state_behind start l.seen).lines ≡ [] → Wrote mid to more → HasRun ends.BoardFault g old_board new_board old to
     whole_l more same none wrote =
-        run_l ends.BoardFault (ran_text ++ more) (record {
-          ahead = asked.0;
-          last = asked.1;
-          not_ended = laws.taken_ended false g f ps t refl fits failed.not_ended;
+        run_l ends.BoardFault (ran_text ++ more) refl (record {
+          stops = record { ahead = asked.0; last = asked.1; not_ended = laws.taken_ended false g f ps t refl failed.not_ended };
           text_is =
               ap (λ xs. ran_text ++ xs) same ∙ sym taken_is
               ∙ told_whole laws g (deeds_of first_l parts_l) legal.0 leads_on (ap (λ (m : State). m.lines) last_is ∙ none);
@@ -268,55 +279,56 @@ module _ (laws : EndingLaws) (g : Given) (start : State) (is : start ≡ Opens g
             subst (λ (ts : List Turn). 2 ^ 62 ≤ length ts) (sym here)
             (let a = turns_length start l.seen in let full : 2 ^ 62 ≤ l.number = out.full in omega (arith, a, full, enough));
       })
+      (record { room = subst NoneOverflows (sym turns) room_x; memory = λ spares. absurd (cc) })
       (subst (λ (s : SinkView). Wrote old s ran_text) (sym silent) drove.ran.wrote)
 
   -- by what is told of it
   pub told_rest : (told : Result (Unit {0}) ReportStop) → x.parts ≡ 1024 → ReportsBy told at_x (at_l (finds_worn told)) mid to
       → HasRun (told_as told) g old_board new_board old to
   told_rest (Ok done) whole h =
-      whole_l (replies.Lines h.text) false h.enters whole refl h.text refl (lines_taken at_x (at_l false) mid to h) h.wrote
+      whole_l (replies.Lines h.text) false h.enters whole h.text refl (lines_taken at_x (at_l false) mid to h) h.wrote
   told_rest (Err reports.Failed) whole h =
-      run_l (replies.Lines h.0.text) false h.0.enters whole refl ends.WriteFault (ran_text ++ h.0.front)
-      (broken_l (replies.Lines h.0.text) false h.0.enters whole refl h.0.front h.0.is_front) (wrote_then old mid to ran_text h.0.front drove.ran.wrote h.0.wrote)
+      run_l (replies.Lines h.0.text) false h.0.enters whole ends.WriteFault (ran_text ++ h.0.front) refl
+      (broken_l (replies.Lines h.0.text) false h.0.enters whole h.0.front h.0.is_front) (wrote_then old mid to ran_text h.0.front drove.ran.wrote h.0.wrote)
   told_rest (Err reports.NoMemory) whole h = ⊎_elim lacks in_part h
     where
       lacks : EntersAtDesk at_x entries.TakeReport replies.NoMemory (at_l false) × (to ≡ mid) → HasRun ends.NoMemory g old_board new_board old to
       lacks k =
-          run_l replies.NoMemory false k.0 whole refl ends.NoMemory (ran_text ++ []) (broken_l replies.NoMemory false k.0 whole refl [] ([], refl))
+          run_l replies.NoMemory false k.0 whole ends.NoMemory (ran_text ++ []) refl (broken_l replies.NoMemory false k.0 whole [] ([], refl))
           (wrote_then old mid to ran_text [] drove.ran.wrote (subst (λ (s : SinkView). Wrote mid s []) (sym k.1) (wrote_nothing mid)))
 
       in_part : ReportsInPart at_x (at_l false) mid to → HasRun ends.NoMemory g old_board new_board old to
       in_part k =
-          run_l (replies.Lines k.text) false k.enters whole refl ends.NoMemory (ran_text ++ k.front)
-          (broken_l (replies.Lines k.text) false k.enters whole refl k.front k.is_front) (wrote_then old mid to ran_text k.front drove.ran.wrote k.wrote)
+          run_l (replies.Lines k.text) false k.enters whole ends.NoMemory (ran_text ++ k.front) refl
+          (broken_l (replies.Lines k.text) false k.enters whole k.front k.is_front) (wrote_then old mid to ran_text k.front drove.ran.wrote k.wrote)
   told_rest (Err reports.Worn) whole h = worn_x h.0 h.1
 
 -- and why it ended so
 pub rest_cause : (told : Result (Unit {0}) ReportStop) (old_board new_board : BoardView) (old mid to : SinkView) → IsCaused ends.BoardFault old_board new_board old mid
-    → (told ≡ Err reports.Failed → WriteFailed mid to) → (told ≢ Err reports.Failed → NoWriteFailed mid to) → HasCause (told_as told) old_board new_board old to
-rest_cause (Ok done) old_board new_board old mid to h failed spared = record {
+    → IsFaultOf (told ≡ Err reports.Failed) mid to → HasCause (told_as told) old_board new_board old to
+rest_cause (Ok done) old_board new_board old mid to h writes = record {
   board = λ e. h.board refl;
   no_board = λ e. absurd (cc);
-  write = λ e. absurd (cc);
-  no_write = λ n. spared (λ e. absurd (cc)) ∙ h.writes.spared (λ e. absurd (cc));
+  writes = record { fault = λ e. absurd (cc); spared = λ n. writes.spared (λ e. absurd (cc)) ∙ h.writes.spared (λ e. absurd (cc)) };
 }
-rest_cause (Err reports.Failed) old_board new_board old mid to h failed spared = record {
+rest_cause (Err reports.Failed) old_board new_board old mid to h writes = record {
   board = λ e. absurd (cc);
   no_board = λ e. absurd (cc);
-  write = λ e. subst (λ (n : ℕ). HasRisen n to.failed) (h.writes.spared (λ e. absurd (cc))) (failed refl);
-  no_write = λ n. absurd (n refl);
+  writes =
+      record {
+        fault = λ e. subst (λ (n : ℕ). HasRisen n to.failed) (h.writes.spared (λ e. absurd (cc))) (writes.fault refl);
+        spared = λ n. absurd (n refl);
+      };
 }
-rest_cause (Err reports.NoMemory) old_board new_board old mid to h failed spared = record {
+rest_cause (Err reports.NoMemory) old_board new_board old mid to h writes = record {
   board = λ e. absurd (cc);
   no_board = λ e. absurd (cc);
-  write = λ e. absurd (cc);
-  no_write = λ n. spared (λ e. absurd (cc)) ∙ h.writes.spared (λ e. absurd (cc));
+  writes = record { fault = λ e. absurd (cc); spared = λ n. writes.spared (λ e. absurd (cc)) ∙ h.writes.spared (λ e. absurd (cc)) };
 }
-rest_cause (Err reports.Worn) old_board new_board old mid to h failed spared = record {
+rest_cause (Err reports.Worn) old_board new_board old mid to h writes = record {
   board = λ e. absurd (cc);
   no_board = λ e. absurd (cc);
-  write = λ e. absurd (cc);
-  no_write = λ n. spared (λ e. absurd (cc)) ∙ h.writes.spared (λ e. absurd (cc));
+  writes = record { fault = λ e. absurd (cc); spared = λ n. writes.spared (λ e. absurd (cc)) ∙ h.writes.spared (λ e. absurd (cc)) };
 }
 
 -- ---- all of it
@@ -360,7 +372,7 @@ module _ (laws : EndingLaws) (g : Given) (start : State) (is : start ≡ Opens g
       let run =
       told_rest laws g start is sound mine x l old_board new_board old mid to place drove since opens_l legal h.later enough h.told whole
       (h.rest place start opens_x sound) in
-      subst Ends (sym h.end_is) (run, rest_cause h.told old_board new_board old mid to drove.caused h.failed h.spared)
+      subst Ends (sym h.end_is) (run, rest_cause h.told old_board new_board old mid to drove.caused h.writes)
 
   pub ended : (was end : ServeEnd) → DroveBy was g start mine old_board new_board old mid → RestsBy (joined was outcome) end x l mid to → Ends end
   ended ends.Done end drove rests = other_end ends.Done end (λ e. absurd (cc)) drove rests

@@ -20,6 +20,8 @@ use Rattle.serve_steps.specs.Deeds.Deed.{Enters, Does}
 use Rattle.serve_steps.specs.Laws.{ReportIsTold, entered}
 use Rattle.serve_steps.specs.Parts.{Given, Part, deeds_of, is_quiet}
 use Rattle.serve_steps.specs.Runs.{report, taken_in, taken_report}
+use Rattle.serve_steps.proofs.Entered.{entered_ahead, acts_entered}
+use Rattle.serve_steps.proofs.States.{turns_go_on}
 use Rattle.serve_channels.specs.declared.server.Server.{Server}
 use Rattle.serve_channels.specs.Delivering.{OpensOnce}
 use Rattle.serve_channels.specs.Keeping.{IsKept}
@@ -31,18 +33,6 @@ use Rattle.serve_pump.specs.declared.pump.Pump.{Pump}
 use Rattle.serve_pump.specs.Running.{BreaksOff, GoesOn}
 
 -- ---- turns and acts, one behind the other
-
-pub turns_entered : (ts : List Turn) (past : Past) → turns_of (entered ts past) ≡ turns_of past ++ ts
-turns_entered [] past = sym (append-nil (turns_of past))
-turns_entered (t ∷ ts) past = turns_entered ts (Enters t ∷ past) ∙ append_assoc (turns_of past) (t ∷ []) ts
-
-pub acts_entered : (ts : List Turn) (past : Past) → acts_of (entered ts past) ≡ acts_of past
-acts_entered [] past = refl
-acts_entered (t ∷ ts) past = acts_entered ts (Enters t ∷ past) ∙ append-nil (acts_of past)
-
-entered_ahead : (ts : List Turn) (done past : Past) → entered ts done ++ past ≡ entered ts (done ++ past)
-entered_ahead [] done past = refl
-entered_ahead (t ∷ ts) done past = entered_ahead ts (Enters t ∷ done) past
 
 pub quiet_entered : (ts : List Turn) (past : Past) → list_all is_quiet past ≡ true → list_all is_quiet (entered ts past) ≡ true
 quiet_entered [] past quiet = quiet
@@ -62,7 +52,7 @@ module _ (told : ReportIsTold) (g : Given) (past : Past) (last : State) (legal :
   pub taken_front : (text : List ℕ) → IsFront text (taken_report past) → IsFront text (report past)
   taken_front text front = (
     front.0 ++ flat_map spelled last.lines,
-    sym (append_assoc text front.0 (flat_map spelled last.lines)) ∙ ap (λ (xs : List ℕ). xs ++ flat_map spelled last.lines) front.1 ∙ sym (told g past last legal),
+    sym (append_assoc text front.0 (flat_map spelled last.lines)) ∙ ap (λ (xs : List ℕ). xs ++ flat_map spelled last.lines) front.1 ∙ sym (told past g.policy g.settings last legal),
   )
 
 front_then : (first more : Past) (text : List ℕ) → IsFront text (taken_report more) → IsFront (taken_report first ++ text) (taken_report (more ++ first))
@@ -130,7 +120,7 @@ module _ (told : ReportIsTold) (g : Given) (before : List Act) (first : Past) (p
       since = did more (entered ts [])
 
       since_turns : turns_of since ≡ ts
-      since_turns = turns_did more (entered ts []) ∙ turns_entered ts []
+      since_turns = turns_did more (entered ts []) ∙ turns_go_on ts []
 
       since_acts : acts_of since ≡ more
       since_acts = acts_did more (entered ts []) ∙ ap (λ (xs : List Act). xs ++ more) (acts_entered ts [])
@@ -166,7 +156,7 @@ module _ (told : ReportIsTold) (g : Given) (before : List Act) (first : Past) (p
       breaks_reporting kept quiet unread law =
           breaks_with reporting log q old new e.front law (ap (λ (f : Footing). f.start) e.enters.footing ∙ kept.start) (quiet_entered e.enters.others done quiet)
           (e.enters.past ∙ ap (λ (us : List Turn). (us ++ e.enters.others) ++ this ∷ []) kept.turns
-          ∙ ap (λ (us : List Turn). us ++ this ∷ []) (sym (turns_entered e.enters.others (done ++ turned))) ∙ sym (ap turns_of reporting_ahead))
+          ∙ ap (λ (us : List Turn). us ++ this ∷ []) (sym (turns_go_on e.enters.others (done ++ turned))) ∙ sym (ap turns_of reporting_ahead))
           (kept.acts ∙ ap (λ (xs : List Act). before ++ xs)
           (sym (ap acts_of reporting_ahead ∙ append-nil (acts_of (entered e.enters.others (done ++ turned))) ∙ acts_entered e.enters.others (done ++ turned))))
           e.wrote

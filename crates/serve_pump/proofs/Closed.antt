@@ -17,16 +17,16 @@ use Rattle.machine_steps.specs.Sound.{IsSound}
 use Rattle.packet_workers.specs.Adding.{PassView}
 use Rattle.worker_crew.specs.declared.gave_up.GaveUp.TheVariants as gave_up
 use Rattle.worker_crew.specs.Tasks.{Worked}
-use Rattle.desk_jobs.proofs.HadMemory.{had_at_all, had_seen}
+use Rattle.machine_desk.proofs.HadMemory.{had_at_all, had_seen}
 use Rattle.serve_steps.specs.declared.end.ServeEnd.{ServeEnd}
 use Rattle.serve_steps.specs.declared.end.ServeEnd.TheVariants as ends
 use Rattle.serve_steps.specs.Deeds.{Past, acts_of, turns_of}
 use Rattle.serve_steps.specs.Laws.{OthersGoOn, first_entered, parts_entered}
 use Rattle.serve_steps.specs.Parts.{AreCutAtTurns, AreOpenedOnce, Given, Part, deeds_of, has_ended, state_of}
-use Rattle.serve_steps.specs.Runs.{AllHadMemory, ArePartsButLast, EndsWith, HasCause, HasRun, IsBrokenOff, IsLastAsked, IsWrittenButLast, most_entries, report, is_whole, taken_report}
+use Rattle.serve_steps.specs.Runs.{ArePartsButLast, EndsWith, HasCause, HasRun, IsBrokenOff, IsLastAsked, IsSmooth, IsWrittenButLast, most_entries, report, is_whole, taken_report}
 use Rattle.serve_pump.specs.Ending.{DroveBy, EndsSoFar, IsCaused, IsFailedSoFar, joined}
 use Rattle.serve_pump.specs.EndLaws.{EndingLaws}
-use Rattle.serve_pump.proofs.Reports.{done_broken, script_broken, written_by}
+use Rattle.serve_pump.proofs.Reports.{done_broken, script_broken, written_by, report_only}
 
 -- ---- causes
 
@@ -34,8 +34,7 @@ pub cause_of : (end : ServeEnd) (old_board new_board : BoardView) (old new : Sin
 cause_of end old_board new_board old new h = record {
   board = h.board;
   no_board = λ spares. h.spared (λ e. let f : is_whole ends.BoardFault ≡ true = subst (λ (x : ServeEnd). is_whole x ≡ true) e spares in absurd (cc));
-  write = h.writes.fault;
-  no_write = h.writes.spared;
+  writes = h.writes;
 }
 
 -- ---- what was broken off
@@ -58,7 +57,7 @@ module _ (laws : EndingLaws) (g : Given) where
   -- where all lines were taken it is all of the report
   pub told_whole : (past : Past) (last : State) → Leads (Opens g) (turns_of past) last → last.lines ≡ [] → taken_report past ≡ report past
   told_whole past last legal none =
-      sym (laws.report g past last legal ∙ ap (λ ls. taken_report past ++ flat_map spelled ls) none ∙ append-nil (taken_report past))
+      sym (laws.report past g.policy g.settings last legal ∙ ap (λ ls. taken_report past ++ flat_map spelled ls) none ∙ append-nil (taken_report past))
 
   -- as it was where the board failed
   failed_whole : (first : Past) (parts : List Part) (text : List ℕ) (last : State) → Leads (Opens g) (turns_of (deeds_of first parts)) last
@@ -71,12 +70,13 @@ module _ (laws : EndingLaws) (g : Given) where
 
   pub run_of : (end : ServeEnd) (history : List Turn) (last : State) (first : Past) (parts : List Part) (text : List ℕ) (old_board new_board : BoardView) (old new : SinkView)
       → turns_of (deeds_of first parts) ≡ history → Leads (Opens g) history last → AreCutAtTurns first parts → AreOpenedOnce first parts
-      → new_board.log ≡ old_board.log ++ acts_of (deeds_of first parts) → EndsWith end g first parts text → Wrote old new text → HasRun end g old_board new_board old new
-  run_of end history last first parts text old_board new_board old new turns legal cut opened log ends wrote = (
+      → new_board.log ≡ old_board.log ++ acts_of (deeds_of first parts) → EndsWith end g first parts text → IsSmooth (is_whole end) history → Wrote old new text
+      → HasRun end g old_board new_board old new
+  run_of end history last first parts text old_board new_board old new turns legal cut opened log ends smooth wrote = (
     text,
     record {
       history = history;
-      run = record { first = first; parts = parts; turns = turns; last = last; legal = legal; cut = cut; opened = opened; log = log; ends = ends };
+      run = record { first = first; parts = parts; turns = turns; last = last; legal = legal; cut = cut; opened = opened; log = log; ends = ends; smooth = smooth };
       right = laws.world g (deeds_of first parts);
     },
     wrote,
@@ -86,29 +86,19 @@ module _ (laws : EndingLaws) (g : Given) where
   pub never_ran : (board : BoardView) (to : SinkView) → HasRun ends.NoMemory g board board to to
   never_ran board to =
       run_of ends.NoMemory [] (Opens g) [] [] [] board board to to refl refl refl tt (sym (append-nil board.log)) (record { ahead = tt; written = tt; front = ([], refl) })
-      (wrote_nothing to)
+      (record { room = tt; memory = λ whole. absurd (cc) }) (wrote_nothing to)
 
   -- ---- with nobody beside
 
   ends_whole : (end : ServeEnd) (number : ℕ) (first : Past) (parts : List Part) (text : List ℕ) (last : State) → Leads (Opens g) (turns_of (deeds_of first parts)) last
-      → EndsSoFar end g number first parts text → number ≤ length (turns_of (deeds_of first parts))
-      → (is_whole end ≡ true → AllHadMemory (turns_of (deeds_of first parts))) → EndsWith end g first parts text
-  ends_whole ends.Done number first parts text last legal h few memory =
-      record { all = h.all; ended = h.ended; rest = h.rest; memory = memory refl; text_is = h.text_is }
-  ends_whole (ends.Script line kind) number first parts text last legal h few memory = record {
-    refused = h.refused;
-    scripted = h.only.0;
-    free = h.only.1;
-    not_started = h.only.2;
-    no_turn = h.only.3;
-    memory = memory refl;
-    text_is = h.text_is ∙ ap (λ (ps : List Part). report (deeds_of first ps)) h.only.3;
-  }
-  ends_whole ends.WriteFault number first parts text last legal h few memory = h
-  ends_whole ends.BoardFault number first parts text last legal h few memory =
-      record { ahead = h.ahead; last = h.last; not_ended = h.not_ended; text_is = failed_whole first parts text last legal h }
-  ends_whole ends.Worn number first parts text last legal h few memory = record { broken = h.0; long = omega (arith, h.1, few) }
-  ends_whole ends.NoMemory number first parts text last legal h few memory = h
+      → EndsSoFar end g number first parts text → number ≤ length (turns_of (deeds_of first parts)) → EndsWith end g first parts text
+  ends_whole ends.Done number first parts text last legal h few = h
+  ends_whole (ends.Script line kind) number first parts text last legal h few = h.0
+  ends_whole ends.WriteFault number first parts text last legal h few = h
+  ends_whole ends.BoardFault number first parts text last legal h few =
+      record { stops = h.stops; text_is = failed_whole first parts text last legal h }
+  ends_whole ends.Worn number first parts text last legal h few = record { broken = h.0; long = omega (arith, h.1, few) }
+  ends_whole ends.NoMemory number first parts text last legal h few = h
 
   pub seen_legal : (start : State) (k : PassView) → k.opening ≡ Some start → (legal : HasSeenLegal Turns k) → Replays Turns start k.seen legal.0
   seen_legal start k opens legal =
@@ -127,8 +117,11 @@ module _ (laws : EndingLaws) (g : Given) where
         let few : k.number ≤ length history = subst (λ (n : ℕ). k.number ≤ n) (sym (turns_length start k.seen)) enough in
         run_of end history legal.0 ran.first ran.parts ran.text old_board new_board old new (sym ran.turns) leads_seen ran.cut ran.opened ran.acts
         (ends_whole end k.number ran.first ran.parts ran.text legal.0 (subst (λ (ts : List Turn). Leads (Opens g) ts legal.0) ran.turns leads_seen) ran.ends
-        (subst (λ (ts : List Turn). k.number ≤ length ts) ran.turns few)
-        (λ spares. subst AllHadMemory ran.turns (had_at_all start k.seen k.own (had_seen start k.seen k.own (drove.memory spares)) all)))
+        (subst (λ (ts : List Turn). k.number ≤ length ts) ran.turns few))
+        (record {
+          room = drove.smooth.room;
+          memory = λ whole. had_at_all start k.seen k.own (had_seen start k.seen k.own (drove.smooth.memory whole)) all;
+        })
         ran.wrote
 
   -- ---- with what others did behind it
@@ -185,35 +178,26 @@ module _ (laws : EndingLaws) (g : Given) where
     -- but for a fault of the board
     pub ends_on : (end : ServeEnd) (outcome : Worked) (number : ℕ) (text : List ℕ) → end ≢ ends.BoardFault → EndsSoFar end g number first parts text
         → number ≤ length (turns_of (deeds_of first_on parts_on)) → (outcome ≡ Err gave_up.Worn → most_entries ≤ length (turns_of (deeds_of first_on parts_on)))
-        → (is_whole (joined end outcome) ≡ true → AllHadMemory (turns_of (deeds_of first_on parts_on))) → EndsWith (joined end outcome) g first_on parts_on text
-    ends_on ends.Done (Ok done) number text other h few worn memory = record {
+        → EndsWith (joined end outcome) g first_on parts_on text
+    ends_on ends.Done (Ok done) number text other h few worn = record {
       all = laws.parts g first parts others go h.all;
       ended = laws.ended true g first parts others go h.ended;
       rest = laws.rest g first parts others go h.rest;
-      memory = memory refl;
       text_is = h.text_is ∙ report_on h.rest.jobs;
     }
-    ends_on ends.Done (Err gave_up.NoMemory) number text other h few worn memory = front_on text (done_broken g first parts text h)
-    ends_on ends.Done (Err gave_up.Worn) number text other h few worn memory =
+    ends_on ends.Done (Err gave_up.NoMemory) number text other h few worn = front_on text (done_broken g first parts text h)
+    ends_on ends.Done (Err gave_up.Worn) number text other h few worn =
         record { broken = front_on text (done_broken g first parts text h); long = worn refl }
-    ends_on (ends.Script line kind) (Ok done) number text other h few worn memory =
-        let only = laws.script g first parts others go h.only in
-        record {
-          refused = h.refused;
-          scripted = only.0;
-          free = only.1;
-          not_started = only.2;
-          no_turn = only.3;
-          memory = memory refl;
-          text_is = h.text_is ∙ report_on h.none ∙ ap (λ (ps : List Part). report (deeds_of first_on ps)) only.3;
-        }
-    ends_on (ends.Script line kind) (Err gave_up.NoMemory) number text other h few worn memory = front_on text (script_broken line kind g first parts text h)
-    ends_on (ends.Script line kind) (Err gave_up.Worn) number text other h few worn memory =
-        record { broken = front_on text (script_broken line kind g first parts text h); long = worn refl }
-    ends_on ends.WriteFault outcome number text other h few worn memory = front_on text h
-    ends_on ends.BoardFault outcome number text other h few worn memory = absurd (other refl)
-    ends_on ends.Worn outcome number text other h few worn memory = record { broken = front_on text h.0; long = omega (arith, h.1, few) }
-    ends_on ends.NoMemory outcome number text other h few worn memory = front_on text h
+    ends_on (ends.Script line kind) (Ok done) number text other h few worn =
+        let only = laws.script g first parts others go h.0.only in
+        record { refused = h.0.refused; only = only; text_is = h.0.text_is ∙ report_only g first parts h.0.only ∙ report_on h.1 ∙ sym (report_only g first_on parts_on only) }
+    ends_on (ends.Script line kind) (Err gave_up.NoMemory) number text other h few worn = front_on text (script_broken line kind g first parts text h.0)
+    ends_on (ends.Script line kind) (Err gave_up.Worn) number text other h few worn =
+        record { broken = front_on text (script_broken line kind g first parts text h.0); long = worn refl }
+    ends_on ends.WriteFault outcome number text other h few worn = front_on text h
+    ends_on ends.BoardFault outcome number text other h few worn = absurd (other refl)
+    ends_on ends.Worn outcome number text other h few worn = record { broken = front_on text h.0; long = omega (arith, h.1, few) }
+    ends_on ends.NoMemory outcome number text other h few worn = front_on text h
 
     -- where the board failed: all but that the report is whole
     pub record IsFailedOn (text : List ℕ) : Type 0 where
@@ -224,8 +208,8 @@ module _ (laws : EndingLaws) (g : Given) where
 
     pub failed_on : (text : List ℕ) → IsFailedSoFar g first parts text → IsFailedOn text
     failed_on text h = record {
-      asked = laws.asked g first parts others go (h.ahead, h.last);
-      not_ended = laws.ended false g first parts others go h.not_ended;
+      asked = laws.asked g first parts others go (h.stops.ahead, h.stops.last);
+      not_ended = laws.ended false g first parts others go h.stops.not_ended;
       text_is = h.text_is ∙ sym (laws.take g first parts others go);
       written = written_on others first parts text (written_by first parts text (failed_whole first parts text go.now go.legal h));
     }

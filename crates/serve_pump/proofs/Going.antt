@@ -2,7 +2,7 @@
 use Rattle.std.proofs.Common.{◌≡◌, ℕ, Bool, true, false, List, [], ◌∷◌, ◌++◌, append-nil, refl, sym, ap, ◌∙◌, subst, inl, inr}
 use Rattle.std.specs.Prelude.{◌≢◌, Option}
 use Rattle.std.specs.List.{flat_map}
-use Rattle.desk_jobs.proofs.Crewed.{crew_then, same_crew}
+use Rattle.machine_desk.proofs.Crewed.{crew_then, same_crew}
 use Rattle.maple_io.specs.declared.act.Act.{Act}
 use Rattle.maple_io.specs.declared.act.Act.TheVariants as acts
 use Rattle.maple_io.specs.Boards.{BoardFailed, BoardView, NoBoardFailed}
@@ -11,10 +11,11 @@ use Rattle.maple_io.proofs.Pieces.{wrote_nothing, wrote_then}
 use Rattle.maple_base.specs.Counts.{HasRisen}
 use Rattle.report_text.specs.declared.line.ScriptRefusal.{ScriptRefusal}
 use Rattle.report_text.specs.Report.{spelled}
-use Rattle.machine_desk.specs.Desks.{DeskLaw, DeskView, Footing, HadMemory, SameHall, calls_of}
+use Rattle.machine_desk.specs.Desks.{DeskLaw, DeskView, Footing, HadMemory, NoneOverflows, SameHall, calls_of}
+use Rattle.machine_desk.specs.Runs.{IsSmoothFor}
 use Rattle.machine_steps.specs.Machine.{State}
-use Rattle.desk_jobs.specs.declared.crew.Crew.{Crew}
-use Rattle.desk_jobs.specs.Crews.{MayHave, SameCrew}
+use Rattle.machine_desk.specs.declared.crew.Crew.{Crew}
+use Rattle.machine_desk.specs.Crews.{MayHave, SameCrew}
 use Rattle.serve_steps.specs.declared.end.ServeEnd.{ServeEnd}
 use Rattle.serve_steps.specs.declared.end.ServeEnd.TheVariants as ends
 use Rattle.serve_steps.specs.Deeds.{Past}
@@ -44,7 +45,7 @@ use Rattle.serve_pump.proofs.Whole.{legal, state_is}
 pub all_told : ReportIsTold → (g : Given) (before : List Act) (past : Past) (log : List Act) (s : Server) → IsKept g before past log s → DeskLaw s.desk → s.desk.now.lines ≡ []
     → taken_report past ≡ report past
 all_told told g before past log s kept law none =
-    sym (told g past s.desk.now (legal g before past log s kept law) ∙ ap (λ ls. taken_report past ++ flat_map spelled ls) none ∙ append-nil (taken_report past))
+    sym (told past g.policy g.settings s.desk.now (legal g before past log s kept law) ∙ ap (λ ls. taken_report past ++ flat_map spelled ls) none ∙ append-nil (taken_report past))
 
 -- ---- by why it stops
 
@@ -124,9 +125,7 @@ module _ (g : Given) (before : List Act) (from to_old to_new : SinkView) (old_lo
         opened = run.opened;
         text = taken_report deeds;
         ends = record {
-          ahead = but_last g way.first way.parts run.parts_are;
-          last = last_asked way.parts run.parts_are;
-          not_ended = on.goes_on;
+          stops = record { ahead = but_last g way.first way.parts run.parts_are; last = last_asked way.parts run.parts_are; not_ended = on.goes_on };
           told = ap (λ (m : State). m.lines) (state_is g before deeds log new.server run.kept law told) ∙ run.told;
           text_is = refl;
         };
@@ -208,12 +207,10 @@ module _ (laws : BeginLaws) (g : Given) (before log : List Act) (p : Pump) (law 
         cut = c.cut;
         opened = tt;
         text = taken_report h.first;
-        ends = record {
-          refused = h.is.refused;
-          only = c.only;
-          none = ap (λ (m : State). m.jobs) (state_is g before h.first log p.server c.kept law laws.told) ∙ c.none;
-          text_is = all_told laws.report g before h.first log p.server c.kept law c.told;
-        };
+        ends = (
+          record { refused = h.is.refused; only = c.only; text_is = all_told laws.report g before h.first log p.server c.kept law c.told },
+          ap (λ (m : State). m.jobs) (state_is g before h.first log p.server c.kept law laws.told) ∙ c.none,
+        );
         wrote = h.wrote;
       }
 
@@ -233,9 +230,7 @@ module _ (laws : BeginLaws) (g : Given) (before log : List Act) (p : Pump) (law 
         opened = tt;
         text = taken_report h.first;
         ends = record {
-          ahead = tt;
-          last = (c.only.0, h.none_refused, c.only.1, inl c.only.2);
-          not_ended = h.goes_on;
+          stops = record { ahead = tt; last = (c.only.scripted, h.none_refused, c.only.free, inl c.only.not_started); not_ended = h.goes_on };
           told = ap (λ (m : State). m.lines) (state_is g before h.first log p.server kept law laws.told) ∙ c.told;
           text_is = refl;
         };
@@ -319,24 +314,28 @@ module _ (g : Given) (desk : DeskView) (old_board new_board : BoardView) (old ne
   short : NoBoardFailed old_board new_board → NoWriteFailed old new → IsCaused ends.NoMemory old_board new_board old new
   short spared no_write = caused_well ends.NoMemory old_board new_board old new (λ e. absurd (cc)) (λ e. absurd (cc)) spared no_write
 
-  pub memory_drove : (end : ServeEnd) (had : Bool) → RanAt end g old_board.log new_board.log desk old new → IsCaused end old_board new_board old new
-      → (had ≡ true → HadMemory (calls_of desk.past) desk.own) → DroveAt (with_memory end had) g desk old_board new_board old new
-  memory_drove ends.Done true ran caused had = record { ran = ran; memory = λ whole. had refl; caused = caused }
-  memory_drove ends.Done false ran caused had = record {
-    ran = ends_as ends.Done ends.NoMemory ran (done_broken g ran.first ran.parts ran.text ran.ends);
-    memory = λ whole. absurd (cc);
-    caused = short (caused.spared (λ e. absurd (cc))) (caused.writes.spared (λ e. absurd (cc)));
-  }
-  memory_drove (ends.Script line kind) true ran caused had = record { ran = ran; memory = λ whole. had refl; caused = caused }
-  memory_drove (ends.Script line kind) false ran caused had = record {
-    ran = ends_as (ends.Script line kind) ends.NoMemory ran (script_broken line kind g ran.first ran.parts ran.text ran.ends);
-    memory = λ whole. absurd (cc);
-    caused = short (caused.spared (λ e. absurd (cc))) (caused.writes.spared (λ e. absurd (cc)));
-  }
-  memory_drove ends.WriteFault had ran caused memory = record { ran = ran; memory = λ whole. absurd (cc); caused = caused }
-  memory_drove ends.BoardFault had ran caused memory = record { ran = ran; memory = λ whole. absurd (cc); caused = caused }
-  memory_drove ends.Worn had ran caused memory = record { ran = ran; memory = λ whole. absurd (cc); caused = caused }
-  memory_drove ends.NoMemory had ran caused memory = record { ran = ran; memory = λ whole. absurd (cc); caused = caused }
+  module _ (room : NoneOverflows desk.past) where
+    not_whole : IsSmoothFor false desk.past desk.own
+    not_whole = record { room = room; memory = λ whole. absurd (cc) }
+
+    pub memory_drove : (end : ServeEnd) (had : Bool) → RanAt end g old_board.log new_board.log desk old new → IsCaused end old_board new_board old new
+        → (had ≡ true → HadMemory (calls_of desk.past) desk.own) → DroveAt (with_memory end had) g desk old_board new_board old new
+    memory_drove ends.Done true ran caused had = record { ran = ran; smooth = record { room = room; memory = λ whole. had refl }; caused = caused }
+    memory_drove ends.Done false ran caused had = record {
+      ran = ends_as ends.Done ends.NoMemory ran (done_broken g ran.first ran.parts ran.text ran.ends);
+      smooth = not_whole;
+      caused = short (caused.spared (λ e. absurd (cc))) (caused.writes.spared (λ e. absurd (cc)));
+    }
+    memory_drove (ends.Script line kind) true ran caused had = record { ran = ran; smooth = record { room = room; memory = λ whole. had refl }; caused = caused }
+    memory_drove (ends.Script line kind) false ran caused had = record {
+      ran = ends_as (ends.Script line kind) ends.NoMemory ran (script_broken line kind g ran.first ran.parts ran.text ran.ends.0);
+      smooth = not_whole;
+      caused = short (caused.spared (λ e. absurd (cc))) (caused.writes.spared (λ e. absurd (cc)));
+    }
+    memory_drove ends.WriteFault had ran caused memory = record { ran = ran; smooth = not_whole; caused = caused }
+    memory_drove ends.BoardFault had ran caused memory = record { ran = ran; smooth = not_whole; caused = caused }
+    memory_drove ends.Worn had ran caused memory = record { ran = ran; smooth = not_whole; caused = caused }
+    memory_drove ends.NoMemory had ran caused memory = record { ran = ran; smooth = not_whole; caused = caused }
 
 -- ---- ahead of all
 
@@ -353,7 +352,7 @@ never_drove g desk board to none = record {
     ends = record { ahead = tt; written = tt; front = ([], refl) };
     wrote = wrote_nothing to;
   };
-  memory = λ whole. absurd (cc);
+  smooth = record { room = subst NoneOverflows (sym none) tt; memory = λ whole. absurd (cc) };
   caused = caused_well ends.NoMemory board board to to (λ e. absurd (cc)) (λ e. absurd (cc)) refl refl;
 }
 

@@ -10,9 +10,8 @@ use Rattle.machine_steps.specs.Histories.{Turn, report_of, said}
 use Rattle.serve_steps.specs.Deeds.{Past, turn_in, turns_of}
 use Rattle.serve_steps.specs.Deeds.Deed.{Does}
 use Rattle.serve_steps.specs.Parts.{Given, Part, deeds_of}
-use Rattle.serve_steps.specs.Runs.{AreParts, ArePartsButLast, IsBrokenOff, IsWrittenButLast, report}
+use Rattle.serve_steps.specs.Runs.{AreParts, ArePartsButLast, IsBrokenOff, IsWrittenButLast, report, IsDone, IsRefused, IsScriptOnly}
 use Rattle.serve_channels.proofs.Stretching.{gathered_then}
-use Rattle.serve_pump.specs.Ending.{IsDoneSoFar, IsRefusedSoFar}
 
 pub front_then : (a b c : List ℕ) → IsFront a b → IsFront b c → IsFront a c
 front_then a b c h k = (h.0 ++ k.0, sym (append_assoc a h.0 k.0) ∙ ap (λ (xs : List ℕ). xs ++ k.0) h.1 ∙ k.1)
@@ -49,17 +48,23 @@ pub but_last : (g : Given) (first : Past) (parts : List Part) → AreParts g fir
 but_last g first [] are = tt
 but_last g first (p ∷ ahead) are = are.1
 
-pub done_broken : (g : Given) (first : Past) (parts : List Part) (text : List ℕ) → IsDoneSoFar g first parts text → IsBrokenOff g first parts text
+pub done_broken : (g : Given) (first : Past) (parts : List Part) (text : List ℕ) → IsDone g first parts text → IsBrokenOff g first parts text
 done_broken g first parts text h = record {
   ahead = but_last g first parts h.all;
   written = written_by first parts text h.text_is;
   front = ([], append-nil text ∙ h.text_is);
 }
 
-pub script_broken : (line : ℕ) (kind : ScriptRefusal) (g : Given) (first : Past) (parts : List Part) (text : List ℕ) → IsRefusedSoFar line kind g first parts text
+-- a script that was refused has no part but the first
+pub report_only : (g : Given) (first : Past) (parts : List Part) → IsScriptOnly g first parts → report first ≡ report (deeds_of first parts)
+report_only g first parts only = ap (λ (ps : List Part). report (deeds_of first ps)) (sym only.no_turn)
+
+pub script_broken : (line : ℕ) (kind : ScriptRefusal) (g : Given) (first : Past) (parts : List Part) (text : List ℕ) → IsRefused g line kind first parts text
     → IsBrokenOff g first parts text
-script_broken line kind g first parts text h = record {
-  ahead = subst (ArePartsButLast g first) (sym h.only.3) tt;
-  written = written_by first parts text h.text_is;
-  front = ([], append-nil text ∙ h.text_is);
-}
+script_broken line kind g first parts text h =
+    let is = h.text_is ∙ report_only g first parts h.only in
+    record {
+      ahead = subst (ArePartsButLast g first) (sym h.only.no_turn) tt;
+      written = written_by first parts text is;
+      front = ([], append-nil text ∙ is);
+    }

@@ -29,6 +29,8 @@ use Rattle.serve_steps.specs.Laws.{ReportIsTold, entered}
 use Rattle.serve_steps.specs.Parts.{Given, given, is_quiet, is_start, is_turn, own_of}
 use Rattle.serve_steps.specs.Runs.{IsFirst, IsScripted, start_by, taken_in, taken_report}
 use Rattle.serve_steps.specs.Texts.{Ask, AreEntriesOf, ahead_of_refused, first_refused, script_asks, script_quits}
+use Rattle.serve_steps.proofs.Entered.{acts_entered}
+use Rattle.serve_steps.proofs.States.{turns_go_on}
 use Rattle.serve_channels.specs.declared.connection.Connection.{Connection}
 use Rattle.serve_channels.specs.declared.scripting.ScriptEnd.{ScriptEnd}
 use Rattle.serve_channels.specs.declared.scripting.ScriptEnd.TheVariants as scripts
@@ -49,7 +51,7 @@ use Rattle.serve_pump.specs.declared.startup.Begun.TheVariants as begins
 use Rattle.serve_pump.specs.declared.startup.Startup.{Startup}
 use Rattle.serve_pump.specs.Beginning.{BeginLaws, BreaksAtFirst, FailsAtStart, HasBegun, HasQuit, IsCarriedOut, ListensBy, given_by}
 use Rattle.serve_pump.specs.Running.{GoesOn, IsRunning, IsSettled}
-use Rattle.serve_pump.proofs.Broken.{acts_entered, quiet_entered, taken_front, turns_entered}
+use Rattle.serve_pump.proofs.Broken.{quiet_entered, taken_front}
 use Rattle.serve_pump.proofs.Whole.{is_at_rest, is_worked, lines_taken}
 use Rattle.serve_pump.proofs.Whole.{legal as legal_kept}
 
@@ -132,7 +134,7 @@ module _ (laws : BeginLaws) (g : Given) (log : List Act) (b d : Server) (old new
   pub carried : IsCarriedOut g log first log d
   carried = record {
     kept = kept;
-    only = (scripted, stretch.free, no_acts, refl);
+    only = record { scripted = scripted; free = stretch.free; not_started = no_acts; no_turn = refl };
     cut = none_turned first stretch.quiet;
     told = lines_taken b.desk d.desk old new reports;
     none = still.jobs;
@@ -188,7 +190,7 @@ module _ (laws : BeginLaws) (g : Given) (log : List Act) (b d : Server) (old new
         memory = scripted.memory;
       };
       none_refused = none_refused;
-      free = (refl, stretch.free);
+      free = (tt, stretch.free);
       started = acts_now ∙ sym (ap (λ (b : Bool). start_by b g) quits);
       worked = is_worked g log begun new_log d starts law laws.told laws.grow;
     }
@@ -230,7 +232,7 @@ module _ (report : ReportIsTold) (g : Given) (log : List Act) (p : Pump) (law : 
       let ts = p.server.desk.past in
       record {
         first = entered ts [];
-        turns = sym (turns_entered ts []);
+        turns = sym (turns_go_on ts []);
         acts = sym (ap (λ (xs : List Act). log ++ xs) (acts_entered ts []) ∙ append-nil log);
         cut = none_turned (entered ts []) (quiet_entered ts [] refl);
         text = [];
@@ -246,7 +248,7 @@ module _ (report : ReportIsTold) (g : Given) (log : List Act) (p : Pump) (law : 
         let all = Enters this ∷ entered e.enters.others done in
         let turns : p.server.desk.past ≡ turns_of all =
         e.enters.past ∙ ap (λ (us : List Turn). (us ++ e.enters.others) ++ this ∷ []) kept.turns
-        ∙ ap (λ (us : List Turn). us ++ this ∷ []) (sym (turns_entered e.enters.others done)) in
+        ∙ ap (λ (us : List Turn). us ++ this ∷ []) (sym (turns_go_on e.enters.others done)) in
         record {
           first = all;
           turns = turns;

@@ -1,6 +1,5 @@
 -- A turn: it is received, followed, and the report is written; or the run breaks off.
 use Rattle.std.proofs.Common.{◌≡◌, ℕ, Bool, true, List, [], ◌∷◌, ◌++◌, length, append-nil, append_assoc, refl, sym, ap, ◌∙◌, subst, ⊎_elim, arith}
-use Rattle.std.specs.Prelude.{Result, Ok, Err, OnErr}
 use Rattle.std.specs.Vec.{with_items}
 use Rattle.std.proofs.lemmas.List.{with_items_is}
 use Rattle.maple_io.specs.declared.act.Act.{Act}
@@ -31,10 +30,6 @@ use Rattle.serve_pump.specs.Turning.{Acted, Comes, Follows, FollowsBy, IsReceive
 use Rattle.serve_pump.proofs.Broken.{breaks_before, breaks_reporting, breaks_since, breaks_with}
 use Rattle.serve_pump.proofs.Followed.{kept_marked, marked, serving_acted}
 use Rattle.serve_pump.proofs.Whole.{runs_on, stays_on}
-
-pub on_err : {A E P : Type 0} (r : Result A E) → P → OnErr r P
-on_err (Ok x) p = tt
-on_err (Err e) p = p
 
 -- ---- no turn came
 

@@ -9,9 +9,9 @@ use Rattle.report_text.specs.declared.line.ScriptRefusal.{ScriptRefusal}
 use Rattle.machine_moves.specs.MoveLaws.{StatesGrow}
 use Rattle.machine_steps.specs.Machine.{State}
 use Rattle.serve_steps.specs.Deeds.{Past, acts_of, turns_of}
-use Rattle.serve_steps.specs.Laws.{IsScriptOnly, ReportIsTold, StatesAreTold}
+use Rattle.serve_steps.specs.Laws.{ReportIsTold, StatesAreTold}
 use Rattle.serve_steps.specs.Parts.{AreCutAtTurns, Given, given, has_ended}
-use Rattle.serve_steps.specs.Runs.{IsAtRest, report, taken_report}
+use Rattle.serve_steps.specs.Runs.{IsAtRest, report, taken_report, IsScriptOnly}
 use Rattle.serve_steps.specs.Texts.{first_refused, script_asks}
 use Rattle.serve_channels.specs.declared.scripting.ScriptEnd.{ScriptEnd}
 use Rattle.serve_channels.specs.declared.scripting.ScriptEnd.TheVariants as scripts

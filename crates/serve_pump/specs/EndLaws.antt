@@ -1,16 +1,14 @@
 -- The laws that the end of a run rests on.
-use Rattle.machine_sharing.specs.Between.{MostStays, NothingChanges}
-use Rattle.machine_sharing.specs.Legal.{CallsAreTurns, StatesAreSound, TurnsAreCalls}
+use Rattle.machine_desk.specs.Arriving.{OthersFindRoom}
+use Rattle.machine_sharing.specs.Legal.{CallsAreTurns, StatesAreSound}
 use Rattle.serve_steps.specs.Laws.{OthersStandLast, OthersStayAtRest, OthersStayInBrokenOff, OthersStayInCut, OthersStayInEnd, OthersStayInLastAsked}
 use Rattle.serve_steps.specs.Laws.{OthersStayInParts, OthersStayInScript, OthersTakeNothing, OthersTellNothing, ReportIsTold, StatesAreTold}
 use Rattle.serve_steps.specs.Laws.{TakenStaysInCut, TakenStaysInEnd, TakenStaysInLastAsked, WorldsAreRight}
 
 pub record EndingLaws : Type 0 where
   pub calls : CallsAreTurns
-  pub turns : TurnsAreCalls
   pub sound : StatesAreSound
-  pub frozen : NothingChanges
-  pub stays : MostStays
+  pub room : OthersFindRoom
   pub stand : OthersStandLast
   pub parts : OthersStayInParts
   pub cut : OthersStayInCut

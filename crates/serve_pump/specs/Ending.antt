@@ -1,25 +1,23 @@
 -- How a run ends, as who drove it knows: what others do behind the driver's last call is still to come.
-use Rattle.std.specs.Prelude.{◌≡◌, ◌≢◌, ℕ, Bool, true, false, List, [], ◌++◌, Some, Result, Ok, Err}
+use Rattle.std.specs.Prelude.{◌≡◌, ◌≢◌, ℕ, Bool, true, false, List, [], ◌++◌, Result, Ok, Err}
 use Rattle.maple_io.specs.declared.act.Act.{Act}
 use Rattle.maple_io.specs.Boards.{BoardFailed, BoardView, NoBoardFailed}
 use Rattle.maple_io.specs.Views.{SinkView, Wrote}
-use Rattle.report_text.specs.declared.line.ScriptRefusal.{ScriptRefusal}
 use Rattle.machine_desk.specs.declared.report.ReportStop.{ReportStop}
-use Rattle.machine_desk.specs.Desks.{DeskView, HadMemory, calls_of}
+use Rattle.machine_desk.specs.Desks.{DeskView}
 use Rattle.machine_steps.specs.Histories.{Turn}
 use Rattle.machine_steps.specs.Machine.{State}
 use Rattle.packet_workers.specs.Adding.{PassView}
 use Rattle.worker_crew.specs.Tasks.{Worked}
-use Rattle.desk_jobs.specs.Crews.{EndsOf, joined as joined_by, unwritten, with_memory as memory_by}
-use Rattle.desk_jobs.specs.Runs.{AtDesk, ByPass, IsFaultOf}
+use Rattle.machine_desk.specs.Crews.{EndsOf, joined as joined_by, unwritten, with_memory as memory_by}
+use Rattle.machine_desk.specs.Runs.{AtDesk, ByPass, IsSmoothFor}
+use Rattle.sim_steps.specs.Ends.{IsFaultOf}
 use Rattle.serve_steps.specs.declared.end.ServeEnd.{ServeEnd}
 use Rattle.serve_steps.specs.declared.end.ServeEnd.TheVariants as ends
 use Rattle.serve_steps.specs.declared.end.ServeEnd.TheVariants.{BoardFault, WriteFault}
 use Rattle.serve_steps.specs.Deeds.{Past, acts_of, turns_of}
-use Rattle.serve_steps.specs.Laws.{IsScriptOnly}
-use Rattle.serve_steps.specs.Parts.{AreCutAtTurns, AreOpenedOnce, Given, Part, deeds_of, has_ended, state_of}
-use Rattle.serve_steps.specs.Runs.{AreParts, ArePartsButLast, IsAtRest, IsBrokenOff, IsFull, IsLastAsked, report, is_whole, taken_report}
-use Rattle.serve_steps.specs.Texts.{first_refused, script_asks}
+use Rattle.serve_steps.specs.Parts.{AreCutAtTurns, AreOpenedOnce, Given, Part, deeds_of, state_of}
+use Rattle.serve_steps.specs.Runs.{IsBrokenOff, IsFull, report, is_whole, taken_report, IsDone, IsRefused, StopsAtBoard}
 use Rattle.serve_pump.specs.declared.pump.Pump.{Pump}
 use Rattle.serve_pump.specs.declared.pump.TurnStop.{TurnStop}
 use Rattle.serve_pump.specs.declared.pump.TurnStop.TheVariants as stops
@@ -36,32 +34,16 @@ pub record IsUnderWay (g : Given) (before : List Act) (from : SinkView) (log : L
 
 -- ---- ends
 
--- all parts are whole, nothing is left to do, and the whole report was written
-pub record IsDoneSoFar (g : Given) (first : Past) (parts : List Part) (text : List ℕ) : Type 0 where
-  pub all : AreParts g first parts
-  pub ended : has_ended g first parts ≡ true
-  pub rest : IsAtRest g (deeds_of first parts)
-  pub text_is : text ≡ report (deeds_of first parts)
-
--- only the start script was carried out, up to a refused line; no packet waits, and the whole report was written
-pub record IsRefusedSoFar (line : ℕ) (kind : ScriptRefusal) (g : Given) (first : Past) (parts : List Part) (text : List ℕ) : Type 0 where
-  pub refused : first_refused (script_asks g.first_line g.script) ≡ Some (line, kind)
-  pub only : IsScriptOnly g first parts
-  pub none : (state_of g (deeds_of first parts)).jobs ≡ []
-  pub text_is : text ≡ report (deeds_of first parts)
-
 -- the board failed; all lines of the report were taken, and written
 pub record IsFailedSoFar (g : Given) (first : Past) (parts : List Part) (text : List ℕ) : Type 0 where
-  pub ahead : ArePartsButLast g first parts
-  pub last : IsLastAsked g first parts
-  pub not_ended : has_ended g first parts ≡ false
+  pub stops : StopsAtBoard g first parts
   pub told : (state_of g (deeds_of first parts)).lines ≡ []
   pub text_is : text ≡ taken_report (deeds_of first parts)
 
--- where the driver's last call read that so many entries were made
+-- where the driver's last call read that so many entries were made; behind a refused line no packet waits
 abbrev pub EndsSoFar : ServeEnd → Given → ℕ → Past → List Part → List ℕ → Type 0
-EndsSoFar ends.Done g number first parts text = IsDoneSoFar g first parts text
-EndsSoFar (ends.Script line kind) g number first parts text = IsRefusedSoFar line kind g first parts text
+EndsSoFar ends.Done g number first parts text = IsDone g first parts text
+EndsSoFar (ends.Script line kind) g number first parts text = IsRefused g line kind first parts text × ((state_of g (deeds_of first parts)).jobs ≡ [])
 EndsSoFar WriteFault g number first parts text = IsBrokenOff g first parts text
 EndsSoFar BoardFault g number first parts text = IsFailedSoFar g first parts text
 EndsSoFar ends.Worn g number first parts text = IsBrokenOff g first parts text × IsFull number
@@ -103,7 +85,7 @@ pub record IsCaused (end : ServeEnd) (old_board new_board : BoardView) (old new 
 pub record Drove (end : ServeEnd) (g : Given) (number : ℕ) (history : List Turn) (own : List ℕ) (old_board new_board : BoardView) (old new : SinkView)
     : Type 0 where
   pub ran : Ran end g number history old_board.log new_board.log old new
-  pub memory : is_whole end ≡ true → HadMemory (calls_of history) own
+  pub smooth : IsSmoothFor (is_whole end) history own
   pub caused : IsCaused end old_board new_board old new
 
 -- by what the desk knows

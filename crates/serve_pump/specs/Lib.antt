@@ -5,5 +5,4 @@ pub mod Turning
 pub mod Beginning
 pub mod Ending
 pub mod EndLaws
-pub mod Opened
 pub mod Resting

@@ -1,11 +1,12 @@
 -- The rest of the report, behind all workers.
-use Rattle.std.specs.Prelude.{◌≡◌, ◌≢◌, Result, Err}
+use Rattle.std.specs.Prelude.{◌≡◌, Result, Err}
 use Rattle.history_lock.specs.Histories.{StartsWith}
-use Rattle.maple_io.specs.Views.{NoWriteFailed, SinkView, WriteFailed}
+use Rattle.maple_io.specs.Views.{SinkView}
 use Rattle.machine_desk.specs.declared.report.ReportStop.{ReportStop}
 use Rattle.machine_desk.specs.declared.report.ReportStop.TheVariants as reports
 use Rattle.machine_desk.specs.Resting.{RestBy}
 use Rattle.packet_workers.specs.Adding.{PassView}
+use Rattle.sim_steps.specs.Ends.{IsFaultOf}
 use Rattle.serve_steps.specs.declared.end.ServeEnd.{ServeEnd}
 use Rattle.serve_steps.specs.declared.end.ServeEnd.TheVariants.{BoardFault}
 use Rattle.serve_pump.specs.Ending.{told_as}
@@ -16,8 +17,7 @@ pub record RestsSo (end : ServeEnd) (k l : PassView) (old new : SinkView) : Type
   pub later : StartsWith l.seen k.seen
   pub rest : RestBy told k l old new
   pub end_is : end ≡ told_as told
-  pub failed : told ≡ Err reports.Failed → WriteFailed old new
-  pub spared : told ≢ Err reports.Failed → NoWriteFailed old new
+  pub writes : IsFaultOf (told ≡ Err reports.Failed) old new
 
 -- where the board failed; else nothing was done
 abbrev pub RestsBy : ServeEnd → ServeEnd → PassView → PassView → SinkView → SinkView → Type 0

@@ -6,8 +6,8 @@ use Rattle.maple_io.specs.Fronts.{IsFront}
 use Rattle.maple_io.specs.Views.{SinkView, Wrote}
 use Rattle.board_lines.specs.Laws.{held_behind}
 use Rattle.board_lines.specs.Readings.{Reading, beginning}
-use Rattle.serve_steps.specs.Deeds.{Past, acts_of, has_failed, taken_of, turns_of, was_cut}
-use Rattle.serve_steps.specs.Parts.{AreCutAtTurns, AreOpenedOnce, Given, Part, deeds_of, has_ended, was_held}
+use Rattle.serve_steps.specs.Deeds.{Past, acts_of, turns_of}
+use Rattle.serve_steps.specs.Parts.{AreCutAtTurns, AreOpenedOnce, Given, Part, deeds_of, has_ended, was_held, IsSentUnless}
 use Rattle.serve_steps.specs.Runs.{AreParts, IsAtRest, report, taken_report}
 use Rattle.serve_channels.specs.declared.server.Server.{Server}
 use Rattle.serve_channels.specs.Delivering.{AllLive}
@@ -20,9 +20,7 @@ use Rattle.serve_pump.specs.declared.pump.Pump.{Pump}
 -- of a connection that isn't there all that was taken out was sent; or a send failed, or its session ended by its link, or the last send found no room, in the
 -- part in which its session ended
 abbrev pub IsSettled : ℕ → Past → List Part → Type 0
-IsSettled c first parts =
-    (sent c (acts_of (deeds_of first parts)) ≡ taken_of c (deeds_of first parts))
-    ⊎ ((has_failed c (deeds_of first parts) ≡ true) ⊎ ((was_cut c (deeds_of first parts) ≡ true) ⊎ (was_held c parts ≡ true)))
+IsSettled c first parts = IsSentUnless (was_held c parts ≡ true) c (deeds_of first parts)
 
 -- these parts are whole, each line of the report was taken, and all is kept: so it is between two turns
 pub record IsRunning (g : Given) (before : List Act) (first : Past) (parts : List Part) (log : List Act) (s : Server) : Type 0 where

@@ -15,9 +15,9 @@ use Rattle.machine_desk.specs.declared.report.ReportStop.TheVariants as reports
 use Rattle.machine_moves.specs.MoveLaws.{StatesGrow}
 use Rattle.machine_steps.specs.declared.entry.Entry.{Entry}
 use Rattle.machine_steps.specs.declared.entry.Entry.TheVariants as entries
-use Rattle.serve_steps.specs.Deeds.{Past, acts_of, has_failed, is_open, is_over, last_answer, taken_of, was_cut}
+use Rattle.serve_steps.specs.Deeds.{Past, acts_of, is_open, is_over, last_answer, was_cut}
 use Rattle.serve_steps.specs.Laws.{EndedIsGiven, LastAsks, LinesGoOn, ReportIsTold, StatesAreTold}
-use Rattle.serve_steps.specs.Parts.{Given, is_taken}
+use Rattle.serve_steps.specs.Parts.{Given, is_taken, IsSentUnless}
 use Rattle.serve_steps.specs.Runs.{taken_report}
 use Rattle.serve_steps.specs.Texts.{AreEntriesOf, asks_of}
 use Rattle.machine_desk.specs.declared.hearing.Came.TheVariants.{Nothing}
@@ -118,8 +118,7 @@ pub record IsPassedBy (c : ℕ) (past done : Past) : Type 0 where
 
 -- all that was taken out for a connection was sent; or a send failed, or its session ended by its link, or the last send, with this answer, found no room
 abbrev pub AllSent : ℕ → Past → Option Sent → Type 0
-AllSent c past answer =
-    (sent c (acts_of past) ≡ taken_of c past) ⊎ ((has_failed c past ≡ true) ⊎ ((was_cut c past ≡ true) ⊎ (answer ≡ Some sends.NotYet)))
+AllSent c past answer = IsSentUnless (answer ≡ Some sends.NotYet) c past
 
 -- what the machine had for a connection that wasn't closed before was taken out, behind the last entry that was asked for, and sent
 pub record IsReached (c : ℕ) (past done : Past) : Type 0 where

@@ -4,7 +4,7 @@ ghost use Rattle.history_lock.specs.Passes.{IsPassOf, known, opening as opening_
 ghost use Rattle.serve_steps.specs.Runs.{HasCause, HasRun};
 ghost use Rattle.serve_pump.specs.Ending.{DroveBy};
 ghost use Rattle.machine_desk.specs.Openings.{IsOpening};
-ghost use Rattle.serve_pump.specs.Opened.{given_over};
+ghost use Rattle.serve_pump.specs.Beginning.{given_by};
 
 use crate::ending::ending_laws;
 use crate::running::at_desk;
@@ -33,7 +33,7 @@ pub(crate) fn alone<R: Wait, B: Board, G: Gate, O: Sink>(
     requires hall { IsPassOf hall pass }
     requires opened { IsOpening (known pass) opening }
     requires all { parts pass ≡ 1024 }
-    ensures ends { HasRun result (given_over opening startup.now) (B.tells board.old) (B.tells board.new) (O.tells out.old) (O.tells out.new) }
+    ensures ends { HasRun result (given_by opening.start.value startup.now) (B.tells board.old) (B.tells board.new) (O.tells out.old) (O.tells out.new) }
     ensures cause { HasCause result (B.tells board.old) (B.tells board.new) (O.tells out.old) (O.tells out.new) }
 {
     ending_laws();
@@ -79,7 +79,7 @@ fn at_pass<'p, R: Wait, B: Board, G: Gate, O: Sink>(
     requires all { parts pass.now ≡ 1024 }
     ensures same_reference { result.pass.ghost_name ≡ pass.entry.ghost_name }
     ensures hall { IsPassOf hall.now result.pass.now × (opening_of result.pass.now ≡ opening_of pass.old) × (parts result.pass.now ≡ parts pass.old) }
-    ensures drove { DroveBy result.end (given_over opening startup.now) opening.start.value (known result.pass.now)
+    ensures drove { DroveBy result.end (given_by opening.start.value startup.now) opening.start.value (known result.pass.now)
         (B.tells board.old) (B.tells board.new) (O.tells out.old) (O.tells out.new) }
 {
     let desk = Desk::new(hall, pass, opening);

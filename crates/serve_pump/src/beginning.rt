@@ -16,7 +16,7 @@ use crate::laws::begin_laws;
 use crate::pump::stopped_by;
 use crate::startup::{Begun, Startup};
 use crate::{Pump, TurnStop};
-use desk_jobs::Stopped;
+use machine_desk::Stopped;
 use maple_io::{Board, Sink, Started};
 use packet_workers::Gate;
 use serve_channels::ScriptEnd;

@@ -1,21 +1,20 @@
 // A run by a driver beside workers.
-ghost use Rattle.std.specs.Prelude.{◌≡◌, ◌≢◌, ◌≤◌};
+ghost use Rattle.std.specs.Prelude.{◌≡◌, ◌≢◌, ◌≤◌, IfSome, MatchOption};
 ghost use Rattle.history_lock.specs.Passes.{IsPassOf, known, leads, opening as opening_of, parts};
 ghost use Rattle.worker_crew.specs.Takers.{IsTakerOf, shares};
-ghost use Rattle.desk_jobs.specs.Crews.{most_workers};
+ghost use Rattle.machine_desk.specs.Crews.{most_workers};
 ghost use Rattle.serve_steps.specs.Runs.{HasCause, HasRun};
 ghost use Rattle.serve_pump.specs.Ending.{DroveBy, joined};
-ghost use Rattle.machine_desk.specs.Openings.{IsOpening};
-ghost use Rattle.serve_pump.specs.Opened.{IsReadyBeside, RanBeside, given_over};
+ghost use Rattle.machine_desk.specs.Openings.{IsOpening, IsOpeningBeside};
+ghost use Rattle.serve_pump.specs.Beginning.{given_by};
 
 use crate::ending::ending_laws;
 use crate::resting::tell_rest;
 use crate::running::at_desk;
 use crate::startup::Startup;
 use core_machine::{Core, JobItem};
-use desk_jobs::{Crew, QUEUE_PLACES};
 use history_lock::{Hall, Pass};
-use machine_desk::{Desk, Opening, close_hall};
+use machine_desk::{Crew, Desk, Opening, QUEUE_PLACES, close_hall};
 use maple_io::{Board, Sink};
 use packet_workers::{Gate, PacketWorks};
 use serve_steps::ServeEnd;
@@ -67,7 +66,7 @@ pub(crate) fn crewed<'d, R: Threads + Wait + Sync, B: Board, G: Gate + Sync, O: 
     requires all { parts pass ≡ 1024 }
     ensures same_board { result.board.ghost_name ≡ board.entry.ghost_name }
     ensures same_sink { result.out.ghost_name ≡ out.entry.ghost_name }
-    ensures ends { HasRun result.end (given_over opening startup.now)
+    ensures ends { HasRun result.end (given_by opening.start.value startup.now)
         (B.tells board.old) (B.tells result.board.now) (O.tells out.old) (O.tells result.out.now) }
     ensures cause { HasCause result.end (B.tells board.old) (B.tells result.board.now) (O.tells out.old) (O.tells result.out.now) }
 {
@@ -133,11 +132,12 @@ pub(crate) struct Run<'d, B, G, O> {
 }
 
 impl<'d, B: Board, G: Gate, O: Sink> Drives<Core, JobItem> for Run<'d, B, G, O> {
-    ghost ready = { λ d k a. IsReadyBeside d.opening k };
+    ghost ready = { λ d k a. MatchOption d.opening ⊥ (IsOpeningBeside k) };
 
     ghost drives = { λ d e k a l b.
         (e.board.ghost_name ≡ d.board.ghost_name) × (e.out.ghost_name ≡ d.out.ghost_name)
-        × RanBeside e.end d.opening d.startup.now l (B.tells d.board.now) (B.tells e.board.now) (O.tells d.out.now) (O.tells e.out.now) };
+        × IfSome d.opening (λ o. DroveBy e.end (given_by o.start.value d.startup.now) o.start.value l
+        (B.tells d.board.now) (B.tells e.board.now) (O.tells d.out.now) (O.tells e.out.now)) };
 
     fn drive<R: Wait>(
         &mut self,
@@ -215,7 +215,7 @@ fn at_passes<'p, R: Wait, B: Board, G: Gate, O: Sink>(
     ensures hall { IsPassOf hall.now result.pass.now × (opening_of result.pass.now ≡ opening_of pass.old) × (parts result.pass.now ≡ parts pass.old) }
     ensures leads { leads result.pass.now ≡ leads pass.old }
     ensures taker { IsTakerOf jobs.now result.taker.now × (shares result.taker.now ≡ shares taker.old) }
-    ensures drove { DroveBy result.end (given_over opening startup.now) opening.start.value (known result.pass.now)
+    ensures drove { DroveBy result.end (given_by opening.start.value startup.now) opening.start.value (known result.pass.now)
         (B.tells board.old) (B.tells board.new) (O.tells out.old) (O.tells out.new) }
 {
     let desk = Desk::new(hall, pass, opening);

@@ -5,7 +5,7 @@ ghost use Rattle.serve_channels.specs.Servers.{IsSame};
 ghost use Rattle.serve_pump.specs.Turning.{Comes, EntersBy, IsSomeTurned, ReadsFor};
 
 use crate::Pump;
-use desk_jobs::Stopped;
+use machine_desk::Stopped;
 use maple_io::Turn;
 use packet_workers::Gate;
 use std::sync::Wait;

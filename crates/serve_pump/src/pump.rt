@@ -4,8 +4,7 @@ ghost use Rattle.serve_pump.specs.declared.pump.TurnStop.TheVariants as stops;
 ghost use Rattle.serve_pump.specs.Turning.{stop_of};
 
 use board_lines::ControlReader;
-use desk_jobs::Stopped;
-use machine_desk::ReportStop;
+use machine_desk::{ReportStop, Stopped};
 use serve_channels::Server;
 
 /// A server, what reads the control text, and room for the bytes of one turn.

@@ -1,7 +1,7 @@
 // A whole run, at its desk.
 ghost use Rattle.std.specs.Prelude.{◌≡◌, ◌<◌, length};
 ghost use Rattle.board_lines.specs.Readings.{beginning};
-ghost use Rattle.desk_jobs.specs.Crews.{MayHave, SameCrew};
+ghost use Rattle.machine_desk.specs.Crews.{MayHave, SameCrew};
 ghost use Rattle.machine_desk.specs.Desks.{SameHall};
 ghost use Rattle.serve_channels.specs.Keeping.{IsServing};
 ghost use Rattle.serve_channels.specs.Servers.{IsSameHall};
@@ -14,8 +14,7 @@ use crate::laws::begin_laws;
 use crate::startup::{Begun, Startup};
 use crate::{Pump, TurnStop};
 use board_lines::ControlReader;
-use desk_jobs::Crew;
-use machine_desk::Desk;
+use machine_desk::{Crew, Desk};
 use maple_io::{Board, Sink};
 use packet_workers::Gate;
 use serve_channels::Server;
@@ -53,6 +52,7 @@ pub(crate) fn at_desk<'p, R: Wait, B: Board, G: Gate, O: Sink>(
     let mut pump = Pump::new(server, ControlReader::new(alloc), room);
     let end = pump.run(rt, gate, board, startup, out);
     let server = pump.into_server();
+    server.law();
     let end = with_memory(end, server.had_memory());
     let (desk, crew) = server.into_parts();
     (desk, crew, end)

@@ -3,7 +3,7 @@ ghost use Rattle.std.specs.Prelude.{◌≤◌};
 ghost use Rattle.machine_steps.specs.Sound.{AreInRange};
 ghost use Rattle.serve_steps.specs.Runs.{HasCause, HasRun};
 ghost use Rattle.serve_steps.specs.Parts.{given};
-ghost use Rattle.desk_jobs.specs.Crews.{most_workers};
+ghost use Rattle.machine_desk.specs.Crews.{most_workers};
 
 use crate::alone::alone;
 use crate::crewed::crewed;

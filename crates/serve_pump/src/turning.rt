@@ -14,7 +14,7 @@ ghost use Rattle.serve_pump.specs.Turning.{Comes, DeliversBy, FollowsBy, IsRecei
 use crate::laws::turn_laws;
 use crate::pump::stopped_by;
 use crate::{Pump, TurnStop};
-use desk_jobs::Stopped;
+use machine_desk::Stopped;
 use maple_io::{Board, Sink, Turn};
 use packet_workers::Gate;
 use std::sync::Wait;

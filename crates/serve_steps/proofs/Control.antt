@@ -16,7 +16,7 @@ use Rattle.serve_steps.specs.Laws.{EachAsksOnce, EndedIsGiven, EndedStays, LastA
 -- ---- what the reader gives
 
 -- bytes are read one behind the other
-given_on : (r : Reading) (xs ys : List ℕ) → given_by r (xs ++ ys) ≡ given_by r xs ++ given_by (held_behind r xs) ys
+pub given_on : (r : Reading) (xs ys : List ℕ) → given_by r (xs ++ ys) ≡ given_by r xs ++ given_by (held_behind r xs) ys
 given_on r [] ys = refl
 given_on r (x ∷ xs) ys =
     ap (λ (is : List ControlItem). option_to_list (item_at r x) ++ is) (given_on (behind r x) xs ys)

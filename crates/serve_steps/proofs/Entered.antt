@@ -55,11 +55,12 @@ spares (entries.Decide job) r h =
     record { asked = refl; opens = λ c. refl; of = λ c. refl; hears = λ past. refl; takes = λ c. refl; out = λ c. refl; text = refl }
 spares e r h = absurd (cc)
 
-abbrev AreOthers : List Turn → Type 0
+-- all these turns are of such entries
+abbrev pub AreOthers : List Turn → Type 0
 AreOthers [] = Unit {0}
 AreOthers (t ∷ ts) = (is_others t.entry ≡ true) × AreOthers ts
 
-are_others : (log : List Call) (ts : List Turn) → AreAllowed Allows log (map call_of ts) → AreOthers ts
+pub are_others : (log : List Call) (ts : List Turn) → AreAllowed Allows log (map call_of ts) → AreOthers ts
 are_others log [] allowed = tt
 are_others log (t ∷ ts) allowed = (allowed_are_others log t.entry allowed.0, are_others (log ++ call_of t ∷ []) ts allowed.1)
 
@@ -147,11 +148,11 @@ module _ (t : Turn) (others : is_others t.entry ≡ true) where
 
 -- ---- where they stand
 
-entered_ahead : (ts : List Turn) (done ahead : Past) → entered ts done ++ ahead ≡ entered ts (done ++ ahead)
+pub entered_ahead : (ts : List Turn) (done ahead : Past) → entered ts done ++ ahead ≡ entered ts (done ++ ahead)
 entered_ahead [] done ahead = refl
 entered_ahead (t ∷ ts) done ahead = entered_ahead ts (Enters t ∷ done) ahead
 
-acts_entered : (ts : List Turn) (past : Past) → acts_of (entered ts past) ≡ acts_of past
+pub acts_entered : (ts : List Turn) (past : Past) → acts_of (entered ts past) ≡ acts_of past
 acts_entered [] past = refl
 acts_entered (t ∷ ts) past = acts_entered ts (Enters t ∷ past) ∙ append-nil (acts_of past)
 
@@ -224,10 +225,10 @@ module _ (g : Given) (past : Past) (others : List Turn) (go : OthersGoOn g past 
 
     same_report : go.now.jobs ≡ [] → report (entered others past) ≡ report past
     same_report none =
-        report_is_told g (entered others past) go.last legal_now
+        report_is_told (entered others past) g.policy g.settings go.last legal_now
         ∙ ap (λ (text : List ℕ). text ++ flat_map spelled go.last.lines) same_taken
         ∙ ap (λ (m : State). taken_report past ++ flat_map spelled m.lines) (same_last none)
-        ∙ sym (report_is_told g past go.now go.legal)
+        ∙ sym (report_is_told past g.policy g.settings go.now go.legal)
 
 -- ---- in the first part
 
@@ -316,8 +317,8 @@ others_stay_in_last_asked g first (p ∷ ahead) others go is =
 
 pub others_stay_in_script : OthersStayInScript
 others_stay_in_script g first [] others go is =
-    (scripted_all g first others go is.0, free_all g first others go is.1, acts_entered others first ∙ is.2, refl)
-others_stay_in_script g first (p ∷ ahead) others go is = absurd (none_left is.3)
+    record { scripted = scripted_all g first others go is.scripted; free = free_all g first others go is.free; not_started = acts_entered others first ∙ is.not_started; no_turn = refl }
+others_stay_in_script g first (p ∷ ahead) others go is = absurd (none_left is.no_turn)
   where
     none_left : (p ∷ ahead) ≡ [] → ⊥
     none_left e = absurd (cc)

@@ -103,7 +103,7 @@ inputs_on c (d ∷ done) ahead h =
     ∙ append_assoc (inputs_of c ahead) (heards c (own_of done)) (heards c (own_in d done))
     ∙ ap (λ (xs : List Input). inputs_of c ahead ++ xs) (sym (flat_map-append (heard_by c) (own_of done) (own_in d done)))
 
-open_if : (c d : ℕ) (r : Reply) → (d == c) ≡ false → opens_by c (entries.Open d) r ≡ false
+pub open_if : (c d : ℕ) (r : Reply) → (d == c) ≡ false → opens_by c (entries.Open d) r ≡ false
 open_if c d replies.Done h = h
 open_if c d r h = refl
 
@@ -161,7 +161,8 @@ opens_none : (c d : ℕ) (inputs : List Input) → opens_in c (map (entries.Hear
 opens_none c d [] = refl
 opens_none c d (i ∷ inputs) = opens_none c d inputs
 
-abbrev concerns : ℕ → BoardTurn → Bool
+-- bytes come on this connection, or it is opened
+abbrev pub concerns : ℕ → BoardTurn → Bool
 concerns c (turn.Opened d) = d == c
 concerns c (turn.Bytes d n) = d == c
 concerns c t = false
@@ -184,7 +185,7 @@ untouched c before turn.End bytes after own h e = none_of_lines c _ own h
 untouched c before turn.Failed bytes after own h e = absurd h
 untouched c before turn.NoMemory bytes after own h e = absurd h
 
-came_other : (c : ℕ) (t : BoardTurn) (bytes before : List ℕ) → concerns c t ≡ false → came_by c (acts.Gives t bytes) before ≡ before
+pub came_other : (c : ℕ) (t : BoardTurn) (bytes before : List ℕ) → concerns c t ≡ false → came_by c (acts.Gives t bytes) before ≡ before
 came_other c (turn.Opened d) bytes before e = rw e refl
 came_other c (turn.Bytes d n) bytes before e = rw e refl
 came_other c t bytes before e = refl

@@ -1,9 +1,9 @@
-mod Control
-mod Entered
+pub mod Control
+pub mod Entered
 mod Fronts
-mod Heard
+pub mod Heard
 mod Others
 mod Reports
 mod Sends
-mod States
+pub mod States
 mod Taken

@@ -1,14 +1,9 @@
 -- What other threads enter may stand where it stands.
-use Rattle.std.proofs.Common.{◌≡◌, ◌⊎◌, ℕ, ◌+◌, ◌≤◌, ◌==◌, Bool, true, false, ◌&&◌, ◌||◌, not, map, List, [], ◌∷◌, ◌++◌, append-nil, refl, sym, ap, ◌∙◌, subst, inl, inr, ⊎_elim, arith}
-use Rattle.std.specs.Prelude.{Contains, nat_le}
-use Rattle.std.proofs.lemmas.Bool.{cases_Bool, eq-eqb, eqb-true, le-leb}
+use Rattle.std.proofs.Common.{◌≡◌, ◌⊎◌, ℕ, ◌+◌, ◌≤◌, ◌==◌, Bool, true, false, ◌||◌, map, List, [], ◌∷◌, ◌++◌, append-nil, refl, sym, ap, ◌∙◌, subst, inl, inr, ⊎_elim, arith}
+use Rattle.std.specs.Prelude.{Contains}
+use Rattle.std.proofs.lemmas.Bool.{cases_Bool, eq-eqb, eqb-true}
 use Rattle.std.proofs.lemmas.List.{map-append}
 use Rattle.std.proofs.lemmas.List.Elements.{Contains-push_cases}
-use Rattle.maple_base.specs.declared.cells.Cell.{Cell}
-use Rattle.maple_base.specs.declared.cells.Value.{Value}
-use Rattle.maple_base.specs.declared.items.Item.{Item}
-use Rattle.maple_base.specs.declared.decision.Outcome.{Outcome}
-use Rattle.maple_base.specs.declared.decision.Outcome.TheVariants.{Decided, Spent as SpentRun}
 use Rattle.trace_record.specs.Runs.{Recorded}
 use Rattle.update_plan.proofs.Members.{in_filter, none_in}
 use Rattle.history_lock.specs.Histories.{AreAllowed}
@@ -19,14 +14,14 @@ use Rattle.machine_steps.specs.declared.reply.Reply.{Reply}
 use Rattle.machine_steps.specs.declared.reply.Reply.TheVariants as replies
 use Rattle.machine_steps.specs.Histories.{IsTurn, Leads, Turn}
 use Rattle.machine_steps.specs.Machine.{State, opening}
-use Rattle.machine_steps.specs.Steps.{Commits, Concludes, Decides, Steps, item_of}
+use Rattle.machine_steps.specs.Steps.{Commits, Steps, item_of}
 use Rattle.machine_steps.proofs.Changes.{AreLeft, JobsBy, changes}
 use Rattle.machine_steps.proofs.Changes.JobsBy.{Added, AreMany, Left}
 use Rattle.machine_sharing.specs.Legal.{call_of}
 use Rattle.machine_sharing.specs.Sharing.{Allows, Call, stale_by, stale_count}
 use Rattle.serve_steps.specs.Deeds.{Past, calls_of, turns_of}
 use Rattle.serve_steps.specs.Deeds.Deed.{Enters, Does}
-use Rattle.serve_steps.specs.Parts.{Given, fails_to_commit, is_free, is_overload, may_stand, opens_job_by, was_job}
+use Rattle.serve_steps.specs.Parts.{Given, IsFree, MayStand, opens_job_by, was_job}
 use Rattle.serve_steps.specs.Laws.{OthersAreFree}
 use Rattle.serve_steps.proofs.States.{front_leads, goes_on_from, last_is, turn_is}
 
@@ -39,18 +34,6 @@ or_first false b e = absurd (cc)
 or_more : (a b : Bool) → b ≡ true → (a || b) ≡ true
 or_more true b e = refl
 or_more false b e = e
-
-or_none : (a : Bool) → (a || false) ≡ true → a ≡ true
-or_none true e = refl
-or_none false e = e
-
-and_true : (a b : Bool) → a ≡ true → b ≡ true → (a && b) ≡ true
-and_true true b e f = f
-and_true false b e f = e
-
-not_true : (b : Bool) → b ≡ false → not b ≡ true
-not_true true e = absurd (cc)
-not_true false e = refl
 
 -- ---- each open job was told
 
@@ -90,45 +73,20 @@ told_job past number old j known c e = subst (λ n. was_job n past ≡ true) e (
 -- ---- commits
 
 may_commit : (past : Past) (number : ℕ) (run : Recorded) (old : State) (reply : Reply) (new : State) → Commits number run old reply new → Known past old
-    → (was_job number past || fails_to_commit reply) ≡ true
+    → MayStand (entries.Commit number run) reply past
 may_commit past number run old reply new steps known =
     ⊎_elim
-    (λ y. or_more (was_job number past) (fails_to_commit reply) (rw (y.1) refl))
+    (λ y. inr (rw (y.1) refl))
     (λ two. ⊎_elim
-    (λ y. or_first (was_job number past) (fails_to_commit reply) (told_job past number old (y.0) known ((y.1).there) ((y.1).number)))
+    (λ y. inl (told_job past number old (y.0) known ((y.1).there) ((y.1).number)))
     (λ three. ⊎_elim
-    (λ y. or_first (was_job number past) (fails_to_commit reply) (told_job past number old (y.0) known ((y.4).there) ((y.4).number)))
+    (λ y. inl (told_job past number old (y.0) known ((y.4).there) ((y.4).number)))
     (λ four. ⊎_elim
-    (λ y. or_first (was_job number past) (fails_to_commit reply) (told_job past number old (y.0) known ((y.1).there) ((y.1).number)))
-    (λ y. or_more (was_job number past) (fails_to_commit reply) (rw (y.0) refl))
+    (λ y. inl (told_job past number old (y.0) known ((y.1).there) ((y.1).number)))
+    (λ y. inr (rw (y.0) refl))
     four)
     three)
     two)
-    steps
-
-concludes_fits : (j : Job) (items : List Item) (cells : List (Cell × Value)) (o : Outcome) (old : State) (reply : Reply) (new : State)
-    → Concludes j items cells o old reply new → is_overload reply ≡ false
-concludes_fits j items cells SpentRun old reply new h = rw (h.0) refl
-concludes_fits j items cells (Decided d) old reply new h = rw (h.replies) refl
-
-commit_fits : (number : ℕ) (run : Recorded) (old : State) (reply : Reply) (new : State) → Commits number run old reply new → is_overload reply ≡ false
-commit_fits number run old reply new steps =
-    ⊎_elim
-    (λ y. rw (y.1) refl)
-    (λ two. ⊎_elim
-    (λ y. rw (y.3) refl)
-    (λ three. ⊎_elim
-    (λ y. rw (y.7) refl)
-    (λ four. ⊎_elim (λ y. concludes_fits (y.0) run.items run.cells run.outcome old reply new (y.4)) (λ y. rw (y.0) refl) four)
-    three)
-    two)
-    steps
-
-decide_fits : (number : ℕ) (old : State) (reply : Reply) (new : State) → Decides number old reply new → is_overload reply ≡ false
-decide_fits number old reply new steps =
-    ⊎_elim
-    (λ y. rw (y.1) refl)
-    (λ two. ⊎_elim (λ y. concludes_fits (y.0) _ _ _ old reply new (y.2)) (λ y. rw (y.0) refl) two)
     steps
 
 -- ---- a job with a stale run was told
@@ -137,7 +95,7 @@ stale_job : (past : Past) (n : ℕ) (old : State) (entry : Entry) (reply : Reply
     → (stale_by n entry reply ≡ 0) ⊎ (was_job n past ≡ true)
 stale_job past n old (entries.Commit number run) (replies.Stale differs) new steps known =
     ⊎_elim
-    (λ e. inr (subst (λ x. was_job x past ≡ true) (eqb-true number n e) (or_none (was_job number past) (may_commit past number run old (replies.Stale differs) new steps known))))
+    (λ e. inr (subst (λ x. was_job x past ≡ true) (eqb-true number n e) (⊎_elim (λ told. told) (λ fails. absurd (cc)) (may_commit past number run old (replies.Stale differs) new steps known))))
     (λ e. inl (rw e refl))
     (cases_Bool (number == n))
 stale_job past n old entry reply new steps known = inl refl
@@ -172,24 +130,18 @@ at_least k h = omega (arith, h)
 
 free_by : (past : Past) (old : State) (entry : Entry) (reply : Reply) (new : State) → Steps old entry reply new → Known past old
     → ((n : ℕ) → 1 ≤ stale_count n (calls_of past) → was_job n past ≡ true) → Allows (calls_of past) entry
-    → (may_stand entry reply past && not (is_overload reply)) ≡ true
-free_by past old (entries.ReadCell cell) reply new steps known stale allowed = rw (steps.0) refl
-free_by past old entries.ReadPolicy (replies.Policy number lent) new steps known stale allowed = refl
-free_by past old entries.ReadPolicy replies.NoMemory new steps known stale allowed = refl
-free_by past old entries.ReadPolicy reply new steps known stale allowed = absurd steps
-free_by past old entries.OpenJobs reply new steps known stale allowed = rw (steps.0) refl
+    → MayStand entry reply past
+free_by past old (entries.ReadCell cell) reply new steps known stale allowed = tt
+free_by past old entries.ReadPolicy reply new steps known stale allowed = tt
+free_by past old entries.OpenJobs reply new steps known stale allowed = tt
 free_by past old (entries.Commit job run) reply new steps known stale allowed =
-    and_true (was_job job past || fails_to_commit reply) (not (is_overload reply)) (may_commit past job run old reply new steps known)
-    (not_true (is_overload reply) (commit_fits job run old reply new steps))
+    may_commit past job run old reply new steps known
 free_by past old (entries.Decide job) reply new steps known stale allowed =
-    and_true (was_job job past && nat_le 3 (stale_count job (calls_of past))) (not (is_overload reply))
-    (and_true (was_job job past) (nat_le 3 (stale_count job (calls_of past))) (stale job (at_least (stale_count job (calls_of past)) allowed))
-    (le-leb 3 (stale_count job (calls_of past)) allowed))
-    (not_true (is_overload reply) (decide_fits job old reply new steps))
+    (stale job (at_least (stale_count job (calls_of past)) allowed), allowed)
 free_by past old entry reply new steps known stale allowed = absurd allowed
 
 free_turn : (g : Given) (past : Past) (m : State) (t : Turn) → Leads (opening g.policy g.settings) (turns_of past) m → t.before ≡ m → IsTurn t
-    → Allows (calls_of past) t.entry → is_free (Enters t) past ≡ true
+    → Allows (calls_of past) t.entry → IsFree (Enters t) past
 free_turn g past m t leads e is allowed =
     free_by past t.before t.entry t.reply t.behind is.steps
     (subst (λ (x : State). Known past x) (sym e) (known_all g past m leads))

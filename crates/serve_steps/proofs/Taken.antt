@@ -1,5 +1,5 @@
 -- The report is taken once more, behind all that was done in a run.
-use Rattle.std.proofs.Common.{◌≡◌, ℕ, Bool, true, false, not, List, [], ◌∷◌, Option, append-nil, refl, sym, ap, ◌∙◌, subst, inl, inr, ⊎_elim}
+use Rattle.std.proofs.Common.{ℕ, Bool, true, false, List, [], ◌∷◌, Option, append-nil, refl, sym, ap, ◌∙◌, subst, inl, inr, ⊎_elim}
 use Rattle.std.proofs.lemmas.Bool.{and_from}
 use Rattle.maple_io.specs.Boards.{control_text}
 use Rattle.maple_io.specs.declared.act.Act.{Act}
@@ -13,7 +13,7 @@ use Rattle.machine_steps.specs.Machine.{State}
 use Rattle.serve_steps.specs.Deeds.{Past, acts_of, is_open}
 use Rattle.serve_steps.specs.Deeds.Deed.{Enters}
 use Rattle.serve_steps.specs.Laws.{TakenStaysInCut, TakenStaysInEnd, TakenStaysInLastAsked, first_entered, parts_entered}
-use Rattle.serve_steps.specs.Parts.{AreFree, AreHeard, Asks, Given, IsAsked, Part, ahead_of, all_told, deeds_of, due, is_last, is_overload, keeps_due, own_of}
+use Rattle.serve_steps.specs.Parts.{AreHeard, Asks, Given, IsAsked, Part, all_told, deeds_of, due, is_last, keeps_due, own_of}
 use Rattle.serve_steps.specs.Runs.{ArePartsButLast, IsLastAsked, IsScripted}
 use Rattle.serve_steps.specs.Texts.{AreEntriesOf, ahead_of_refused, script_asks}
 
@@ -30,9 +30,6 @@ module _ (before behind : State) (r : Reply) where
       → Asks past given bytes (Enters take ∷ after) own
   asks_on past (turn.Bytes c n) bytes after own is = heard_on (is_open c past) c past bytes after own is
   asks_on past given bytes after own is = is
-
-  free_on : is_overload r ≡ false → (done ahead : Past) → AreFree done ahead → AreFree (Enters take ∷ done) ahead
-  free_on fits done ahead is = (ap not fits, is)
 
   scripted_on : (g : Given) (first : Past) → IsScripted g first → IsScripted g (Enters take ∷ first)
   scripted_on g first is = record {
@@ -54,36 +51,36 @@ module _ (before behind : State) (r : Reply) where
     none_due = refl;
   }
 
-  last_asked_on : is_overload r ≡ false → (g : Given) (first : Past) (parts : List Part) → ArePartsButLast g first parts × IsLastAsked g first parts
+  last_asked_on : (g : Given) (first : Past) (parts : List Part) → ArePartsButLast g first parts × IsLastAsked g first parts
       → ArePartsButLast g (first_entered (take ∷ []) first parts) (parts_entered (take ∷ []) parts)
       × IsLastAsked g (first_entered (take ∷ []) first parts) (parts_entered (take ∷ []) parts)
-  last_asked_on fits g first [] is = (
+  last_asked_on g first [] is = (
     tt,
     (
       scripted_on g first is.1.0,
       is.1.1,
-      free_on fits first [] is.1.2,
+      (tt, is.1.2),
       ⊎_elim (λ e. inl (append-nil (acts_of first) ∙ e)) (λ e. inr (append-nil (acts_of first) ∙ e)) is.1.3,
     ),
   )
-  last_asked_on fits g first (p ∷ ahead) is = (is.0, (asked_on g first ahead p is.1.0, free_on fits p.done (ahead_of first ahead p) is.1.1))
+  last_asked_on g first (p ∷ ahead) is = (is.0, (asked_on g first ahead p is.1.0, (tt, is.1.1)))
 
 -- of any turn that takes it
 abbrev Taking : Turn → Entry → Turn
 Taking t entry = record { before = t.before; entry = entry; reply = t.reply; behind = t.behind }
 
 pub taken_stays_in_last_asked : TakenStaysInLastAsked
-taken_stays_in_last_asked g first parts t e fits is =
+taken_stays_in_last_asked g first parts t e is =
     subst
     (λ (entry : Entry). ArePartsButLast g (first_entered (Taking t entry ∷ []) first parts) (parts_entered (Taking t entry ∷ []) parts)
     × IsLastAsked g (first_entered (Taking t entry ∷ []) first parts) (parts_entered (Taking t entry ∷ []) parts))
-    (sym e) (last_asked_on t.before t.behind t.reply fits g first parts is)
+    (sym e) (last_asked_on t.before t.behind t.reply g first parts is)
 
 pub taken_stays_in_cut : TakenStaysInCut
-taken_stays_in_cut g first [] t e fits is = is
-taken_stays_in_cut g first (p ∷ ahead) t e fits is = is
+taken_stays_in_cut g first [] t e is = is
+taken_stays_in_cut g first (p ∷ ahead) t e is = is
 
 pub taken_stays_in_end : TakenStaysInEnd
-taken_stays_in_end ended g first [] t e fits is = is
-taken_stays_in_end ended g first (p ∷ ahead) t e fits is =
+taken_stays_in_end ended g first [] t e is = is
+taken_stays_in_end ended g first (p ∷ ahead) t e is =
     ap (λ (acts : List Act). is_last p.given (control_text acts)) (append-nil (acts_of (deeds_of first (p ∷ ahead)))) ∙ is

@@ -20,7 +20,8 @@ use Rattle.machine_sharing.specs.Sharing.{Call}
 use Rattle.machine_steps.specs.Machine.{State}
 use Rattle.sim_steps.specs.Agreeing.{heard_in}
 use Rattle.sim_steps.specs.Deeds.Deed.{Enters as EntersAtBench}
-use Rattle.sim_steps.specs.Parts.{is_shared}
+use Rattle.sim_steps.specs.Parts.{asks}
+pub use Rattle.sim_steps.specs.Parts.{is_shared as is_others}
 
 pub data Deed : Type 0 where
   -- the machine is given an entry, and replies
@@ -67,20 +68,11 @@ state_behind m (Does act ∷ past) = state_behind m past
 
 -- ---- kinds of entries
 
--- one that a turn of the board, a line or a failed send asks for
+-- one that a turn of the board, a line or a failed send asks for: beside those of `sim`, what is heard, and each end of a session
 abbrev pub is_asked : Entry → Bool
-is_asked (entries.Open c) = true
 is_asked (entries.Heard c input) = true
 is_asked (entries.Gone c fault) = true
-is_asked (entries.Change update) = true
-is_asked (entries.NewPolicy policy) = true
-is_asked (entries.ReadRules switch) = true
-is_asked (entries.Note note) = true
-is_asked entry = false
-
--- one that a thread beside the driver may make
-abbrev pub is_others : Entry → Bool
-is_others entry = is_shared entry
+is_asked entry = asks entry
 
 -- one at which the session of this connection can end
 abbrev pub is_of : ℕ → Entry → Bool

@@ -12,7 +12,7 @@ use Rattle.board_lines.specs.Laws.{given_by, held_behind}
 use Rattle.board_lines.specs.Readings.{beginning, last_item}
 use Rattle.of10_stream.specs.Cut.{IsOpen}
 use Rattle.sim_steps.specs.Agreeing.{AreCut}
-use Rattle.sim_steps.specs.Ends.{IsReportOf}
+use Rattle.sim_steps.specs.Ends.{ReportIsTold as ReportIsToldOf}
 use Rattle.machine_steps.specs.declared.entry.Entry.{Entry}
 use Rattle.machine_steps.specs.declared.entry.Entry.TheVariants as entries
 use Rattle.machine_steps.specs.Histories.{Turn, IsTurn, Leads}
@@ -25,8 +25,8 @@ use Rattle.serve_steps.specs.Deeds.Deed.{Enters, Does}
 use Rattle.serve_steps.specs.Deeds.{Past, acts_of, calls_of, is_others, is_over, state_behind, taken_of, turns_of, last_answer, was_cut, bytes_of, inputs_of, is_open}
 use Rattle.serve_steps.specs.Texts.{Ask, IsEntryOf, asks_last, asks_more, asks_of, control_asks, ended_items, quits}
 use Rattle.serve_steps.specs.Texts.Ask.{Renews}
-use Rattle.serve_steps.specs.Parts.{AreFree, Given, Part, SendsNext, EachBehind, IsAsked, deeds_of, own_of, IsDelivered, AreCutAtTurns, AreOpenedOnce, has_ended, is_overload}
-use Rattle.serve_steps.specs.Runs.{AreParts, ArePartsButLast, IsAtRest, IsBrokenOff, IsLastAsked, IsRightInWorlds, IsScripted, report, taken_report}
+use Rattle.serve_steps.specs.Parts.{AreFree, Given, Part, SendsNext, EachBehind, IsAsked, deeds_of, own_of, IsDelivered, AreCutAtTurns, AreOpenedOnce, has_ended}
+use Rattle.serve_steps.specs.Runs.{AreParts, ArePartsButLast, IsAtRest, IsBrokenOff, IsLastAsked, IsRightInWorlds, report, taken_report, IsScriptOnly}
 
 -- what was sent to a connection is a front of what the machine gave for it
 abbrev pub SentIsFront : ℕ → Past → Type 0
@@ -143,9 +143,6 @@ abbrev pub OthersStayInLastAsked : Type 0
 OthersStayInLastAsked = OthersStayIn (λ (g : Given) (first : Past) (parts : List Part). ArePartsButLast g first parts × IsLastAsked g first parts)
 
 -- only the start script was carried out, up to a refused line
-abbrev pub IsScriptOnly : Given → Past → List Part → Type 0
-IsScriptOnly g first parts = IsScripted g first × AreFree first [] × (acts_of first ≡ []) × (parts ≡ [])
-
 abbrev pub OthersStayInScript : Type 0
 OthersStayInScript = OthersStayIn IsScriptOnly
 
@@ -174,7 +171,7 @@ OthersTellNothing =
 -- what is so of a run stays so where the report is taken behind all that was done, by one turn more in the part in which others' turns stand
 abbrev pub TakenStaysIn : (Given → Past → List Part → Type 0) → Type 0
 TakenStaysIn P =
-    (g : Given) (first : Past) (parts : List Part) (t : Turn) → t.entry ≡ entries.TakeReport → is_overload t.reply ≡ false → P g first parts
+    (g : Given) (first : Past) (parts : List Part) (t : Turn) → t.entry ≡ entries.TakeReport → P g first parts
     → P g (first_entered (t ∷ []) first parts) (parts_entered (t ∷ []) parts)
 
 -- the parts but the last are parts of a run, and in the last one all was done that was asked for
@@ -193,9 +190,7 @@ TakenStaysInEnd = (ended : Bool) → TakenStaysIn (λ (g : Given) (first : Past)
 
 -- it is what was taken of it, and the lines that weren't taken yet
 abbrev pub ReportIsTold : Type 0
-ReportIsTold =
-    (g : Given) (past : Past) (last : State) → Leads (opening g.policy g.settings) (turns_of past) last
-    → IsReportOf (turns_of past) (taken_report past) last
+ReportIsTold = ReportIsToldOf turns_of taken_report
 
 -- ---- the control text, as it comes
 

@@ -1,5 +1,5 @@
 -- The parts of a run: what was done behind a turn of the board, and the four points that hold of it.
-use Rattle.std.specs.Prelude.{◌≡◌, ◌⊎◌, ℕ, ◌==◌, Bool, true, false, not, ◌&&◌, ◌||◌, nat_le, if◌then◌else◌, map, List, [], ◌∷◌, ◌++◌, Option, Some, None}
+use Rattle.std.specs.Prelude.{◌≡◌, ◌⊎◌, ℕ, ◌==◌, Bool, true, false, not, ◌&&◌, ◌||◌, if◌then◌else◌, map, List, [], ◌∷◌, ◌++◌, Option, Some, None}
 use Rattle.std.specs.List.{list_any, list_all}
 use Rattle.maple_base.specs.declared.decision.Settings.{Settings}
 use Rattle.maple_io.specs.Fronts.{IsFront}
@@ -18,10 +18,9 @@ use Rattle.machine_steps.specs.declared.entry.Input.{Input}
 use Rattle.machine_steps.specs.declared.reply.Reply.{Reply}
 use Rattle.machine_steps.specs.declared.reply.Reply.TheVariants as replies
 use Rattle.machine_steps.specs.Machine.{State, opening}
-use Rattle.machine_sharing.specs.Sharing.{stale_count}
+use Rattle.machine_sharing.specs.Sharing.{ThreeStale}
 use Rattle.world_steps.specs.Worlds.{lacks_memory}
 use Rattle.sim_steps.specs.Agreeing.{AreCut}
-pub use Rattle.sim_steps.specs.Deeds.{is_overload}
 use Rattle.serve_steps.specs.Deeds.{Deed, Past, acts_of, calls_of, state_behind, is_asked, is_others, is_over, is_open, was_accepted, was_cut, ends, ends_by_link, bytes_of, inputs_of, taken_of, takes_out, last_answer, has_failed}
 use Rattle.serve_steps.specs.Deeds.Deed.{Enters, Does}
 use Rattle.serve_steps.specs.Texts.{AreEntriesOf, asks_more, asks_last, control_quits, script_quits}
@@ -211,19 +210,16 @@ fails_to_commit reply = false
 
 -- an entry that isn't asked for may stand anywhere; a run is committed for a job that was opened, or in vain, and the machine is asked to run the policy itself
 -- for a job for which three runs were stale
-abbrev pub may_stand : Entry → Reply → Past → Bool
-may_stand (entries.Commit job run) reply past = was_job job past || fails_to_commit reply
-may_stand (entries.Decide job) reply past = was_job job past && nat_le 3 (stale_count job (calls_of past))
-may_stand entry reply past = true
-
-abbrev pub is_free : Deed → Past → Bool
-is_free (Enters t) past = may_stand t.entry t.reply past && not (is_overload t.reply)
-is_free (Does act) past = true
+abbrev pub MayStand : Entry → Reply → Past → Type 0
+MayStand (entries.Commit job run) reply past = (was_job job past ≡ true) ⊎ (fails_to_commit reply ≡ true)
+MayStand (entries.Decide job) reply past = (was_job job past ≡ true) × ThreeStale job (calls_of past)
+MayStand entry reply past = Unit {0}
 
 abbrev pub IsFree : Deed → Past → Type 0
-IsFree d past = is_free d past ≡ true
+IsFree (Enters t) past = MayStand t.entry t.reply past
+IsFree (Does act) past = Unit {0}
 
--- each entry is one that may be asked for or one that may stand there, and no packet finds too many others waiting
+-- each entry is one that may be asked for or one that may stand there
 abbrev pub AreFree : Past → Past → Type 0
 AreFree done ahead = EachBehind IsFree done ahead
 
@@ -271,11 +267,13 @@ was_held c (p ∷ ahead) = held_by (last_answer c p.done) (list_any (ends c) p.d
 abbrev pub is_held : ℕ → Part → List Part → Bool
 is_held c p ahead = is_not_yet (last_answer c p.done) || was_held c (p ∷ ahead)
 
--- all that was taken out was sent; or a send failed, or the session ended by its link, or the last send found no room
+-- all that was taken out was sent; or a send failed, or the session ended by its link, or this holds
+abbrev pub IsSentUnless : Type 0 → ℕ → Past → Type 0
+IsSentUnless Held c past = (sent c (acts_of past) ≡ taken_of c past) ⊎ ((has_failed c past ≡ true) ⊎ ((was_cut c past ≡ true) ⊎ Held))
+
+-- or the last send found no room
 abbrev pub IsSent : ℕ → Past → List Part → Part → Type 0
-IsSent c first ahead p =
-    (sent c (acts_of (deeds_of first (p ∷ ahead))) ≡ taken_of c (deeds_of first (p ∷ ahead)))
-    ⊎ ((has_failed c (deeds_of first (p ∷ ahead)) ≡ true) ⊎ ((was_cut c (deeds_of first (p ∷ ahead)) ≡ true) ⊎ (is_held c p ahead ≡ true)))
+IsSent c first ahead p = IsSentUnless (is_held c p ahead ≡ true) c (deeds_of first (p ∷ ahead))
 
 -- what the machine has for each session is taken out behind the last entry that the turn asks for, and sent, in order; and a connection is closed just where
 -- its session is over

@@ -1,8 +1,8 @@
 -- A run of `serve`, and what it is at each of its ends.
-use Rattle.std.specs.Prelude.{◌≡◌, ◌≢◌, ◌⊎◌, ℕ, Bool, true, false, List, [], ◌∷◌, ◌++◌, length, Some, None}
+use Rattle.std.specs.Prelude.{◌≡◌, ◌⊎◌, ℕ, Bool, true, false, List, [], ◌∷◌, ◌++◌, length, Some, None}
 use Rattle.std.specs.List.{list_all}
 use Rattle.maple_io.specs.Fronts.{IsFront}
-use Rattle.maple_io.specs.Views.{SinkView, WriteFailed, NoWriteFailed}
+use Rattle.maple_io.specs.Views.{SinkView}
 use Rattle.maple_io.specs.declared.act.Act.{Act}
 use Rattle.maple_io.specs.declared.act.Act.TheVariants as acts
 use Rattle.maple_io.specs.Boards.{BoardView, BoardFailed, NoBoardFailed}
@@ -17,8 +17,8 @@ use Rattle.serve_steps.specs.declared.end.ServeEnd.{ServeEnd}
 use Rattle.serve_steps.specs.declared.end.ServeEnd.TheVariants.{Done, Script, WriteFault, BoardFault, Worn, NoMemory}
 use Rattle.sim_steps.specs.Agreeing.{taken_text}
 use Rattle.sim_steps.specs.Deeds.Deed.{Enters as EntersAtBench}
-pub use Rattle.sim_steps.specs.Ends.{AllHadMemory, IsFull, most_entries}
-use Rattle.sim_steps.specs.Ends.{IsStillFor, Writes, told_by}
+pub use Rattle.sim_steps.specs.Ends.{AllHadMemory, IsFull, IsSmooth, most_entries}
+use Rattle.sim_steps.specs.Ends.{IsFaultOf, IsStillFor, Writes, told_by}
 use Rattle.serve_steps.specs.Deeds.Deed.{Enters, Does}
 use Rattle.serve_steps.specs.Deeds.{Deed, Past, gathered, turns_of, acts_of, is_open}
 use Rattle.serve_steps.specs.Texts.{script_asks, script_quits, ahead_of_refused, first_refused, AreEntriesOf}
@@ -77,17 +77,19 @@ pub record IsDone (g : Given) (first : Past) (parts : List Part) (text : List �
   pub all : AreParts g first parts
   pub ended : has_ended g first parts ≡ true
   pub rest : IsAtRest g (deeds_of first parts)
-  pub memory : AllHadMemory (turns_of (deeds_of first parts))
   pub text_is : text ≡ report (deeds_of first parts)
 
--- a line of the start script was refused, ahead of any `quit`: the board wasn't started, and that is all
-pub record IsRefused (g : Given) (line : ℕ) (kind : ScriptRefusal) (first : Past) (parts : List Part) (text : List ℕ) : Type 0 where
-  pub refused : first_refused (script_asks g.first_line g.script) ≡ Some (line, kind)
+-- only the start script was carried out, up to a refused line: the board wasn't started, and that is all
+pub record IsScriptOnly (g : Given) (first : Past) (parts : List Part) : Type 0 where
   pub scripted : IsScripted g first
   pub free : AreFree first []
   pub not_started : acts_of first ≡ []
   pub no_turn : parts ≡ []
-  pub memory : AllHadMemory (turns_of (deeds_of first parts))
+
+-- a line of it was refused, ahead of any `quit`
+pub record IsRefused (g : Given) (line : ℕ) (kind : ScriptRefusal) (first : Past) (parts : List Part) (text : List ℕ) : Type 0 where
+  pub refused : first_refused (script_asks g.first_line g.script) ≡ Some (line, kind)
+  pub only : IsScriptOnly g first parts
   pub text_is : text ≡ report first
 
 -- the part in which a run broke off: of what was done in it nothing is said
@@ -113,10 +115,13 @@ IsLastAsked g first [] =
     × ((acts_of first ≡ []) ⊎ (acts_of first ≡ start_of g))
 IsLastAsked g first (last ∷ ahead) = IsAsked g first ahead last × AreFree last.done (ahead_of first ahead last)
 
-pub record IsFailed (g : Given) (first : Past) (parts : List Part) (text : List ℕ) : Type 0 where
+pub record StopsAtBoard (g : Given) (first : Past) (parts : List Part) : Type 0 where
   pub ahead : ArePartsButLast g first parts
   pub last : IsLastAsked g first parts
   pub not_ended : has_ended g first parts ≡ false
+
+pub record IsFailed (g : Given) (first : Past) (parts : List Part) (text : List ℕ) : Type 0 where
+  pub stops : StopsAtBoard g first parts
   pub text_is : text ≡ report (deeds_of first parts)
 
 -- the history is so long that no further entry is taken
@@ -132,6 +137,12 @@ EndsWith BoardFault g first parts text = IsFailed g first parts text
 EndsWith Worn g first parts text = IsWorn g first parts text
 EndsWith NoMemory g first parts text = IsBrokenOff g first parts text
 
+-- the run came to its end, or to a line of the start script that is refused
+abbrev pub is_whole : ServeEnd → Bool
+is_whole Done = true
+is_whole (Script line kind) = true
+is_whole end = false
+
 -- a run of this history that wrote this text: its parts, in which the machine's turns are the history, which is legal, and the board's acts are what its log
 -- gained
 pub record IsRun (end : ServeEnd) (g : Given) (history : List Turn) (before after : List Act) (text : List ℕ) : Type 0 where
@@ -144,22 +155,16 @@ pub record IsRun (end : ServeEnd) (g : Given) (history : List Turn) (before afte
   pub opened : AreOpenedOnce first parts
   pub log : after ≡ before ++ acts_of (deeds_of first parts)
   pub ends : EndsWith end g first parts text
+  pub smooth : IsSmooth (is_whole end) history
 
 -- ---- causes
-
--- the run came to its end, or to a line of the start script that is refused
-abbrev pub is_whole : ServeEnd → Bool
-is_whole Done = true
-is_whole (Script line kind) = true
-is_whole end = false
 
 -- a run ends by a fault only where its count rose; where it ends well, or at a refused line, no call of the board failed, and no write did but where that
 -- ends it. Behind a failed call of the board the report is still taken and written, so a write may fail then, or memory run out
 pub record HasCause (end : ServeEnd) (board_old board_new : BoardView) (to_old to_new : SinkView) : Type 0 where
   pub board : end ≡ BoardFault → BoardFailed board_old board_new
   pub no_board : is_whole end ≡ true → NoBoardFailed board_old board_new
-  pub write : end ≡ WriteFault → WriteFailed to_old to_new
-  pub no_write : end ≢ WriteFault → NoWriteFailed to_old to_new
+  pub writes : IsFaultOf (end ≡ WriteFault) to_old to_new
 
 -- ---- the world
 

@@ -7,31 +7,39 @@ use Rattle.std.specs.Fmt.{digits}
 use Rattle.report_text.specs.declared.line.ScriptRefusal.{ScriptRefusal}
 use Rattle.report_text.specs.declared.line.ScriptRefusal.TheVariants.{Grammar}
 use Rattle.maple_io.specs.declared.act.Act.{Act}
-use Rattle.serve_steps.specs.Parts.{IsDelivered}
+use Rattle.serve_steps.specs.Deeds.{turns_of}
+use Rattle.serve_steps.specs.Parts.{IsDelivered, deeds_of}
 use Rattle.serve_tries.specs.Row.{first_row, part1, part2}
 use Rattle.serve_tries.specs.Ends.{DoneTooSoon, FirstFails, Gathers, GoesOn, LacksMemory, PassesOver, RefusesNone, RefusesWithout, StartFails, StartsBehindQuit, ThirdFails, Unwritten, WriteFails, lacking}
+use Rattle.serve_tries.proofs.Smooth.{smooth}
 use Rattle.serve_tries.proofs.Row.{first_is, part1_is, part2_is}
 
 pub start_fails : StartFails
-start_fails p s = record { ahead = tt; last = (record { asked = tt; memory = refl }, refl, tt, inl refl); not_ended = refl; text_is = refl }
+start_fails p s =
+    (record { stops = record { ahead = tt; last = (record { asked = tt; memory = refl }, refl, tt, inl refl); not_ended = refl }; text_is = refl }, smooth false [] refl)
 
 pub first_fails : FirstFails
-first_fails p s = record { ahead = tt; last = (record { asked = tt; memory = refl }, refl, (refl, tt), inr refl); not_ended = refl; text_is = refl }
+first_fails p s =
+    (record { stops = record { ahead = tt; last = (record { asked = tt; memory = refl }, refl, (tt, tt), inr refl); not_ended = refl }; text_is = refl }, smooth false [] refl)
 
 one_is : digits 10 false 1 ≡ 49 ∷ []
 unfolding digits
 one_is = refl
 
 pub third_fails : ThirdFails
-third_fails p s = record {
-  ahead = (part1_is p s, first_is p s);
-  last = ((part2_is p s).asked, (part2_is p s).free);
-  not_ended = refl;
-  text_is = rw one_is refl;
-}
+third_fails p s = (
+  record {
+    stops = record { ahead = (part1_is p s, first_is p s); last = ((part2_is p s).asked, (part2_is p s).free); not_ended = refl };
+    text_is = rw one_is refl;
+  },
+  smooth false (turns_of (deeds_of first_row (part2 p s ∷ part1 p s ∷ []))) refl,
+)
 
 pub write_fails : WriteFails
-write_fails p s = record { ahead = (part1_is p s, first_is p s); written = ([], rw one_is refl); front = ([], rw one_is refl) }
+write_fails p s = (
+  record { ahead = (part1_is p s, first_is p s); written = ([], rw one_is refl); front = ([], rw one_is refl) },
+  smooth false (turns_of (deeds_of first_row (part2 p s ∷ part1 p s ∷ []))) refl,
+)
 
 never : false ≡ true → ⊥
 never e = absurd (cc)
@@ -57,15 +65,15 @@ pub lacks_memory : LacksMemory
 lacks_memory p s = (
   record {
     asked = record { goes_on = refl; asked = tt; memory = refl; while_open = (refl, (refl, tt)); told = refl; none_due = refl };
-    free = (refl, (refl, tt));
+    free = (tt, (tt, tt));
     delivered = lacking_delivers p s;
     worked = λ none. refl;
   },
-  λ text is. is.memory.1.1.1.1.1.0 refl,
+  λ text is. (is.1.memory refl).1.1.1.1.1.0 refl,
 )
 
 pub refuses_without : RefusesWithout
-refuses_without p s text is = is.memory.1.0 refl
+refuses_without p s text is = (is.1.memory refl).1.0 refl
 
 begins : (x : ℕ) (xs : List ℕ) → [] ≡ x ∷ xs → ⊥
 begins x xs e = absurd (cc)

@@ -1,7 +1,7 @@
 mod Ends
 mod Lines
-mod Memory
 mod More
 mod Row
+mod Smooth
 mod Whole
 mod Wrong

@@ -1,5 +1,5 @@
 -- What lines ask for, and what may stand freely.
-use Rattle.std.proofs.Common.{◌≡◌, true, false, refl}
+use Rattle.std.proofs.Common.{◌≡◌, ◌≤◌, true, false, refl, inl, ⊎_elim, arith}
 use Rattle.serve_tries.specs.Lines.{CommittedUntold, CutLineAsks, DecidedBehindThree, DecidedBehindTwo, EndAsks, NoneBehindQuit, NothingAsks, PlacesAreRefused, PolicyAsks}
 
 pub cut_line_asks : CutLineAsks
@@ -20,14 +20,20 @@ end_asks = (refl, (refl, refl))
 pub places_are_refused : PlacesAreRefused
 places_are_refused = refl
 
+three : 3 ≤ 3
+three = omega arith
+
 pub decided_behind_three : DecidedBehindThree
-decided_behind_three p s key run differs = (refl, (refl, (refl, (refl, (refl, tt)))))
+decided_behind_three p s key run differs = ((refl, three), (inl refl, (inl refl, (inl refl, (tt, tt)))))
+
+too_few : 3 ≤ 2 → ⊥
+too_few h = absurd (omega (arith, h))
+
+pub decided_behind_two : DecidedBehindTwo
+decided_behind_two p s key run differs free = too_few free.0.1
 
 never : false ≡ true → ⊥
 never e = absurd (cc)
 
-pub decided_behind_two : DecidedBehindTwo
-decided_behind_two p s key run differs free = never free.0
-
 pub committed_untold : CommittedUntold
-committed_untold p s run differs free = never free.0
+committed_untold p s run differs free = ⊎_elim never never free.0

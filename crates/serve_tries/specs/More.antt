@@ -21,8 +21,9 @@ use Rattle.machine_steps.specs.declared.reply.Reply.TheVariants as replies
 use Rattle.serve_steps.specs.Deeds.{Deed, Past}
 use Rattle.serve_steps.specs.Deeds.Deed.{Enters, Does}
 use Rattle.serve_steps.specs.Parts.{Given, Part, IsPart, deeds_of}
-use Rattle.serve_steps.specs.Runs.{IsDone, IsRefused, report}
-use Rattle.serve_tries.specs.Row.{first_row, given_row, part1, part2, state2, turn1, turn2, hello_bytes}
+use Rattle.serve_steps.specs.declared.end.ServeEnd.TheVariants.{Done, Script}
+use Rattle.serve_steps.specs.Runs.{report}
+use Rattle.serve_tries.specs.Row.{AreAtEnd, first_row, given_row, part1, part2, state2, turn1, turn2, hello_bytes}
 
 -- an entry with its reply, in a state in which no packet waits
 abbrev pub enters : Policy → Settings → Entry → Reply → Deed
@@ -104,7 +105,7 @@ at_end p s = part turn.End [] (enters p s (entries.ReadRules 1) replies.Done ∷
 abbrev pub LineIsRefused : Type 0
 LineIsRefused =
     (p : Policy) (s : Settings)
-    → IsDone (given_row p s) first_row (at_end p s ∷ faulty p s ∷ []) (report (deeds_of first_row (at_end p s ∷ faulty p s ∷ [])))
+    → AreAtEnd Done (given_row p s) first_row (at_end p s ∷ faulty p s ∷ []) (report (deeds_of first_row (at_end p s ∷ faulty p s ∷ [])))
 
 -- ---- a line of the start script is refused, or is `quit`
 
@@ -123,10 +124,10 @@ abbrev pub one_entry : Policy → Settings → Past
 one_entry p s = enters p s (entries.ReadRules 1) replies.Done ∷ []
 
 abbrev pub ScriptIsRefused : Type 0
-ScriptIsRefused = (p : Policy) (s : Settings) → IsRefused (given_script p s refused_script) 4 Grammar (one_entry p s) [] (report (one_entry p s))
+ScriptIsRefused = (p : Policy) (s : Settings) → AreAtEnd (Script 4 Grammar) (given_script p s refused_script) (one_entry p s) [] (report (one_entry p s))
 
 abbrev pub ScriptQuits : Type 0
-ScriptQuits = (p : Policy) (s : Settings) → IsDone (given_script p s quit_script) (one_entry p s) [] (report (one_entry p s))
+ScriptQuits = (p : Policy) (s : Settings) → AreAtEnd Done (given_script p s quit_script) (one_entry p s) [] (report (one_entry p s))
 
 -- ---- behind its HELLO a message of version 2 comes: the session ends by it, at byte 8
 

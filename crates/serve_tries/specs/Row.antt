@@ -5,6 +5,7 @@ use Rattle.maple_base.specs.declared.decision.Settings.{Settings}
 use Rattle.policy_lang.specs.declared.Policy.{Policy}
 use Rattle.of10_codec.specs.declared.message.Message.{Message}
 use Rattle.of10_codec.specs.declared.message.Body.TheVariants as body
+use Rattle.maple_io.specs.declared.act.Act.{Act}
 use Rattle.maple_io.specs.declared.act.Act.TheVariants as acts
 use Rattle.maple_io.specs.declared.board.Turn.TheVariants as turn
 use Rattle.maple_io.specs.declared.board.Sent.TheVariants as sends
@@ -21,7 +22,19 @@ use Rattle.machine_steps.specs.Machine.{Session, State, opening, tells, with_ses
 use Rattle.serve_steps.specs.Deeds.{Past, turns_of}
 use Rattle.serve_steps.specs.Deeds.Deed.{Enters, Does}
 use Rattle.serve_steps.specs.Parts.{Given, Part, deeds_of, AreCutAtTurns, AreOpenedOnce}
-use Rattle.serve_steps.specs.Runs.{IsDone}
+use Rattle.serve_steps.specs.declared.end.ServeEnd.{ServeEnd}
+use Rattle.serve_steps.specs.declared.end.ServeEnd.TheVariants.{Done}
+use Rattle.serve_steps.specs.Runs.{EndsWith, IsRun, IsSmooth, is_whole}
+
+-- these parts are those of a run at this end, and there was room for each packet, and memory where the end is whole
+abbrev pub AreAtEnd : ServeEnd → Given → Past → List Part → List ℕ → Type 0
+AreAtEnd end g first parts text = EndsWith end g first parts text × IsSmooth (is_whole end) (turns_of (deeds_of first parts))
+
+-- so it is of each run
+abbrev pub RunsAreAtEnd : Type 0
+RunsAreAtEnd =
+    (end : ServeEnd) (g : Given) (history : List Turn) (before after : List Act) (text : List ℕ) (run : IsRun end g history before after text)
+    → AreAtEnd end g run.first run.parts text
 
 -- ---- bytes
 
@@ -136,4 +149,4 @@ RowLeads = (p : Policy) (s : Settings) → Leads (opening p s) (turns_of (deeds_
 
 -- the run is done, and its report is the line `open c1`
 abbrev pub RowIsDone : Type 0
-RowIsDone = (p : Policy) (s : Settings) → IsDone (given_row p s) first_row (parts_row p s) (codes "open c1" ++ 10 ∷ [])
+RowIsDone = (p : Policy) (s : Settings) → AreAtEnd Done (given_row p s) first_row (parts_row p s) (codes "open c1" ++ 10 ∷ [])

@@ -1,12 +1,13 @@
 -- The worked row whole, part by part: what came, what the machine replied, and what was sent. Of the machine's states behind the HELLO nothing is said here, so
 -- they are stand-ins, in which no packet waits and no message does.
-use Rattle.std.specs.Prelude.{◌≡◌, ◌≢◌, ℕ, false, List, [], ◌∷◌, ◌++◌, length}
+use Rattle.std.specs.Prelude.{◌≡◌, ◌≢◌, ℕ, List, [], ◌∷◌, ◌++◌, length}
 use Rattle.maple_base.specs.declared.decision.Decision.{Decision}
 use Rattle.maple_base.specs.declared.decision.Settings.{Settings}
 use Rattle.maple_base.specs.declared.key.Key.{Key}
 use Rattle.policy_lang.specs.declared.Policy.{Policy}
 use Rattle.of10_codec.specs.declared.message.Message.{Message}
 use Rattle.of10_codec.specs.declared.message.Body.TheVariants as body
+use Rattle.maple_io.specs.declared.act.Act.{Act}
 use Rattle.maple_io.specs.declared.act.Act.TheVariants as acts
 use Rattle.maple_io.specs.declared.board.Turn.TheVariants as turn
 use Rattle.maple_io.specs.declared.board.Sent.TheVariants as sends
@@ -19,11 +20,14 @@ use Rattle.machine_steps.specs.declared.reply.Reply.{Reply}
 use Rattle.machine_steps.specs.declared.reply.Reply.TheVariants as replies
 use Rattle.machine_steps.specs.declared.entry.Entry.{Entry}
 use Rattle.machine_steps.specs.declared.job.Job.{Job}
+use Rattle.machine_steps.specs.Histories.{Turn}
 use Rattle.serve_steps.specs.Deeds.{Deed, acts_of}
 use Rattle.serve_steps.specs.Deeds.Deed.{Enters, Does}
-use Rattle.serve_steps.specs.Parts.{Part, deeds_of, is_overload, IsPart}
-use Rattle.serve_steps.specs.Runs.{IsDone, report}
-use Rattle.serve_tries.specs.Row.{first_row, given_row, part1, part2, quit_bytes, state2}
+use Rattle.serve_steps.specs.Parts.{Given, Part, deeds_of, IsPart}
+use Rattle.serve_steps.specs.declared.end.ServeEnd.{ServeEnd}
+use Rattle.serve_steps.specs.declared.end.ServeEnd.TheVariants.{Done}
+use Rattle.serve_steps.specs.Runs.{IsRun, report}
+use Rattle.serve_tries.specs.Row.{AreAtEnd, first_row, given_row, part1, part2, quit_bytes, state2}
 use Rattle.serve_tries.specs.More.{enters, part}
 
 -- ---- what came
@@ -107,9 +111,9 @@ whole_parts p s key lent run decision what =
 -- whatever the key, the run, and the answer are, these parts are those of a run that is done
 abbrev pub WholeIsDone : Type 0
 WholeIsDone =
-    (p : Policy) (s : Settings) (key : Key) (lent : Reply) (run : Recorded) (decision : Decision) (what : Learnt) → is_overload lent ≡ false
+    (p : Policy) (s : Settings) (key : Key) (lent : Reply) (run : Recorded) (decision : Decision) (what : Learnt) → lent ≢ replies.Overload
     → lent ≢ replies.NoMemory
-    → IsDone (given_row p s) first_row (whole_parts p s key lent run decision what) (report (deeds_of first_row (whole_parts p s key lent run decision what)))
+    → AreAtEnd Done (given_row p s) first_row (whole_parts p s key lent run decision what) (report (deeds_of first_row (whole_parts p s key lent run decision what)))
 
 -- 274 bytes were sent
 abbrev pub WholeIsSent : Type 0
@@ -141,10 +145,32 @@ later_parts p s j key run decision what =
 abbrev pub LaterIsDone : Type 0
 LaterIsDone =
     (p : Policy) (s : Settings) (j : Job) (key : Key) (run : Recorded) (decision : Decision) (what : Learnt) → s.workers ≡ 2
-    → IsDone (given_row p s) first_row (later_parts p s j key run decision what) (report (deeds_of first_row (later_parts p s j key run decision what)))
+    → AreAtEnd Done (given_row p s) first_row (later_parts p s j key run decision what) (report (deeds_of first_row (later_parts p s j key run decision what)))
 
 -- without workers no part ends so
 abbrev pub LeftOpen : Type 0
 LeftOpen =
     (p : Policy) (s : Settings) (j : Job) (key : Key) → s.workers ≡ 0
     → ¬ (IsPart (given_row p s) first_row (part_barrier p s ∷ part_features p s ∷ part2 p s ∷ part1 p s ∷ []) (part_waits p s j key))
+
+-- ---- the packet finds too many others waiting
+
+abbrev pub part_crowded : Policy → Settings → Part
+part_crowded p s = part (turn.Bytes 1 72) packet_bytes (
+    enters p s (entries.TakeOut 1) (replies.Out []) ∷ enters p s (entries.Heard 1 (Whole packet)) replies.Overload ∷ [])
+
+abbrev pub crowded_parts : Policy → Settings → List Part
+crowded_parts p s = part_crowded p s ∷ part_barrier p s ∷ part_features p s ∷ part2 p s ∷ part1 p s ∷ []
+
+-- no more is wrong with this part, but these parts have no end
+abbrev pub Crowded : Type 0
+Crowded =
+    (p : Policy) (s : Settings)
+    → IsPart (given_row p s) first_row (part_barrier p s ∷ part_features p s ∷ part2 p s ∷ part1 p s ∷ []) (part_crowded p s)
+    × ((end : ServeEnd) (text : List ℕ) → ¬ (AreAtEnd end (given_row p s) first_row (crowded_parts p s) text))
+
+-- so it is wherever this is replied, at any end of any run
+abbrev pub NoneIsCrowded : Type 0
+NoneIsCrowded =
+    (end : ServeEnd) (g : Given) (ahead behind : List Turn) (t : Turn) (before after : List Act) (text : List ℕ) → t.reply ≡ replies.Overload
+    → ¬ (IsRun end g (ahead ++ t ∷ behind) before after text)

@@ -4,17 +4,19 @@ ghost use Rattle.serve_tries.specs.Ends.{RefusesWithout, StartFails, StartsBehin
 ghost use Rattle.serve_tries.specs.Lines.{CommittedUntold, CutLineAsks, DecidedBehindThree, DecidedBehindTwo, EndAsks};
 ghost use Rattle.serve_tries.specs.Lines.{NoneBehindQuit, NothingAsks, PlacesAreRefused, PolicyAsks};
 ghost use Rattle.serve_tries.specs.More.{LineIsRefused, OpensInVain, Passes, ScriptIsRefused, ScriptQuits, SendFails, StreamBreaks, Waits};
-ghost use Rattle.serve_tries.specs.Row.{RowIsCut, RowIsDone, RowIsOpenedOnce, RowLeads};
-ghost use Rattle.serve_tries.specs.Whole.{LaterIsDone, LeftOpen, WholeIsDone, WholeIsSent};
+ghost use Rattle.serve_tries.specs.Row.{RowIsCut, RowIsDone, RowIsOpenedOnce, RowLeads, RunsAreAtEnd};
+ghost use Rattle.serve_tries.specs.Whole.{Crowded, LaterIsDone, LeftOpen, NoneIsCrowded, WholeIsDone, WholeIsSent};
 ghost use Rattle.serve_tries.specs.Wrong.{ClosedEarly, DecidedAtOnce, EndIsSeen, HeardBehindEnd, NeverSent, NotClosed};
 ghost use Rattle.serve_tries.specs.Wrong.{NotTold, OpenedTwice, SentBehindClose, SentTwice, Skipped, TakenTooSoon, TwoTurnsInOne};
 
-/// A connection is opened, a HELLO comes, and the control text says `quit`: this run is done.
+/// A connection is opened, a HELLO comes, and the control text says `quit`: this run is done. What is said here of runs at an
+/// end is said of each run.
 pub fn row_law()
     ensures cut { RowIsCut }
     ensures opened { RowIsOpenedOnce }
     ensures leads { RowLeads }
     ensures done { RowIsDone }
+    ensures runs { RunsAreAtEnd }
 {}
 
 /// What was taken out is never sent; a line of the control text is skipped; a message is heard behind
@@ -49,12 +51,15 @@ pub fn more_laws()
 {}
 
 /// The worked row whole: what came, what was replied and what was sent are those of a run that is done,
-/// and 274 bytes were sent. With workers a job may be open at the end of a part, and without none.
+/// and 274 bytes were sent. With workers a job may be open at the end of a part, and without none. No run
+/// has a packet that finds too many others waiting.
 pub fn whole_law()
     ensures done { WholeIsDone }
     ensures sent { WholeIsSent }
     ensures later { LaterIsDone }
     ensures left { LeftOpen }
+    ensures crowded { Crowded }
+    ensures none { NoneIsCrowded }
 {}
 
 /// The board fails at its start, or as it is asked for a turn, or a write fails: these runs are so. Runs

@@ -25,14 +25,12 @@ use Rattle.packet_workers.specs.declared.worked.Worked.{Worked}
 use Rattle.packet_workers.specs.declared.worked.Worked.TheVariants as how
 use Rattle.packet_workers.specs.Rounds.{HasNoJob, IsClosedBy}
 use Rattle.machine_desk.specs.Desks.{DeskView, calls_of}
-use Rattle.machine_desk.specs.Working.{IsPlainCall, RoundsArePlain, RoundsClose, Works}
-use Rattle.machine_desk.specs.declared.hearing.Heard.TheVariants as heard
-use Rattle.desk_jobs.specs.Tending.{IsWhole}
-use Rattle.sim_channels.specs.Answering.{Answers, IsPlain}
+use Rattle.machine_desk.specs.Working.{IsPlainCall, Works}
+use Rattle.machine_desk.specs.Tending.{IsWhole}
+use Rattle.sim_steps.proofs.Silent.{IsEasy}
 use Rattle.sim_channels.specs.Channels.{IsReached}
-use Rattle.desk_jobs.specs.Driving.{DrivingLaws}
-use Rattle.sim_channels.specs.Passes.{WaitsBy}
-use Rattle.sim_channels.proofs.Making.{may_make}
+use Rattle.machine_desk.specs.Driving.{DrivingLaws}
+use Rattle.sim_channels.proofs.Making.{had_memory, may_make}
 use Rattle.sim_channels.proofs.Keeping.{reached_on, session_same}
 
 -- ---- the packets that wait
@@ -63,9 +61,9 @@ last_behind : (m : State) (ts : List Turn) (n : State) → Leads m ts n → stat
 last_behind m [] n e = sym e
 last_behind m (t ∷ ts) n (same, turn, rest) = last_behind t.behind ts n rest
 
-plain_turns : (worked : Worked) → (worked ≡ how.NoMemory → ⊥) → (ts : List Turn) → AllByRecursion (IsPlainCall worked) (calls_of ts) → AllByRecursion IsPlain ts
-plain_turns worked enough [] all = tt
-plain_turns worked enough (t ∷ ts) all = (record { few = all.0.few; memory = all.0.memory enough }, plain_turns worked enough ts all.1)
+easy_turns : (worked : Worked) → (worked ≡ how.NoMemory → ⊥) → (ts : List Turn) → AllByRecursion (IsPlainCall worked) (calls_of ts) → AllByRecursion IsEasy ts
+easy_turns worked enough [] all = tt
+easy_turns worked enough (t ∷ ts) all = (had_memory t.reply (all.0.memory enough), easy_turns worked enough ts all.1)
 
 abbrev IsItem : Waiting → Job → Type 0
 IsItem item j = item ≡ item_of j
@@ -92,17 +90,25 @@ closed item m worked whole none = none
 not_broken : (worked : Worked) → IsWhole worked → worked ≡ how.NoMemory → ⊥
 not_broken worked whole e = subst IsWhole e whole
 
--- so it answers the packet
-pub answers_by : RoundsArePlain → RoundsClose → (item : Waiting) (worked : Worked) (a b : DeskView) → a.footing.parts ≡ 1024 → WaitsBy (heard.Packet item) a.now.jobs → Works item worked a b
-    → IsWhole worked → Answers a b
-answers_by plain close item worked a b alone (one, waits, its) works whole = record {
+-- so it answers the packet, and none waits any more
+pub record Answers (a b : DeskView) : Type 0 where
+  pub turns : List Turn
+  pub leads : Leads a.now turns b.now
+  pub past : b.past ≡ a.past ++ turns
+  pub allowed : AreAllowed Allows (calls_of a.past) (calls_of turns)
+  pub easy : AllByRecursion IsEasy turns
+  pub none : b.now.jobs ≡ []
+
+pub answers_by : DrivingLaws → (item : Waiting) (worked : Worked) (a b : DeskView) → a.footing.parts ≡ 1024 → (one : Job) → a.now.jobs ≡ one ∷ [] → item ≡ item_of one
+    → Works item worked a b → IsWhole worked → Answers a b
+answers_by laws item worked a b alone one waits its works whole = record {
   turns = works.turns;
   leads = works.meanwhile;
   past = works.past;
   allowed = works.allowed;
-  plain = plain_turns worked (not_broken worked whole) works.turns
-      (subst (AllByRecursion (IsPlainCall worked)) (sym same) (plain item a.now.settings.budget 3 works.calls worked works.rounds));
-  none = none_left item b.now (closed item b.now worked whole (subst (IsClosedBy worked item) last (close item a.now.settings.budget 3 works.calls worked a.now works.rounds)))
+  easy = easy_turns worked (not_broken worked whole) works.turns
+      (subst (AllByRecursion (IsPlainCall worked)) (sym same) (laws.plain item a.now.settings.budget 3 works.calls worked works.rounds));
+  none = none_left item b.now (closed item b.now worked whole (subst (IsClosedBy worked item) last (laws.close item a.now.settings.budget 3 works.calls worked a.now works.rounds)))
       (all_along (IsItem item) (calls_of a.past) a.now works.turns b.now works.meanwhile works.allowed (subst (AllByRecursion (IsItem item)) (sym waits) (its, tt)));
 }
   where

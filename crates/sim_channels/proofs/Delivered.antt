@@ -13,7 +13,7 @@ use Rattle.sim_channels.specs.declared.channel.Channel.{Channel}
 use Rattle.sim_channels.specs.declared.driver.Driver.{Driver}
 use Rattle.sim_channels.specs.Channels.{Fits, IsSame, WorksAlone, bench}
 use Rattle.sim_channels.specs.Delivering.{Delivers, GoesOn, MayGoOn, OffersAt}
-use Rattle.desk_jobs.specs.Driving.{DrivingLaws}
+use Rattle.machine_desk.specs.Driving.{DrivingLaws}
 use Rattle.sim_channels.specs.Passes.{AwaitsAll}
 use Rattle.sim_channels.specs.Waiting.{IsAtRest, IsDone, IsHeard, IsHeardThrough, IsOffered, IsQuiet, IsTaken, NoneWaits, StaysBut, WhilePlugged}
 use Rattle.sim_channels.proofs.Kept.{spares_then}
@@ -101,7 +101,7 @@ module _ (count : ℕ) (old : Driver) (before : List Meaning) (new : Driver) (af
 
 module _ (laws : DrivingLaws) (old mid : Driver) (ds : List Meaning) (fits : Fits old ds) (some : WorksAlone old → ⊥) (h : AwaitsAll old mid) where
   pub awaited_none : NoneWaits mid.desk
-  awaited_none = ⊎_elim (λ alone. absurd (some alone)) (λ none. none) h.none
+  awaited_none = ⊎_elim (λ alone. absurd (some (alone_back old mid h.tends.same alone))) (λ none. none) h.none
 
   pub awaited_fits : Fits mid ds
   awaited_fits = tends_fits laws old mid fits.kept h.tends ds fits

@@ -23,7 +23,7 @@ use Rattle.machine_desk.specs.declared.inbound.Stage.TheVariants.{Live}
 use Rattle.sim_channels.specs.declared.driver.Driver.{Driver}
 use Rattle.sim_channels.specs.Channels.{EntersNext, IsKept, OthersDid, bench, slot_by, slots_of}
 use Rattle.sim_channels.specs.Delivering.{TakesMessages, TakesOut, ahead_of_last}
-use Rattle.desk_jobs.specs.Driving.{DrivingLaws}
+use Rattle.machine_desk.specs.Driving.{DrivingLaws}
 use Rattle.sim_channels.proofs.Keeping.{can_offer, elsewhere, nothing_left}
 use Rattle.sim_channels.proofs.Kept.{ChannelAt, is_as_long, is_there, kept_channel, not_fresh, plugged_at, spares, waits_as, while_there}
 use Rattle.sim_channels.proofs.Others.{ahead, enters_next, kept_ahead, others_ahead, others_carried, spares_others}
@@ -96,8 +96,7 @@ module _ (laws : DrivingLaws) (at : ℕ) (old new : Driver) (bytes : List ℕ) (
       carried_entry taking (Out bytes) (bench mid devices) (bench new devices) refl refl refl (record {
         may = is_open;
         admitted = tt;
-        steps = enters.steps;
-        smooth = refl;
+        steps = enters.made.steps;
         slots = subst (λ ks. MovesAt (at + 1) (GetsMessages waiting) (slots_of old.channels.items devices) (slots_of ks devices)) (sym h.channels)
             (slots_channel old.channels.items devices at k l d.0 (GetsMessages waiting) h.there d.1 (gets d.0));
         past = enters.past;
@@ -105,13 +104,13 @@ module _ (laws : DrivingLaws) (at : ℕ) (old new : Driver) (bytes : List ℕ) (
 
   pub taken_out : TakesOut at old new
   taken_out = record {
-    kept = kept_channel laws mid new taking (Out bytes) mid_kept tt enters.steps (λ c. refl) at k l channel (refl, refl) (not_fresh l live);
+    kept = kept_channel laws mid new taking (Out bytes) mid_kept tt enters.made.steps (λ c. refl) at k l channel (refl, refl) (not_fresh l live);
     carried = λ devices long.
         carried_then (bench old devices) (bench mid devices) (bench new devices) (others_carried laws old mid kept others devices long) (carried devices long);
     places = is_as_long at k l old new h;
     waiting = waits_as at k l old new h refl;
-    spares = spares_others laws old mid kept others at new (spares laws mid new taking (Out bytes) mid_kept enters.steps refl at k l channel (elsewhere at) refl (λ e. e));
-    taken = λ x there stage. nothing_left laws (at + 1) mid.desk.now (Out bytes) new.desk.now mid_kept.reached enters.steps refl is_open;
+    spares = spares_others laws old mid kept others at new (spares laws mid new taking (Out bytes) mid_kept enters.made.steps refl at k l channel (elsewhere at) refl (λ e. e));
+    taken = λ x there stage. nothing_left laws (at + 1) mid.desk.now (Out bytes) new.desk.now mid_kept.reached enters.made.steps refl is_open;
     plugged = record { channel = l; there = is_there at k l old new h; is = live };
     can = while_there at k l old new h (λ x. AllByRecursion CanBeOffered x.to)
         (λ open_now. subst (AllByRecursion CanBeOffered) (sym takes.are) (can_offer laws mid.desk.now mid_kept.reached (at + 1)));

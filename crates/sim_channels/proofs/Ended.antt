@@ -1,5 +1,5 @@
 -- The session of a device that failed ends.
-use Rattle.std.proofs.Common.{◌≡◌, ℕ, ◌+◌, Bool, true, false, refl, sym, ap, ◌∙◌, subst, inl, inr}
+use Rattle.std.proofs.Common.{◌≡◌, ℕ, ◌+◌, Bool, true, false, refl, sym, ap, ◌∙◌, inl, inr}
 use Rattle.std.specs.Prelude.{is_some}
 use Rattle.std.proofs.lemmas.Option.{same_Some}
 use Rattle.machine_desk.specs.declared.inbound.Stage.TheVariants.{Over, Live}
@@ -10,12 +10,11 @@ use Rattle.machine_steps.specs.declared.reply.Reply.TheVariants.{Ended}
 use Rattle.machine_steps.specs.Machine.{State}
 use Rattle.machine_steps.specs.Steps.{Steps, link_end}
 use Rattle.sim_steps.specs.Benches.{Bench, is_plugged}
-use Rattle.sim_steps.specs.Deeds.{IsSmooth}
 use Rattle.sim_channels.specs.declared.channel.Channel.{Channel}
 use Rattle.sim_channels.specs.declared.driver.Driver.{Driver}
 use Rattle.sim_channels.specs.Channels.{EntersNext, IsKept, IsSame, OthersDid}
 use Rattle.sim_channels.specs.Delivering.{Leaves}
-use Rattle.desk_jobs.specs.Driving.{DrivingLaws}
+use Rattle.machine_desk.specs.Driving.{DrivingLaws}
 use Rattle.sim_channels.specs.Staging.{ClosesAt, HasStage}
 use Rattle.sim_channels.proofs.Keeping.{elsewhere}
 use Rattle.sim_channels.proofs.Kept.{ChannelAt, is_as_long, now_there, plugged_at, spares, waits_as}
@@ -64,7 +63,7 @@ module _ (laws : DrivingLaws) (at : ℕ) (old new : Driver) (kept : IsKept old) 
   is_open = plugged_at next at h.channel next_kept h.there (ap (λ (x : Channel). x.inbound.stage) (same_Some h.channel live.channel (sym h.there ∙ live.there)) ∙ live.is)
 
   ended : reply ≡ Ended (link_end true)
-  ended = told_end (at + 1) true next.desk.now reply new.desk.now is_open ends.steps
+  ended = told_end (at + 1) true next.desk.now reply new.desk.now is_open ends.made.steps
 
   pub leaves : Leaves at old new
   leaves = record {
@@ -76,14 +75,13 @@ module _ (laws : DrivingLaws) (at : ℕ) (old new : Driver) (kept : IsKept old) 
     enters = λ devices long. record {
       may = is_open;
       admitted = tt;
-      steps = ends.steps;
-      smooth = subst IsSmooth (sym ended) refl;
+      steps = ends.made.steps;
       slots = ap (λ (b : Bench). b.slots) (staged_slots at goes reply Over old new h devices);
       past = ends.past;
     };
     places = is_as_long at h.channel left next new channel;
     spares = spares_others laws old next kept others at new
-        (spares laws next new goes reply next_kept ends.steps refl at h.channel left channel (elsewhere at) refl (λ other. (let f : Over ≡ Live = other in absurd (cc))));
+        (spares laws next new goes reply next_kept ends.made.steps refl at h.channel left channel (elsewhere at) refl (λ other. (let f : Over ≡ Live = other in absurd (cc))));
     left = now_there at h.channel left next new channel (λ x. x.inbound.stage ≡ Over) refl;
     waiting = waits_as at h.channel left next new channel refl;
   }

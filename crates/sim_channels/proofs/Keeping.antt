@@ -19,7 +19,7 @@ use Rattle.machine_steps.proofs.Sound.Zipped.{find_all}
 use Rattle.world_steps.specs.Worlds.{lacks_memory, messages_for, outbox_of}
 use Rattle.sim_steps.specs.Benches.{is_plugged}
 use Rattle.sim_channels.specs.Channels.{IsReached}
-use Rattle.desk_jobs.specs.Driving.{DrivingLaws}
+use Rattle.machine_desk.specs.Driving.{DrivingLaws}
 use Rattle.sim_channels.proofs.Making.{may_make, no_state}
 
 -- ---- the history

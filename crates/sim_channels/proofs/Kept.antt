@@ -22,11 +22,11 @@ use Rattle.sim_channels.specs.declared.driver.Driver.{Driver}
 use Rattle.machine_desk.specs.Hearing.{IsSameSession, IsStaged, is_live, was_begun}
 use Rattle.sim_channels.specs.Channels.{Fits, IsFresh, IsKept, IsReached, IsSame}
 use Rattle.sim_channels.specs.Delivering.{Spares}
-use Rattle.desk_jobs.specs.Driving.{DrivingLaws}
+use Rattle.machine_desk.specs.Driving.{DrivingLaws}
 use Rattle.sim_channels.specs.Waiting.{IsLeft, WhilePlugged}
 use Rattle.sim_channels.proofs.Keeping.{IsAside, aside, bears_on, reached_on, session_same}
 use Rattle.sim_channels.proofs.Making.{may_make}
-use Rattle.sim_channels.proofs.Others.{IsPlaced, kept_all, kept_each, quiet_on, same_desk, same_then, still_placed}
+use Rattle.sim_channels.proofs.Others.{IsPlaced, kept_all, kept_each, quiet_on, same_desk, same_then, still_placed, places_alone}
 use Rattle.sim_channels.proofs.Slots.{set_beside, set_there}
 
 -- of the channels this one became another
@@ -64,7 +64,7 @@ module _ (at : ℕ) (k l : Channel) (old new : Driver) (h : ChannelAt at k l old
       (λ e. subst (λ i. IsPlaced i new.desk.now x) (sym e) (now_there (IsPlaced at new.desk.now) placed x (ap (slice_get new.channels.items) (sym e) ∙ there)))
       (λ o. still_placed old new kept h.same settings reached n x (sym (is_beside n o) ∙ there) (aside (n + 1) (λ e. o (omega (arith, e))))) (cases_eq n at))
       (λ c open_now. ⊎_elim (λ e. (let within = slice_get_within old.channels.items at k h.there in (omega (arith, e), omega (arith, e, within))))
-      (λ o. kept.places_alone c (sym (aside c o).live ∙ open_now)) (cases_eq c (at + 1)))
+      (λ o. places_alone old.channels.items old.desk.now kept.sessions c (sym (aside c o).live ∙ open_now)) (cases_eq c (at + 1)))
 
 -- from how the machine is given an entry, and how a channel is written then
 pub channel_at : (at : ℕ) (old mid : Driver) (k : Channel) → slice_get old.channels.items at ≡ Some k → mid ≡ record old { desk = mid.desk } → (l : Channel) (new : Driver)
@@ -84,7 +84,7 @@ staged_as i j m same h = record {
 }
 
 pub staged_at : (driver : Driver) (at : ℕ) (k : Channel) → IsKept driver → slice_get driver.channels.items at ≡ Some k → is_plugged (at + 1) driver.desk.now ≡ is_live k.inbound.stage
-staged_at driver at k kept there = ap (λ c. is_plugged c driver.desk.now) (sym (kept.names at k there)) ∙ (kept.stages at k there).live
+staged_at driver at k kept there = ap (λ c. is_plugged c driver.desk.now) (sym (kept.names at k there)) ∙ (kept.sessions.staged at k there).live
 
 pub plugged_at : (driver : Driver) (at : ℕ) (k : Channel) → IsKept driver → slice_get driver.channels.items at ≡ Some k → k.inbound.stage ≡ Live → is_plugged (at + 1) driver.desk.now ≡ true
 plugged_at driver at k kept there plugged = staged_at driver at k kept there ∙ ap is_live plugged

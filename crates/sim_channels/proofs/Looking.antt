@@ -24,7 +24,7 @@ use Rattle.machine_desk.specs.declared.inbound.Stage.TheVariants.{Live}
 use Rattle.sim_channels.specs.declared.driver.Driver.{Driver}
 use Rattle.machine_desk.specs.Desks.{Enters}
 use Rattle.sim_channels.specs.Channels.{EntersNext, Fits, IsKept, IsSame, OthersDid, slots_of}
-use Rattle.desk_jobs.specs.Driving.{DrivingLaws}
+use Rattle.machine_desk.specs.Driving.{DrivingLaws}
 use Rattle.sim_channels.specs.Waiting.{IsAtRest, IsAtRestBut}
 use Rattle.sim_channels.proofs.Keeping.{session_same}
 use Rattle.sim_channels.proofs.Kept.{ChannelAt, is_as_long, is_beside, is_there, kept_channel, not_fresh, now_there, plugged_at, waiting_but, while_there}
@@ -86,7 +86,7 @@ module _ (laws : DrivingLaws) (d e : Driver) (before after : List Meaning) (at p
   live = looks.session.1 ∙ s.is
 
   kept_called : IsKept e
-  kept_called = kept_channel laws next e telling Done kept tt told.steps (λ c. refl) at k l channel looks.session (not_fresh l live)
+  kept_called = kept_channel laws next e telling Done kept tt told.made.steps (λ c. refl) at k l channel looks.session (not_fresh l live)
 
   fits_called : Fits e after
   fits_called = record {
@@ -100,14 +100,14 @@ module _ (laws : DrivingLaws) (d e : Driver) (before after : List Meaning) (at p
 
   -- a note gives the machine no message for a device
   session : (c : ℕ) → session_at c e.desk.now ≡ session_at c next.desk.now
-  session c = session_same laws next.desk.now telling Done e.desk.now kept.reached told.steps refl c refl
+  session c = session_same laws next.desk.now telling Done e.desk.now kept.reached told.made.steps refl c refl
 
   rest_called : IsAtRestBut at e
   rest_called = done_beside laws at next e kept (but_here at next rest_next) (record {
     kept = kept_called;
     same = channel.same;
     others = record { sessions = λ alone c other. session c; channels = beside };
-    jobs = λ alone. laws.none next.desk.now telling Done e.desk.now (rest_next.done alone).jobs refl told.steps;
+    jobs = λ alone. laws.none next.desk.now telling Done e.desk.now (rest_next.done alone).jobs refl told.made.steps;
     taken = λ alone. taken_still laws at next e kept kept_called (session (at + 1)) ((rest_next.done alone).taken at);
     offered = while_there at k l next e channel (λ x. x.to ≡ []) (λ open_now. looks.to ∙ rest.offered at k s.there s.is);
   })
@@ -129,7 +129,7 @@ module _ (laws : DrivingLaws) (d e : Driver) (before after : List Meaning) (at p
       seen = seen;
       bytes = looks.bytes;
       reply = Done;
-      calls = record { plugged = plugged_at next at k kept s.there s.is; slots = slots; noted = told.steps; past = told.past };
+      calls = record { plugged = plugged_at next at k kept s.there s.is; slots = slots; noted = told.made.steps; past = told.past };
       memory = refl;
       failed_is = failing port frame seen looks.bytes ∙ sym is;
     };

@@ -25,7 +25,7 @@ use Rattle.machine_desk.specs.declared.inbound.Stage.TheVariants.{Live}
 use Rattle.sim_channels.specs.declared.driver.Driver.{Driver}
 use Rattle.sim_channels.specs.Channels.{EntersNext, Fits, IsKept, IsSame, OthersDid, bench, slots_of}
 use Rattle.sim_channels.specs.Delivering.{CanOffer, GoesOn, Leaves, OffersAt, OffersFirst, Spares, left_in, offers_left, took_by}
-use Rattle.desk_jobs.specs.Driving.{DrivingLaws}
+use Rattle.machine_desk.specs.Driving.{DrivingLaws}
 use Rattle.sim_channels.specs.Staging.{HasStage}
 use Rattle.sim_channels.specs.Waiting.{IsTaken}
 use Rattle.sim_channels.proofs.Keeping.{messages_same, session_same}
@@ -103,12 +103,12 @@ module _ (laws : DrivingLaws) (at : ℕ) (old mid : Driver) (k l : Channel) (d e
 
   mid_kept : IsKept mid
   mid_kept =
-      kept_channel laws next mid telling Done kept tt told_next.steps (λ c. refl) at k l h (ap (λ (i : Inbound). i.connection) o.inbound, ap (λ (i : Inbound). i.stage) o.inbound) (not_fresh l is_live)
+      kept_channel laws next mid telling Done kept tt told_next.made.steps (λ c. refl) at k l h (ap (λ (i : Inbound). i.connection) o.inbound, ap (λ (i : Inbound). i.stage) o.inbound) (not_fresh l is_live)
 
   mid_spares : Spares at old mid
   mid_spares =
       spares_others laws old next fits.kept others at mid
-      (spares laws next mid telling Done kept told_next.steps refl at k l h (λ c other. refl) (ap (λ (i : Inbound). i.from.stream) o.inbound) (λ f. s.is))
+      (spares laws next mid telling Done kept told_next.made.steps refl at k l h (λ c other. refl) (ap (λ (i : Inbound). i.from.stream) o.inbound) (λ f. s.is))
 
   slots : MovesAt (at + 1) deals (bench next ds).slots (bench mid es).slots
   slots =
@@ -119,8 +119,8 @@ module _ (laws : DrivingLaws) (at : ℕ) (old mid : Driver) (k l : Channel) (d e
   -- by whether it failed
   calls_by : (b : Bool) → MovesAt (at + 1) (CallsSlot (Offered o.bytes (took_by b))) (bench next ds).slots (bench mid es).slots
       → EntersNext (entries.Note (notes.Offered (at + 1) b)) Done next.desk mid.desk → CallsAt (at + 1) (Offered o.bytes (took_by b)) Done (bench next ds) (bench mid es)
-  calls_by true m t = record { plugged = is_open; slots = m; noted = t.steps; past = t.past }
-  calls_by false m t = record { plugged = is_open; slots = m; noted = t.steps; past = t.past }
+  calls_by true m t = record { plugged = is_open; slots = m; noted = t.made.steps; past = t.past }
+  calls_by false m t = record { plugged = is_open; slots = m; noted = t.made.steps; past = t.past }
 
   calls : (b : Bool) → failed ≡ b → CallsAt (at + 1) (Offered o.bytes (took_by b)) Done (bench next ds) (bench mid es)
   calls b is = subst (λ f. CallsAt (at + 1) (Offered o.bytes (took_by f)) Done (bench next ds) (bench mid es)) is (calls_by failed slots told_next)
@@ -144,7 +144,7 @@ module _ (laws : DrivingLaws) (at : ℕ) (old mid : Driver) (k l : Channel) (d e
   taken_still : IsTaken at next → IsTaken at mid
   taken_still taken x there stage =
       messages_same laws (at + 1) next.desk.now mid.desk.now kept.reached mid_kept.reached is_open
-      (session_same laws next.desk.now telling Done mid.desk.now kept.reached told_next.steps refl (at + 1) refl)
+      (session_same laws next.desk.now telling Done mid.desk.now kept.reached told_next.made.steps refl (at + 1) refl)
       ∙ taken k s.there s.is
 
   pub is_told : IsTold at old mid ds es failed

@@ -1,5 +1,5 @@
 -- The driver ahead of its first entry.
-use Rattle.std.proofs.Common.{◌≡◌, ◌⊎◌, ℕ, zero, suc, ◌+◌, ◌^◌, ◌<◌, true, false, List, [], ◌∷◌, ◌++◌, inl, inr, ⊎_elim, length, map, refl, sym, ap, ◌∙◌, subst, arith}
+use Rattle.std.proofs.Common.{◌≡◌, ◌⊎◌, ℕ, zero, suc, ◌+◌, ◌^◌, ◌<◌, false, List, [], ◌∷◌, ◌++◌, inl, inr, ⊎_elim, length, map, refl, sym, ap, ◌∙◌, subst, arith}
 use Rattle.std.specs.Prelude.{Some}
 use Rattle.std.specs.FinSet as set
 use Rattle.std.specs.List.{AllByRecursion, slice_get}
@@ -14,7 +14,7 @@ use Rattle.sim_steps.specs.Showing.{AllIdle}
 use Rattle.sim_channels.specs.declared.channel.Channel.{Channel}
 use Rattle.machine_desk.specs.declared.inbound.Stage.TheVariants.{Live, Unopened}
 use Rattle.sim_channels.specs.declared.driver.Driver.{Driver}
-use Rattle.desk_jobs.specs.Crews.{MayHave}
+use Rattle.machine_desk.specs.Crews.{MayHave}
 use Rattle.machine_desk.specs.Hearing.{is_live, was_begun}
 use Rattle.machine_desk.specs.Openings.{IsAtStart}
 use Rattle.machine_steps.specs.Sound.{AreInRange}
@@ -79,10 +79,12 @@ module _ (driver : Driver) (ds : List Meaning) (h : IsNewDriver driver (length d
     reached = record { policy = driver.desk.now.policy; settings = driver.desk.now.settings; ranges = h.ranges; turns = []; leads = h.start.opening };
     numbers = subst (λ n. n < 2 ^ 32) (sym h.count) h.few;
     names = h.names;
-    stages = λ n k there.
-        (let stage = (unused_at driver.channels.items n k h.unused there).stage in
-        record { live = none_open k.inbound.connection ∙ ap is_live (sym stage); opened = none_opened k.inbound.connection ∙ ap was_begun (sym stage) });
-    places_alone = λ c plugged. (let f : true ≡ false = sym plugged ∙ none_open c in absurd (cc));
+    sessions = record {
+      staged = λ n k there.
+          (let stage = (unused_at driver.channels.items n k h.unused there).stage in
+          record { live = none_open k.inbound.connection ∙ ap is_live (sym stage); opened = none_opened k.inbound.connection ∙ ap was_begun (sym stage) });
+      others = λ c unknown. none_open c;
+    };
     fresh = λ n k there unplugged. (let unused = unused_at driver.channels.items n k h.unused there in record { to = unused.to; from = unused.from });
   }
 

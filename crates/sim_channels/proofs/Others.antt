@@ -1,10 +1,13 @@
 -- What others do beside the driver, and what it does with them about packets that wait: entries that anybody may make.
-use Rattle.std.proofs.Common.{◌≡◌, ℕ, ◌^◌, ◌<◌, ◌≤◌, Bool, true, false, List, [], ◌++◌, length, append-nil, refl, sym, ap, ◌∙◌, subst, inl, inr}
-use Rattle.std.specs.Prelude.{◌+◌, IfSome, Option, Some, None, is_some}
+use Rattle.sim_channels.proofs.Slots.{item_at}
+use Rattle.std.proofs.lemmas.Option.{none-some, slice_get_within}
+use Rattle.machine_desk.specs.Connections.{AreSessions, IsUnknown}
+use Rattle.std.proofs.Common.{◌≡◌, arith, zero, suc, ℕ, ◌^◌, ◌<◌, ◌≤◌, Bool, true, false, List, [], ◌++◌, length, append-nil, refl, sym, ap, ◌∙◌, subst, inl, inr}
+use Rattle.std.specs.Prelude.{◌+◌, ◌-◌, IfSome, Option, Some, None, is_some}
 use Rattle.std.specs.FinSet as set
 use Rattle.std.specs.Ordering.{nat_cmp}
 use Rattle.std.specs.List.{slice_get}
-use Rattle.desk_jobs.proofs.Crewed.{crew_then, same_crew, some_crew}
+use Rattle.machine_desk.proofs.Crewed.{crew_then, same_crew, some_crew}
 use Rattle.device_port.specs.Devices.{Meaning}
 use Rattle.maple_base.specs.declared.decision.Settings.{Settings}
 use Rattle.policy_lang.specs.declared.Policy.{Policy}
@@ -23,11 +26,11 @@ use Rattle.sim_steps.specs.Stretches.{Beside}
 use Rattle.sim_steps.proofs.Others.{beside_none, carried_beside}
 use Rattle.sim_steps.proofs.Silent.{beside_along}
 use Rattle.sim_channels.specs.declared.channel.Channel.{Channel}
-use Rattle.desk_jobs.specs.declared.crew.Crew.{Crew}
+use Rattle.machine_desk.specs.declared.crew.Crew.{Crew}
 use Rattle.sim_channels.specs.declared.driver.Driver.{Driver}
-use Rattle.desk_jobs.specs.Crews.{IsCrew, MayHave, SameCrew}
-use Rattle.sim_channels.specs.Channels.{CarriedOver, EntersNext, Fits, IsFresh, IsKept, IsReached, IsSame, OthersDid, Tends, WorksAlone, bench, slots_of}
-use Rattle.desk_jobs.specs.Driving.{DrivingLaws}
+use Rattle.machine_desk.specs.Crews.{IsCrew, MayHave, SameCrew}
+use Rattle.sim_channels.specs.Channels.{CarriedOver, EntersNext, Fits, IsFresh, IsKept, IsReached, IsSame, OthersDid, Tends, WorksAlone, bench, slots_of, places}
+use Rattle.machine_desk.specs.Driving.{DrivingLaws}
 use Rattle.sim_channels.specs.Delivering.{Spares}
 use Rattle.sim_channels.specs.Waiting.{IsAtRest, IsDone, IsQuiet, IsTaken, NoneWaits, WhilePlugged}
 use Rattle.sim_channels.proofs.Keeping.{IsAside, reached_along, reached_sound}
@@ -78,6 +81,32 @@ crew_on a b h settings may = record {
     go None (Some d) s is = absurd s
     go (Some c) None s is = absurd s
 
+-- ---- which sessions are open
+
+-- those at places alone
+pub places_alone : (ks : List Channel) (m : State) → AreSessions places ks m → (c : ℕ) → is_plugged c m ≡ true → (1 ≤ c) × (c ≤ length ks)
+places_alone ks m h zero open_now =
+    (let shut = h.others zero (λ k. (let is = k.1.number in omega (arith, is))) in let f : true ≡ false = sym open_now ∙ shut in absurd (cc))
+places_alone ks m h (suc n) open_now = (omega arith, go (slice_get ks n) refl)
+  where
+    go : (o : Option Channel) → slice_get ks n ≡ o → suc n ≤ length ks
+    go (Some k) e = (let within = slice_get_within ks n k e in omega (arith, within))
+    go None e =
+        (let shut = h.others (suc n) (λ k. none-some k.1.connection (sym e ∙ ap (slice_get ks) (let is = k.1.number in omega (arith, is)) ∙ k.1.there)) in
+        let f : true ≡ false = sym open_now ∙ shut in
+        absurd (cc))
+
+-- and so no others
+pub others_shut : (ks : List Channel) (m : State) → ((c : ℕ) → is_plugged c m ≡ true → (1 ≤ c) × (c ≤ length ks)) → (c : ℕ) → IsUnknown places c ks → is_plugged c m ≡ false
+others_shut ks m alone c unknown = go (is_plugged c m) refl
+  where
+    go : (b : Bool) → is_plugged c m ≡ b → is_plugged c m ≡ false
+    go false e = e
+    go true e =
+        let place = alone c e in
+        let found = item_at ks (c - 1) (omega (arith, place.0, place.1)) in
+        absurd (unknown (c - 1, record { connection = found.0; there = found.1; number = omega (arith, place.0) }))
+
 -- ---- what is kept
 
 -- a channel is as one at its place is kept
@@ -95,8 +124,10 @@ module _ (old new : Driver) (kept : IsKept old) (same : IsSame old new) (setting
     reached = reached;
     numbers = subst (λ n. n < 2 ^ 32) (sym long) kept.numbers;
     names = λ n x there. (each n x there).name;
-    stages = λ n x there. (each n x there).staged;
-    places_alone = λ c open_now. (let place = alone c open_now in (place.0, subst (λ n. c ≤ n) (sym long) place.1));
+    sessions = record {
+      staged = λ n x there. (each n x there).staged;
+      others = others_shut new.channels.items new.desk.now (λ c open_now. (let place = alone c open_now in (place.0, subst (λ n. c ≤ n) (sym long) place.1)));
+    };
     fresh = λ n x there. (each n x there).fresh;
   }
 
@@ -105,14 +136,14 @@ module _ (old new : Driver) (kept : IsKept old) (same : IsSame old new) (setting
   still_placed n x there aside =
       let name = kept.names n x there in
       let a = subst (λ c. IsAside c old.desk.now new.desk.now) (sym name) aside in
-      let s = kept.stages n x there in
+      let s = kept.sessions.staged n x there in
       record { name = name; staged = record { live = a.live ∙ s.live; opened = a.opened ∙ s.opened }; fresh = kept.fresh n x there }
 
   -- where no channel changed, and no session
   pub kept_all : new.channels.items ≡ old.channels.items → ((c : ℕ) → IsAside c old.desk.now new.desk.now) → IsKept new
   kept_all channels aside =
       kept_each (ap length channels) (λ n x there. still_placed n x (ap (λ ks. slice_get ks n) (sym channels) ∙ there) (aside (n + 1)))
-      (λ c open_now. kept.places_alone c (sym (aside c).live ∙ open_now))
+      (λ c open_now. places_alone old.channels.items old.desk.now kept.sessions c (sym (aside c).live ∙ open_now))
 
 -- ---- what others did, ahead of an entry
 
@@ -142,7 +173,7 @@ module _ (old : Driver) (entry : Entry) (reply : Reply) (b : DeskView) (kept : I
   }
 
   pub enters_next : EntersNext entry reply ahead.desk b
-  enters_next = record { steps = h.made.steps; past = h.past }
+  enters_next = record { made = h.made; past = h.past; footing = h.footing }
 
 -- ---- what they leave
 

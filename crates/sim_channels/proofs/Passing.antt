@@ -1,11 +1,11 @@
 -- What is known behind one message.
-use Rattle.std.proofs.Common.{◌≡◌, ◌⊎◌, ℕ, ◌+◌, ◌<◌, true, false, List, [], ◌∷◌, ◌++◌, length, set, refl, sym, ap, ◌∙◌, subst, inl, inr, ⊎_elim, arith}
+use Rattle.std.proofs.Common.{◌≡◌, ◌≢◌, ℕ, ◌+◌, ◌<◌, true, false, List, [], ◌++◌, length, set, refl, sym, ap, ◌∙◌, subst, inl, inr, arith}
 use Rattle.std.specs.Prelude.{Option, Some, None, Result, Ok, Err, OnOk, is_some}
 use Rattle.std.specs.List.{AllByRecursion, slice_get}
 use Rattle.std.specs.Vec.{with_item}
 use Rattle.std.proofs.lemmas.List.{set-set}
 use Rattle.std.proofs.lemmas.Option.{same_Some}
-use Rattle.desk_jobs.specs.Homes.{rest_of}
+use Rattle.machine_desk.specs.Homes.{rest_of}
 use Rattle.policy_lang.specs.declared.Policy.{Policy}
 use Rattle.of10_codec.specs.declared.fault.Bad.{Bad as Fault}
 use Rattle.of10_stream.specs.declared.reassembly.Next.TheVariants.{More}
@@ -27,30 +27,26 @@ use Rattle.machine_steps.specs.declared.job.Job.{Job}
 use Rattle.machine_steps.specs.declared.reply.Reply.{Reply}
 use Rattle.machine_steps.specs.declared.reply.Reply.TheVariants.{NoMemory, Ended, NewState, Job as JobOpened, Overload}
 use Rattle.machine_steps.specs.Admitting.{IsHeard as CanBeHeard}
-use Rattle.machine_steps.specs.Histories.{Turn}
-use Rattle.machine_steps.specs.Machine.{State, most_jobs, session_at}
+use Rattle.machine_steps.specs.Machine.{State, session_at}
 use Rattle.machine_steps.specs.Steps.{HearsInput as StepHears, Steps}
 use Rattle.world_steps.specs.Worlds.{lacks_memory}
 use Rattle.sim_steps.specs.Benches.{MovesAt, is_plugged, slot_at}
-use Rattle.sim_steps.specs.Deeds.{EntersAt, HearsNext as HearsSlot, IsSmooth, NextIs, UnlessLacking}
+use Rattle.sim_steps.specs.Deeds.{EntersAt, HearsNext as HearsSlot, NextIs, UnlessLacking}
 use Rattle.sim_steps.specs.Parts.{IsHeardOut}
 use Rattle.sim_steps.specs.Stretches.{Carried}
 use Rattle.sim_steps.proofs.Moments.{carried_heard}
-use Rattle.sim_steps.proofs.Silent.{IsEasy, carried_along}
+use Rattle.sim_steps.proofs.Silent.{carried_along}
 use Rattle.sim_channels.specs.declared.channel.Channel.{Channel}
 use Rattle.sim_channels.specs.declared.driver.Driver.{Driver}
 use Rattle.machine_desk.specs.declared.hearing.Came.{Came}
 use Rattle.machine_desk.specs.declared.hearing.Came.TheVariants.{Nothing}
-use Rattle.desk_jobs.specs.declared.stopped.Stopped.{Stopped}
-use Rattle.desk_jobs.specs.Arriving.{is_packet}
-use Rattle.sim_channels.specs.Answering.{Answers, IsPlain}
+use Rattle.machine_desk.specs.declared.stopped.Stopped.{Stopped}
 use Rattle.sim_channels.specs.Channels.{CarriedOver, EntersNext, IsFresh, IsKept, IsSame, OthersDid, Tends, WorksAlone, bench, slot_by, slots_of, with_inbound}
-use Rattle.desk_jobs.specs.Driving.{DrivingLaws}
+use Rattle.machine_desk.specs.Driving.{DrivingLaws}
 use Rattle.sim_channels.specs.Passes.{ComesAt, Follows, HasHeard, HearsInput, HearsNext, MakesRoom, MakesRoomFor, Passed, rest_at}
 use Rattle.sim_channels.specs.Waiting.{IsOffered, NoneWaits}
-use Rattle.sim_channels.proofs.Answering.{AllBy, others_along}
+use Rattle.sim_channels.proofs.Answering.{AllBy, Answers, answers_by, others_along}
 use Rattle.sim_channels.proofs.Bytes.{gets_shorter}
-use Rattle.sim_channels.proofs.Crowded.{crowds}
 use Rattle.sim_channels.proofs.Keeping.{elsewhere, reached_sound}
 use Rattle.sim_channels.proofs.Kept.{ChannelAt, is_as_long, is_beside, is_there, kept_but, plugged_at, staged_as, waits_as, while_there}
 use Rattle.sim_channels.proofs.Making.{had_memory}
@@ -62,17 +58,9 @@ use Rattle.sim_channels.proofs.Tended.{by_crew, carried_tends, over_none, over_t
 
 -- ---- what is carried
 
-smooth : (reply : Reply) → (reply ≡ Overload → ⊥) → IsSmooth reply
-smooth Overload few = absurd (few refl)
-smooth reply few = refl
-
-easy : (ts : List Turn) → AllByRecursion IsPlain ts → AllByRecursion IsEasy ts
-easy [] all = tt
-easy (t ∷ ts) all = (record { smooth = smooth t.reply all.0.few; memory = had_memory t.reply all.0.memory }, easy ts all.1)
-
 -- a packet is answered
 over_answers : (old new : Driver) → Answers old.desk new.desk → new.channels.items ≡ old.channels.items → CarriedOver old new
-over_answers old new h channels_same = λ ds long. subst (Carried (bench old ds)) (bench_is ds) (carried_along (bench old ds) h.turns new.desk.now h.leads h.allowed (easy h.turns h.plain))
+over_answers old new h channels_same = λ ds long. subst (Carried (bench old ds)) (bench_is ds) (carried_along (bench old ds) h.turns new.desk.now h.leads h.allowed h.easy)
   where
     bench_is : (ds : List Meaning) → record (bench old ds) { past = old.desk.past ++ h.turns; machine = new.desk.now } ≡ bench new ds
     bench_is ds = λ i. record { past = sym h.past i; machine = new.desk.now; slots = slots_of (sym channels_same i) ds }
@@ -128,7 +116,7 @@ module _ (here : ℕ) (k : Channel) (j : Inbound) (old : Driver) (there : slice_
   pub kept_taken : IsKept old → IsKept taken
   kept_taken kept =
       kept_but here k (with_inbound j k) old taken (record { there = there; channels = refl; same = same_but old taken refl refl }) kept refl kept.reached
-      (record { name = comes.1.0 ∙ kept.names here k there; staged = staged_as k.inbound j old.desk.now comes.1 (kept.stages here k there); fresh = still_fresh kept })
+      (record { name = comes.1.0 ∙ kept.names here k there; staged = staged_as k.inbound j old.desk.now comes.1 (kept.sessions.staged here k there); fresh = still_fresh kept })
       (λ c o. record { live = refl; opened = refl })
 
 pub passed_nothing : (here : ℕ) (old new : Driver) → ComesAt here None old new → IsSame old new → IsKept new → (WorksAlone old → NoneWaits old.desk) → IsOffered here old → Passed here old new Nothing
@@ -191,11 +179,11 @@ pub record Replied (here : ℕ) (old mid : Driver) (reply : Reply) : Type 0 wher
   pub can : CanBeHeard input
   pub at : ChannelAt here k (with_inbound i k) old mid
   pub entered : EntersNext (entries.Heard (here + 1) input) reply old.desk mid.desk
-  pub room : is_packet input ≡ true → WorksAlone old ⊎ (length old.desk.now.jobs < most_jobs)
+  pub few : reply ≢ Overload
   pub memory : lacks_memory reply ≡ false
 
 module _ (here : ℕ) (old mid : Driver) (reply : Reply) (h : Replied here old mid reply) where
-  open h use {laws, kept, now_kept, none, offered, input, k, i, live, next, can, at, entered, room, memory}
+  open h use {laws, kept, now_kept, none, offered, input, k, i, live, next, can, at, entered, memory}
 
   abbrev l : Channel
   l = with_inbound i k
@@ -204,17 +192,10 @@ module _ (here : ℕ) (old mid : Driver) (reply : Reply) (h : Replied here old m
   Hearing = entries.Heard (here + 1) input
 
   steps : Steps old.desk.now Hearing reply mid.desk.now
-  steps = entered.steps
+  steps = entered.made.steps
 
   waits : WorksAlone old → WaitsAs (here + 1) reply mid.desk.now.jobs
   waits alone = laws.jobs old.desk.now (here + 1) input reply mid.desk.now (none alone) steps
-
-  -- no more packets wait than may
-  not_crowded : reply ≡ Overload → ⊥
-  not_crowded e =
-      let many = crowds old.desk.now (here + 1) input reply mid.desk.now e steps in
-      ⊎_elim (λ alone. subst (λ r. WaitsAs (here + 1) r mid.desk.now.jobs) e (waits alone))
-      (λ few. (let most = many.1 in omega (arith, few, most))) (room many.0)
 
   is_open : is_plugged (here + 1) old.desk.now ≡ true
   is_open = plugged_at old here k kept at.there live
@@ -233,7 +214,6 @@ module _ (here : ℕ) (old mid : Driver) (reply : Reply) (h : Replied here old m
       may = (is_open, (slot_by k d, i.from.stream, found, next));
       admitted = can;
       steps = steps;
-      smooth = smooth reply not_crowded;
       slots =
           subst (λ b. UnlessLacking b (slots_of old.channels.items ds) (slots_of mid.channels.items ds) (MovesAt (here + 1) (HearsSlot input) (slots_of old.channels.items ds) (slots_of mid.channels.items ds)))
           (sym memory) moves;
@@ -299,8 +279,9 @@ follows here old mid (JobOpened item) h new f = (heard, fewer here old mid reply
     heard =
         by_crew mid
         (λ alone.
-        (let answers = f.alone alone in
+        (let done = f.alone alone in
         let (one, waits_now, is, its) = waits here old mid reply h (alone_back old mid h.at.same alone) in
+        let answers = answers_by h.laws item done.worked mid.desk new.desk (h.now_kept.crew.alone alone) one waits_now is done.works done.whole in
         let by : AllBy (here + 1) mid.desk.now = subst (AllByRecursion (λ (j : Job). j.connection ≡ here + 1)) (sym waits_now) (its, tt) in
         heard_so here old mid reply h new f.tends (over_answers mid new answers (items_stay h.laws mid new h.now_kept f.tends)) (λ none. answers.none)
         (λ none. others_along h.laws (here + 1) (calls_of mid.desk.past) mid.desk.now answers.turns new.desk.now h.now_kept.reached by answers.leads answers.allowed)))
@@ -316,7 +297,7 @@ follows here old mid (Ended end) h new e =
 follows here old mid (NewState state pruned) h new e =
     let reply = NewState state pruned in
     subst (λ x. Passed here old x (came_of (heard_by reply))) (sym e) (plain here old mid reply h (waits here old mid reply h), fewer here old mid reply h mid (tends_still mid) refl)
-follows here old mid Overload h new e = absurd (not_crowded here old mid Overload h refl)
+follows here old mid Overload h new e = absurd (h.few refl)
 follows here old mid other h new e =
     subst (λ x. Passed here old x (came_of (heard_by other))) (sym e) (plain here old mid other h (waits here old mid other h), fewer here old mid other h mid (tends_still mid) refl)
 
@@ -407,7 +388,7 @@ module _ (laws : DrivingLaws) (here : ℕ) (old new : Driver) (came : Came) (h :
       same = record { footing = same.footing; crew = same.crew };
     };
     entered = enters_next roomy (entries.Heard (here + 1) h.input) reply h.hearing.desk kept_roomy entered;
-    room = λ packet. ⊎_elim (λ alone. inl (alone_on first h.room room.tends.same alone)) (λ few. inr few) (room.room packet before.desk others.meanwhile);
+    few = h.hears.does.asks.enters.room;
     memory = had_memory reply h.hears.does.asks.memory;
   }
 

@@ -15,12 +15,12 @@ use Rattle.sim_channels.specs.declared.channel.Channel.{Channel}
 use Rattle.machine_desk.specs.declared.inbound.Stage.{Stage}
 use Rattle.sim_channels.specs.declared.driver.Driver.{Driver}
 use Rattle.sim_channels.specs.Channels.{Fits, IsKept, bench, slots_of}
-use Rattle.desk_jobs.specs.Driving.{DrivingLaws}
+use Rattle.machine_desk.specs.Driving.{DrivingLaws}
 use Rattle.sim_channels.specs.Resting.{DoesAt}
 use Rattle.sim_channels.specs.Waiting.{IsAtRest, IsAtRestBut, IsHeard, IsOffered, IsTaken, WhilePlugged}
 use Rattle.sim_channels.proofs.Keeping.{messages_same}
 use Rattle.sim_channels.proofs.Kept.{plugged_at}
-use Rattle.sim_channels.proofs.Others.{alone_back}
+use Rattle.sim_channels.proofs.Others.{alone_back, places_alone}
 use Rattle.sim_channels.proofs.Resting.{stage_plugged}
 use Rattle.sim_channels.proofs.Slots.{item_at, slots_alike}
 use Rattle.sim_channels.specs.Hearing.{KeepsChannels}
@@ -80,7 +80,7 @@ while_still P at d e same h k there plugged = h k (sym same ∙ there) plugged
 pub taken_still : (laws : DrivingLaws) (at : ℕ) (d e : Driver) → IsKept d → IsKept e → session_at (at + 1) e.desk.now ≡ session_at (at + 1) d.desk.now → IsTaken at d → IsTaken at e
 taken_still laws at d e kept also session taken k there plugged =
     let open_before : is_plugged (at + 1) d.desk.now ≡ true = sym (ap is_some session) ∙ plugged_at e at k also there plugged in
-    let place = kept.places_alone (at + 1) open_before in
+    let place = places_alone d.channels.items d.desk.now kept.sessions (at + 1) open_before in
     let was = item_at d.channels.items at (omega (arith, place.1)) in
     messages_same laws (at + 1) d.desk.now e.desk.now kept.reached also.reached open_before session ∙ taken was.0 was.1 (stage_plugged d at was.0 kept was.1 open_before)
 

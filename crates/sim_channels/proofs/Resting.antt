@@ -1,4 +1,5 @@
 -- A driver at rest has a still bench, and hears in order.
+use Rattle.sim_channels.proofs.Others.{places_alone}
 use Rattle.std.proofs.Common.{◌≡◌, ◌⊎◌, ℕ, ◌+◌, ◌-◌, true, List, [], sym, ap, ◌∙◌, subst, inl, inr, arith}
 use Rattle.std.specs.Prelude.{Some}
 use Rattle.std.specs.List.{slice_get}
@@ -32,7 +33,7 @@ stage_plugged driver at k kept there open_now = live_is k.inbound.stage (sym (st
 
 pub plugged_by : (driver : Driver) (c : ℕ) → IsKept driver → is_plugged c driver.desk.now ≡ true → PluggedBy c driver
 plugged_by driver c kept open_now =
-    let place = kept.places_alone c open_now in
+    let place = places_alone driver.channels.items driver.desk.now kept.sessions c open_now in
     let found = item_at driver.channels.items (c - 1) (omega (arith, place.0, place.1)) in
     let is : c ≡ (c - 1) + 1 = omega (arith, place.0) in
     record { at = c - 1; place = is; channel = found.0; there = found.1; plugged = stage_plugged driver (c - 1) found.0 kept found.1 (ap (λ n. is_plugged n driver.desk.now) (sym is) ∙ open_now) }

@@ -4,7 +4,7 @@ use Rattle.std.specs.Prelude.{Some}
 use Rattle.std.specs.List.{slice_get}
 use Rattle.std.proofs.lemmas.Option.{none-some, same_Some}
 use Rattle.device_port.specs.Devices.{Meaning}
-pub use Rattle.desk_jobs.proofs.Lists.{set_beside}
+pub use Rattle.machine_desk.proofs.Lists.{set_beside}
 use Rattle.sim_steps.specs.Benches.{MovesAt, Slot, slot_at}
 use Rattle.sim_channels.specs.declared.channel.Channel.{Channel}
 use Rattle.sim_channels.specs.Channels.{slot_by, slots_of}

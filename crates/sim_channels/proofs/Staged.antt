@@ -6,33 +6,29 @@ use Rattle.std.specs.Vec.{with_item}
 use Rattle.std.proofs.Math.Nat.{ℕ_set}
 use Rattle.std.proofs.lemmas.Option.{get_or_from_slice_get}
 use Rattle.machine_desk.specs.Desks.{DeskView, Enters}
-use Rattle.machine_desk.specs.Hearing.{Closes, Hears, IsStaged, Opens, heard_by, stage_heard, stage_opened, was_begun}
+use Rattle.machine_desk.specs.Hearing.{Closes, Hears, IsStaged, Opens, stage_heard, stage_opened, was_begun}
 use Rattle.machine_desk.specs.declared.hearing.Heard.{Heard}
 use Rattle.machine_desk.specs.declared.hearing.Heard.TheVariants as heards
 use Rattle.machine_desk.specs.declared.inbound.Inbound.{Inbound}
 use Rattle.machine_desk.specs.declared.inbound.Stage.{Stage}
 use Rattle.machine_desk.specs.declared.inbound.Stage.TheVariants.{Live, Over, Unopened}
-use Rattle.machine_moves.specs.Told.{WaitsAs, is_end}
+use Rattle.machine_moves.specs.Told.{is_end}
 use Rattle.machine_steps.specs.declared.entry.Entry.{Entry}
 use Rattle.machine_steps.specs.declared.entry.Entry.TheVariants as entries
 use Rattle.machine_steps.specs.declared.entry.Input.{Input}
-use Rattle.machine_steps.specs.declared.job.Job.{Job}
 use Rattle.machine_steps.specs.declared.reply.Reply.{Reply}
-use Rattle.machine_steps.specs.declared.reply.Reply.TheVariants.{Ended, NewState, Job as JobOpened}
 use Rattle.machine_steps.specs.Machine.{State, was_opened}
 use Rattle.machine_steps.specs.Steps.{Steps}
 use Rattle.world_steps.specs.Worlds.{lacks_memory}
 use Rattle.sim_channels.specs.declared.channel.Channel.{Channel}
 use Rattle.sim_channels.specs.declared.driver.Driver.{Driver}
 use Rattle.sim_channels.specs.Channels.{IsKept, IsSame, with_inbound}
-use Rattle.desk_jobs.specs.Driving.{DrivingLaws}
-use Rattle.sim_channels.specs.Passes.{WaitsBy}
+use Rattle.machine_desk.specs.Driving.{DrivingLaws}
 use Rattle.sim_channels.specs.Staging.{ClosesAt, HasStage, OpensAt}
-use Rattle.sim_channels.specs.Waiting.{NoneWaits}
 use Rattle.sim_channels.proofs.Keeping.{bears_on, elsewhere}
 use Rattle.sim_channels.proofs.Kept.{kept_session}
 use Rattle.sim_channels.proofs.Making.{had_memory}
-use Rattle.sim_channels.proofs.Others.{ahead, kept_ahead, others_ahead, tends_none, tends_of}
+use Rattle.sim_channels.proofs.Others.{ahead, kept_ahead}
 use Rattle.sim_channels.proofs.Places.{EntersAndStages}
 use Rattle.sim_channels.proofs.Slots.{set_same}
 
@@ -56,13 +52,6 @@ never_unopened false e = absurd (cc)
 still_unopened : (heard : Heard) (stage : Stage) → stage_heard heard stage ≡ Unopened → stage ≡ Unopened
 still_unopened heards.Ended stage e = absurd (cc)
 still_unopened heard stage e = e
-
--- a packet that was heard waits
-waits_by : (c : ℕ) (reply : Reply) (jobs : List Job) → WaitsAs c reply jobs → WaitsBy (heard_by reply) jobs
-waits_by c (JobOpened item) jobs (j, alone, is, its) = (j, alone, is)
-waits_by c (Ended end) jobs w = tt
-waits_by c (NewState state pruned) jobs w = tt
-waits_by c other jobs w = tt
 
 -- that takes no memory
 pub gone_enough : (c : ℕ) (fault : Bool) (old : State) (reply : Reply) (new : State) → Steps old (entries.Gone c fault) reply new → lacks_memory reply ≡ false
@@ -111,7 +100,7 @@ module _ (laws : DrivingLaws) (old new : Driver) (at : ℕ) (k : Channel) (j : I
 
     pub kept_opened : k.inbound.stage ≡ Unopened → (was_opened k.inbound.connection old.desk.now ≡ false → IsStaged j new.desk.now) → IsKept new
     kept_opened unopened staged =
-        kept_staged (entries.Open k.inbound.connection) h.reply (stage_opened (is_end h.reply)) h.asks.enters h.stage (staged ((kept.stages at k there).opened ∙ ap was_begun unopened))
+        kept_staged (entries.Open k.inbound.connection) h.reply (stage_opened (is_end h.reply)) h.asks.enters h.stage (staged ((kept.sessions.staged at k there).opened ∙ ap was_begun unopened))
         (λ e. absurd (never_unopened (is_end h.reply) e)) others
 
   module _ (fault : Bool) (h : Closes fault old.desk k.inbound new.desk j) where
@@ -130,21 +119,13 @@ module _ (laws : DrivingLaws) (old new : Driver) (at : ℕ) (k : Channel) (j : I
 
     pub kept_closed : k.inbound.stage ≡ Live → (was_begun k.inbound.stage ≡ true → IsStaged k.inbound old.desk.now → IsStaged j new.desk.now) → IsKept new
     kept_closed live staged =
-        kept_staged (entries.Gone k.inbound.connection fault) h.reply Over h.enters h.stage (staged (ap was_begun live) (kept.stages at k there)) (λ e. absurd (cc)) others
+        kept_staged (entries.Gone k.inbound.connection fault) h.reply Over h.enters h.stage (staged (ap was_begun live) (kept.sessions.staged at k there)) (λ e. absurd (cc)) others
 
   module _ (input : Input) (heard : Heard) (h : Hears input heard old.desk k.inbound new.desk j) where
     pub kept_heard : (IsStaged k.inbound old.desk.now → IsStaged j new.desk.now) → IsKept new
     kept_heard staged =
-        kept_staged (entries.Heard k.inbound.connection input) h.reply (stage_heard heard k.inbound.stage) h.asks.enters h.stage (staged (kept.stages at k there))
+        kept_staged (entries.Heard k.inbound.connection input) h.reply (stage_heard heard k.inbound.stage) h.asks.enters h.stage (staged (kept.sessions.staged at k there))
         (still_unopened heard k.inbound.stage) others
-
-    pub waits_heard : NoneWaits old.desk → WaitsBy heard new.desk.now.jobs
-    waits_heard none =
-        let entry = entries.Heard k.inbound.connection input in
-        let enters = h.asks.enters in
-        let jobs = tends_none laws old (ahead old entry h.reply new.desk kept enters) kept (tends_of old _ (others_ahead old entry h.reply new.desk kept enters)) none in
-        subst (λ x. WaitsBy x new.desk.now.jobs) (sym h.heard_is)
-        (waits_by k.inbound.connection h.reply new.desk.now.jobs (laws.jobs enters.between k.inbound.connection input h.reply new.desk.now jobs enters.made.steps))
 
 -- the same, as a channel was opened or closed
 

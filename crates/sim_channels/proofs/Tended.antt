@@ -1,9 +1,10 @@
 -- What the driver does with others about packets that wait, and what that leaves.
-use Rattle.std.proofs.Common.{◌≡◌, ℕ, ◌<◌, Bool, true, false, List, [], length, append-nil, refl, sym, ap, ◌∙◌, subst, inl, inr}
+use Rattle.std.proofs.Common.{arith, ◌≡◌, ℕ, ◌<◌, Bool, true, false, List, [], length, append-nil, refl, sym, ap, ◌∙◌, subst, inl, inr}
+use Rattle.std.proofs.lemmas.Bool.Decides.{nat_tests}
 use Rattle.std.specs.Prelude.{Option, None, Some, is_some}
 use Rattle.std.specs.List.{slice_get}
 use Rattle.sim_channels.specs.declared.channel.Channel.{Channel}
-use Rattle.desk_jobs.specs.Homes.{rest_of}
+use Rattle.machine_desk.specs.Homes.{rest_of}
 use Rattle.device_port.specs.Devices.{Meaning}
 use Rattle.machine_steps.specs.Machine.{session_at}
 use Rattle.machine_steps.specs.Sound.{IsSound}
@@ -11,23 +12,22 @@ use Rattle.machine_steps.specs.Waiting.{Waiting}
 use Rattle.worker_crew.specs.Takers.{places}
 use Rattle.packet_workers.specs.declared.worked.Worked.{Worked}
 use Rattle.machine_desk.specs.Desks.{DeskView}
-use Rattle.machine_desk.specs.Working.{RoundsArePlain, RoundsClose, Works}
+use Rattle.machine_desk.specs.Working.{Works}
 use Rattle.machine_desk.specs.Hearing.{came_of}
 use Rattle.machine_desk.specs.declared.hearing.Heard.{Heard}
 use Rattle.machine_desk.specs.declared.hearing.Heard.TheVariants as heards
-use Rattle.desk_jobs.specs.Laws.{Meanwhile, NothingIsLeft, RoomStays, TendingIsAllowed}
-use Rattle.desk_jobs.specs.declared.tending.Handed.{Handed}
-use Rattle.desk_jobs.specs.Tending.{Done, HandsOver, IsInHand, IsWhole, Reaches, Room, Sight}
+use Rattle.machine_desk.specs.Laws.{Meanwhile, CountIsOfJobs, NothingIsLeft, TendingIsAllowed}
+use Rattle.machine_desk.specs.declared.tending.Handed.{Handed}
+use Rattle.machine_desk.specs.Tending.{Done, HandsOver, IsInHand, IsWhole, Reaches, Room, Sight}
 use Rattle.sim_steps.specs.Stretches.{Carried}
 use Rattle.sim_steps.proofs.Joining.{carried_none, carried_then}
 use Rattle.sim_steps.proofs.Others.{carried_beside}
-use Rattle.desk_jobs.specs.declared.crew.Crew.{Crew}
+use Rattle.machine_desk.specs.declared.crew.Crew.{Crew}
 use Rattle.sim_channels.specs.declared.driver.Driver.{Driver}
-use Rattle.desk_jobs.specs.Crews.{BySights, IsCrewStill, SameCrew, sight}
+use Rattle.machine_desk.specs.Crews.{BySights, IsCrewStill, SameCrew, sight}
 use Rattle.sim_channels.specs.Channels.{CarriedOver, IsKept, IsSame, Tends, WorksAlone, bench}
-use Rattle.desk_jobs.specs.Driving.{DrivingLaws}
-use Rattle.sim_channels.specs.Passes.{Attends, AwaitsAll, Beside, HasHeard, HearsBy, MakesRoom, Passed, WaitsBy, is_state, rest_at}
-use Rattle.sim_channels.proofs.Answering.{answers_by}
+use Rattle.machine_desk.specs.Driving.{DrivingLaws}
+use Rattle.sim_channels.specs.Passes.{Attends, AwaitsAll, Beside, HasHeard, HearsBy, MakesRoom, Passed, is_state, rest_at}
 use Rattle.sim_channels.proofs.Keeping.{reached_sound}
 use Rattle.sim_channels.proofs.Others.{alone_on, channel_stays, items_stay, same_desk, same_driver, same_then, tends_beside, tends_kept, tends_learning}
 
@@ -65,13 +65,13 @@ module _ (old : Driver) (desk : DeskView) (c d : Crew) (is : old.crew ≡ Some c
     sound : Meanwhile old.desk desk → IsSound desk.now
     sound meanwhile = reached_sound laws desk.now (tends_kept laws old Later kept (tends meanwhile)).reached
 
-    pub room_by : RoomStays → Reaches Room (sight old.desk c) (sight desk d) → MakesRoom old Later
-    room_by stays r =
+    pub room_by : CountIsOfJobs → Reaches Room (sight old.desk c) (sight desk d) → MakesRoom old Later
+    room_by count r =
         let meanwhile = allowed.reaches Room (sight old.desk c) (sight desk d) r in
         record {
           tends = tends meanwhile;
           alone = λ none. absurd (beside none);
-          room = λ e m. inr (stays (sight old.desk c) (sight desk d) e (sound meanwhile) r m);
+          room = inr (let few = count Room (sight old.desk c) (sight desk d) r in grind (arith, nat_tests));
           asked = sights (λ n s t. Reaches Room s t) r;
         }
 
@@ -95,7 +95,7 @@ pub room_alone : (driver : Driver) → WorksAlone driver → MakesRoom driver dr
 room_alone driver none = record {
   tends = tends_still driver;
   alone = λ alone. refl;
-  room = λ d m. inl none;
+  room = inl none;
   asked = no_sights (λ n s t. Reaches Room s t) driver.desk driver.desk driver.crew driver.crew none;
 }
 
@@ -107,11 +107,11 @@ done_alone driver none = record {
   asked = no_sights (λ n s t. Reaches Done s t) driver.desk driver.desk driver.crew driver.crew none;
 }
 
-pub worked_alone : (old : Driver) (desk : DeskView) (item : Waiting) (worked : Worked) → RoundsArePlain → RoundsClose → IsKept old → WorksAlone old → desk.footing ≡ old.desk.footing
-    → (WorksAlone old → WaitsBy (heards.Packet item) old.desk.now.jobs) → Works item worked old.desk desk → IsWhole worked → Attends item old (record old { desk = desk })
-worked_alone old desk item worked plain close kept alone footing waits works whole = record {
+pub worked_alone : (old : Driver) (desk : DeskView) (item : Waiting) (worked : Worked) → WorksAlone old → desk.footing ≡ old.desk.footing → Works item worked old.desk desk
+    → IsWhole worked → Attends item old (record old { desk = desk })
+worked_alone old desk item worked alone footing works whole = record {
   tends = record { meanwhile = worked_between item worked old.desk desk works; rest = refl; same = same_desk old (record old { desk = desk }) refl footing };
-  alone = λ none. answers_by plain close item worked old.desk desk (kept.crew.alone none) (waits none) works whole;
+  alone = λ none. record { worked = worked; works = works; whole = whole };
   hands = no_sights (λ n s t. (handed : Handed) × HandsOver handed item n s t × IsInHand handed) old.desk desk old.crew old.crew alone;
 }
 

@@ -1,23 +1,19 @@
 -- The driver of the machine and devices: the bench that it is with the devices, and what it keeps.
-use Rattle.std.specs.Prelude.{◌≡◌, ℕ, ◌+◌, ◌^◌, ◌<◌, ◌≤◌, true, List, [], ◌∷◌, ◌++◌, length, Some}
+use Rattle.std.specs.Prelude.{◌≡◌, ℕ, ◌+◌, ◌^◌, ◌<◌, List, [], ◌∷◌, length, Some}
 use Rattle.std.specs.List.{slice_get}
 use Rattle.maple_base.specs.declared.decision.Settings.{Settings}
 use Rattle.policy_lang.specs.declared.Policy.{Policy}
 use Rattle.of10_stream.specs.Steps.{beginning}
 use Rattle.device_port.specs.Devices.{Meaning}
 use Rattle.machine_desk.specs.Desks.{DeskView}
-use Rattle.desk_jobs.specs.Connections.{AreStaged, Connections}
-use Rattle.desk_jobs.specs.Crews.{MayHave}
-use Rattle.desk_jobs.specs.Homes.{Home, IsAlone, IsSame as IsSameAt, IsTended}
-use Rattle.desk_jobs.specs.Laws.{Meanwhile}
-use Rattle.machine_steps.specs.declared.entry.Entry.{Entry}
-use Rattle.machine_steps.specs.declared.reply.Reply.{Reply}
+use Rattle.machine_desk.specs.Connections.{AreSessions, Connections}
+use Rattle.machine_desk.specs.Homes.{Home, IsAlone, IsSame as IsSameAt, IsStaffed, IsTended}
+use Rattle.machine_desk.specs.Laws.{Meanwhile}
+pub use Rattle.machine_desk.specs.Next.{EntersNext}
 use Rattle.machine_steps.specs.Histories.{Leads, Turn}
 use Rattle.machine_steps.specs.Machine.{State, opening}
 use Rattle.machine_steps.specs.Sound.{AreInRange}
-use Rattle.machine_steps.specs.Steps.{Steps}
-use Rattle.sim_steps.specs.Benches.{Slot, Bench, is_plugged, opening_bench}
-use Rattle.sim_steps.specs.Deeds.{turn_by}
+use Rattle.sim_steps.specs.Benches.{Slot, Bench, opening_bench}
 use Rattle.sim_steps.specs.Stretches.{Carried}
 use Rattle.sim_channels.specs.declared.channel.Channel.{Channel}
 use Rattle.machine_desk.specs.declared.inbound.Inbound.{Inbound}
@@ -89,12 +85,11 @@ AreNumbered channels = (at : ℕ) (k : Channel) → slice_get channels at ≡ So
 
 -- what the driver knows of the machine: who else uses it, and which stages its sessions have; a device that never was plugged in has a fresh channel
 pub record IsKept (driver : Driver) : Type 0 where
-  pub crew : MayHave driver.crew driver.desk.footing.parts driver.desk.now
+  pub crew : IsStaffed home driver
   pub reached : IsReached driver.desk.now
   pub numbers : length driver.channels.items < 2 ^ 32
   pub names : AreNumbered driver.channels.items
-  pub stages : AreStaged places.inbound driver.channels.items driver.desk.now
-  pub places_alone : (c : ℕ) → is_plugged c driver.desk.now ≡ true → (1 ≤ c) × (c ≤ length driver.channels.items)
+  pub sessions : AreSessions places driver.channels.items driver.desk.now
   pub fresh : (at : ℕ) (k : Channel) → slice_get driver.channels.items at ≡ Some k → k.inbound.stage ≡ Unopened → IsFresh k
 
 -- the channels are those of these devices, and count the messages that wait in them
@@ -121,13 +116,6 @@ pub record OthersDid (old new : Driver) : Type 0 where
 -- the driver and others did what anybody may, of packets that wait, and nothing else changed but the crew's pass
 abbrev pub Tends : Driver → Driver → Type 0
 Tends old new = IsTended home old new
-
--- ---- an entry of the driver itself
-
--- the machine made a turn, and nobody came between
-pub record EntersNext (entry : Entry) (reply : Reply) (a b : DeskView) : Type 0 where
-  pub steps : Steps a.now entry reply b.now
-  pub past : b.past ≡ a.past ++ turn_by a.now entry reply b.now ∷ []
 
 -- ---- without a call of a device
 

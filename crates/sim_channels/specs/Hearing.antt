@@ -1,7 +1,7 @@
 -- What hearing leaves of the channels.
 use Rattle.std.specs.Prelude.{◌≡◌, ℕ, length, Some}
 use Rattle.std.specs.List.{slice_get}
-use Rattle.desk_jobs.specs.Connections.{OthersStay}
+use Rattle.machine_desk.specs.Connections.{OthersStay}
 use Rattle.sim_channels.specs.declared.channel.Channel.{Channel}
 use Rattle.sim_channels.specs.declared.driver.Driver.{Driver}
 use Rattle.sim_channels.specs.Channels.{places}

@@ -1,8 +1,7 @@
 -- Channels says which bench the driver is with its devices, and what it keeps of each channel; Waiting, what is left to do; Resting, what keeps that;
 -- Hearing, what hearing leaves of the channels; Staging, how a session stands, and what opens and ends it; Turns, in which devices a message waits.
--- Answering says that a packet was answered, Passes, what is known behind one message that was heard, Looking, behind a frame that came to a device.
+-- Passes says what is known behind one message that was heard, Looking, behind a frame that came to a device.
 -- Delivering serves private contracts, but for Leaves, with which leaving a device is said.
-pub mod Answering
 pub mod Channels
 pub mod Delivering
 pub mod Hearing

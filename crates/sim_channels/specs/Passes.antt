@@ -1,23 +1,16 @@
 -- One message that is heard: what comes next on a channel, what its reply brings about, and what is known behind both.
-use Rattle.std.specs.Prelude.{◌≡◌, ◌⊎◌, ℕ, ◌<◌, Bool, true, false, List, [], ◌∷◌, set, Option, Some, None}
-use Rattle.std.specs.List.{slice_get}
+use Rattle.std.specs.Prelude.{◌≡◌, ℕ, ◌<◌, Bool, true, false, Option, Some, None}
 use Rattle.machine_steps.specs.declared.entry.Input.{Input}
-use Rattle.machine_steps.specs.declared.job.Job.{Job}
-use Rattle.machine_steps.specs.Steps.{item_of}
 use Rattle.machine_steps.specs.Waiting.{Waiting}
 use Rattle.machine_desk.specs.declared.hearing.Came.{Came}
 use Rattle.machine_desk.specs.declared.hearing.Came.TheVariants.{Nothing, Ended, State}
 use Rattle.machine_desk.specs.Hearing.{Comes, Hears, came_of}
-use Rattle.desk_jobs.specs.Connections.{Fills, Moves, rest_at as rest_at_index}
-use Rattle.desk_jobs.specs.Homes.{Attends as AttendsAt, Beside as BesideAt, Follows as FollowsAt, MakesRoom as MakesRoomAt, MakesRoomFor as MakesRoomForAt}
-use Rattle.desk_jobs.specs.Tending.{Done, Reaches, Sight}
-use Rattle.machine_desk.specs.declared.inbound.Inbound.{Inbound}
+use Rattle.machine_desk.specs.Connections.{Fills, Moves, rest_at as rest_at_index}
+use Rattle.machine_desk.specs.Homes.{Attends as AttendsAt, AwaitsAll as AwaitsAllAt, Beside as BesideAt, Follows as FollowsAt, MakesRoom as MakesRoomAt, MakesRoomFor as MakesRoomForAt}
+use Rattle.machine_desk.specs.Tending.{Sight}
 use Rattle.machine_desk.specs.declared.hearing.Heard.{Heard}
-use Rattle.machine_desk.specs.declared.hearing.Heard.TheVariants as heard
-use Rattle.sim_channels.specs.Answering.{Answers}
-use Rattle.sim_channels.specs.Channels.{CarriedOver, IsKept, IsSame, Tends, WorksAlone, home, places, with_inbound}
+use Rattle.sim_channels.specs.Channels.{CarriedOver, IsKept, IsSame, WorksAlone, home, places, with_inbound}
 use Rattle.sim_channels.specs.Waiting.{IsHeard, IsOffered, NoneWaits, StaysBut}
-use Rattle.sim_channels.specs.declared.channel.Channel.{Channel}
 use Rattle.sim_channels.specs.declared.driver.Driver.{Driver}
 use Rattle.sim_channels.specs.Hearing.{KeepsChannels}
 
@@ -27,30 +20,22 @@ use Rattle.sim_channels.specs.Hearing.{KeepsChannels}
 abbrev pub HearsAt : ℕ → Input → Heard → Driver → Driver → Type 0
 HearsAt here input heard old new = Moves places with_inbound here (Hears input heard) old new
 
--- a packet that was heard waits, and no other
-abbrev pub WaitsBy : Heard → List Job → Type 0
-WaitsBy (heard.Packet item) jobs = (j : Job) × (jobs ≡ j ∷ []) × (item ≡ item_of j)
-WaitsBy rest jobs = Unit {0}
-
 abbrev pub Beside : (ℕ → Sight → Sight → Type 0) → Driver → Driver → Type 0
 Beside R old new = BesideAt home R old new
 
 -- a packet is answered, or handed over to who works beside
 abbrev pub Attends : Waiting → Driver → Driver → Type 0
-Attends item old new = AttendsAt home Answers item old new
+Attends item old new = AttendsAt home item old new
 
 -- what is done about an input
 abbrev pub Follows : Heard → Driver → Driver → Type 0
-Follows heard old new = FollowsAt home (λ item. Answers) heard old new
+Follows heard old new = FollowsAt home heard old new
 
 -- no packet waits, where somebody works beside
-pub record AwaitsAll (old new : Driver) : Type 0 where
-  pub tends : Tends old new
-  pub alone : WorksAlone old → new ≡ old
-  pub none : WorksAlone old ⊎ NoneWaits new.desk
-  pub asked : Beside (λ n s t. Reaches Done s t) old new
+abbrev pub AwaitsAll : Driver → Driver → Type 0
+AwaitsAll old new = AwaitsAllAt home old new
 
--- there is room for a packet, whatever others do until it is heard
+-- there is room for a packet, or nobody works beside
 abbrev pub MakesRoom : Driver → Driver → Type 0
 MakesRoom old new = MakesRoomAt home old new
 

@@ -1,14 +1,13 @@
 -- What is left to do at a place, of those whose session is open: what the machine has for the device, what was taken out for it, what came from it.
-use Rattle.std.specs.Prelude.{◌≡◌, ◌⊎◌, ℕ, ◌+◌, [], Some}
-use Rattle.std.specs.List.{slice_get}
-use Rattle.desk_jobs.specs.Connections.{IsDone as IsDoneAt, IsTaken as IsTakenAt, OthersStay, WhileLive}
-pub use Rattle.desk_jobs.specs.Homes.{NoneWaits}
+use Rattle.std.specs.Prelude.{◌≡◌, ℕ, ◌+◌, []}
+use Rattle.machine_desk.specs.Connections.{IsDone as IsDoneAt, IsOver, IsTaken as IsTakenAt, OthersStay, WhileLive}
+use Rattle.machine_desk.specs.Homes.{IsQuiet as IsQuietAt, LeavesNone}
+pub use Rattle.machine_desk.specs.Homes.{NoneWaits}
 use Rattle.machine_steps.specs.Machine.{session_at}
 use Rattle.sim_steps.specs.Parts.{IsHeardOut}
 use Rattle.sim_channels.specs.declared.channel.Channel.{Channel}
-use Rattle.machine_desk.specs.declared.inbound.Stage.TheVariants.{Over}
 use Rattle.sim_channels.specs.declared.driver.Driver.{Driver}
-use Rattle.sim_channels.specs.Channels.{WorksAlone, places}
+use Rattle.sim_channels.specs.Channels.{WorksAlone, home, places}
 
 -- it holds of the channel with this index, where its session is open
 abbrev pub WhilePlugged : (Channel → Type 0) → ℕ → Driver → Type 0
@@ -28,7 +27,7 @@ IsHeard at driver = WhilePlugged (λ k. IsHeardOut k.inbound.from.stream) at dri
 
 -- the device with this index was left, or never had a place: its session is over
 abbrev pub IsLeft : ℕ → Driver → Type 0
-IsLeft at driver = (k : Channel) → slice_get driver.channels.items at ≡ Some k → k.inbound.stage ≡ Over
+IsLeft at driver = IsOver places at driver
 
 -- ---- the machine
 
@@ -38,7 +37,7 @@ IsDone driver = IsDoneAt places driver
 
 -- nobody changes the machine but the driver: there is nobody, or no packet waits that somebody could answer
 abbrev pub IsQuiet : Driver → Type 0
-IsQuiet driver = WorksAlone driver ⊎ NoneWaits driver.desk
+IsQuiet driver = IsQuietAt home driver
 
 -- ---- the driver
 
@@ -50,7 +49,7 @@ pub record IsAtRest (driver : Driver) : Type 0 where
 
 -- nothing is left to do but to take out and offer
 pub record IsHeardThrough (driver : Driver) : Type 0 where
-  pub jobs : WorksAlone driver → NoneWaits driver.desk
+  pub jobs : LeavesNone home driver
   pub offered : (at : ℕ) → IsOffered at driver
   pub heard : (at : ℕ) → IsHeard at driver
 

@@ -1,13 +1,11 @@
 // Who works beside the driver.
 ghost use Rattle.std.specs.Prelude.{◌≡◌, not, OnOk, is_some};
-ghost use Rattle.machine_desk.specs.declared.hearing.Heard.TheVariants.{Packet};
-ghost use Rattle.sim_channels.specs.Channels.{IsKept, IsSame, WorksAlone};
-ghost use Rattle.sim_channels.specs.Passes.{Attends, AwaitsAll, MakesRoom, WaitsBy};
+ghost use Rattle.sim_channels.specs.Channels.{IsKept, IsSame};
+ghost use Rattle.sim_channels.specs.Passes.{Attends, AwaitsAll, MakesRoom};
 
 use crate::{Driver, Stopped};
 use core_machine::JobItem;
-use desk_jobs::{Handed, answered, driving_laws, tending_laws};
-use machine_desk::working_laws;
+use machine_desk::{Handed, answered, driving_laws, tending_laws};
 use packet_workers::Gate;
 use std::sync::Wait;
 
@@ -19,7 +17,7 @@ impl<'h> Driver<'h> {
         self.crew.is_none()
     }
 
-    // Beside workers: waits until the machine takes a further packet in, whatever they do then.
+    // Beside workers: waits until the machine takes a further packet in.
     #[tactic(auto, using(crate::proofs::Tended::same_beside))]
     pub(crate) fn make_room<R: Wait, G: Gate>(&mut self, rt: &R, gate: &G) -> Result<(), Stopped>
         requires kept { IsKept self.old }
@@ -58,11 +56,9 @@ impl<'h> Driver<'h> {
         item: JobItem,
     ) -> Result<(), Stopped>
         requires kept { IsKept self.old }
-        requires waits { WorksAlone self.old → WaitsBy (Packet item) self.old.desk.now.jobs }
         ensures attends { OnOk result (Attends item self.old self.new) }
         ensures same { IsSame self.old self.new }
     {
-        working_laws();
         tending_laws();
         match &mut self.crew {
             None => answered(self.desk.work(rt, self.alloc, item, gate)),

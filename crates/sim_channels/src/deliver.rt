@@ -8,9 +8,8 @@ ghost use Rattle.sim_channels.specs.Staging.{HasStage};
 ghost use Rattle.sim_channels.specs.Waiting.{IsAtRest, IsDone, IsHeard, IsHeardThrough, IsOffered, IsQuiet, IsTaken, NoneWaits, StaysBut};
 
 use crate::{Driver, Stopped};
-use desk_jobs::driving_laws;
 use device_port::Device;
-use machine_desk::Stage;
+use machine_desk::{Stage, driving_laws};
 use packet_workers::Gate;
 use std::sync::Wait;
 

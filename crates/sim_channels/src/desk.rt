@@ -9,9 +9,8 @@ ghost use Rattle.machine_desk.specs.Reports.{ReportsBy};
 ghost use Rattle.machine_desk.specs.declared.report.ReportStop.TheVariants as stops;
 
 use crate::Driver;
-use desk_jobs::Crew;
 use env_cells::Update;
-use machine_desk::{Desk, DeskStop, ReportStop};
+use machine_desk::{Crew, Desk, DeskStop, ReportStop};
 use maple_io::Sink;
 use std::alloc::Global;
 use std::sync::Wait;

@@ -3,7 +3,7 @@ ghost use Rattle.std.specs.Prelude.{◌≡◌, ℕ, ◌^◌, ◌<◌, [], IfErr,
 ghost use Rattle.std.specs.List.{AllByRecursion};
 ghost use Rattle.sim_steps.specs.Showing.{AllIdle};
 ghost use Rattle.world_steps.specs.Worlds.{messages_for};
-ghost use Rattle.desk_jobs.specs.Crews.{MayHave};
+ghost use Rattle.machine_desk.specs.Crews.{MayHave};
 ghost use Rattle.machine_desk.specs.Openings.{IsAtStart};
 ghost use Rattle.machine_steps.specs.Sound.{AreInRange};
 ghost use Rattle.sim_channels.specs.Channels.{AreNumbered, Fits, bench, bench_at_start};
@@ -12,9 +12,8 @@ ghost use Rattle.sim_channels.specs.Waiting.{IsAtRest};
 
 use crate::Channel;
 use crate::outbox::{connection_of, messages_for};
-use desk_jobs::Crew;
 use device_port::Device;
-use machine_desk::{Desk, Inbound};
+use machine_desk::{Crew, Desk, Inbound};
 use maple_base::{Bytes, NoMemory};
 use message_blocks::Block;
 use std::alloc::Global;

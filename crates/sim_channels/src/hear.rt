@@ -1,14 +1,15 @@
 // What a device appended is heard.
 ghost use Rattle.std.specs.Prelude.{◌<◌, length, OnOk, IfOk, IfSome};
+ghost use Rattle.machine_desk.specs.Arriving.{TakesIn};
 ghost use Rattle.machine_steps.specs.Admitting.{IsHeard};
-ghost use Rattle.sim_channels.specs.Channels.{IsKept, IsSame, WorksAlone};
-ghost use Rattle.sim_channels.specs.Waiting.{IsOffered, NoneWaits};
-ghost use Rattle.sim_channels.specs.Passes.{ComesAt, Follows, HearsAt, HearsNext, MakesRoomFor, Passed, WaitsBy};
+ghost use Rattle.machine_desk.specs.Homes.{LeavesNone};
+ghost use Rattle.sim_channels.specs.Channels.{IsKept, IsSame, home};
+ghost use Rattle.sim_channels.specs.Waiting.{IsOffered};
+ghost use Rattle.sim_channels.specs.Passes.{ComesAt, Follows, HearsAt, HearsNext, MakesRoomFor, Passed};
 
 use crate::{Driver, Stopped};
 use core_machine::Input;
-use desk_jobs::{driving_laws, is_packet};
-use machine_desk::{Came, Heard};
+use machine_desk::{Came, Heard, driving_laws, is_packet};
 use packet_workers::Gate;
 use std::sync::Wait;
 
@@ -27,7 +28,7 @@ impl<'h> Driver<'h> {
     ) -> Result<Came, Stopped>
         requires kept { IsKept self.old }
         requires within { at < length self.old.channels.items }
-        requires jobs { WorksAlone self.old → NoneWaits self.old.desk }
+        requires jobs { LeavesNone home self.old }
         requires offered { IsOffered at self.old }
         ensures next { IfOk result (λ came. HearsNext at came self.old self.new) }
         ensures passed { IfOk result (λ came. Passed at self.old self.new came) }
@@ -79,9 +80,9 @@ impl<'h> Driver<'h> {
         requires kept { IsKept self.old }
         requires within { at < length self.old.channels.items }
         requires heard { IsHeard input }
+        requires room { TakesIn input self.old.desk.now }
         ensures hears { IfOk result (λ heard. HearsAt at input heard self.old self.new) }
         ensures kept { OnOk result (IsKept self.new) }
-        ensures waits { IfOk result (λ heard. NoneWaits self.old.desk → WaitsBy heard self.new.desk.now.jobs) }
         ensures same { IsSame self.old self.new }
     {
         driving_laws();
@@ -91,7 +92,6 @@ impl<'h> Driver<'h> {
     // The packet that was heard is answered, or handed over.
     fn follow<R: Wait, G: Gate>(&mut self, rt: &R, gate: &G, heard: Heard) -> Result<(), Stopped>
         requires kept { IsKept self.old }
-        requires waits { WorksAlone self.old → WaitsBy heard self.old.desk.now.jobs }
         ensures follows { OnOk result (Follows heard self.old self.new) }
         ensures same { IsSame self.old self.new }
     {

@@ -1,7 +1,7 @@
 // What holds of the places of a driver.
 ghost use Rattle.sim_channels.specs.Resting.{RestingLaws};
 
-use desk_jobs::driving_laws;
+use machine_desk::driving_laws;
 
 /// What keeps what is known of places at which nothing is left to do.
 pub fn resting_laws()

@@ -19,7 +19,7 @@ mod waiting;
 
 pub use calling::Answer;
 pub use channel::Channel;
-pub use desk_jobs::{Stopped, driving_laws};
 pub use driver::Driver;
 pub use laws::resting_laws;
+pub use machine_desk::{Stopped, driving_laws};
 pub use outbox::connection_of;

@@ -10,8 +10,8 @@ ghost use Rattle.sim_channels.specs.Staging.{HasStage};
 use crate::outbox::connection_of;
 use crate::{Channel, Driver, Stopped};
 use core_machine::Note;
-use desk_jobs::driving_laws;
 use device_port::{Device, Took};
+use machine_desk::driving_laws;
 use maple_base::NoMemory;
 use std::sync::Wait;
 

@@ -9,8 +9,7 @@ ghost use Rattle.sim_channels.specs.Delivering.{Leaves};
 ghost use Rattle.sim_channels.specs.Staging.{ClosesAt, HasStage, OpensAt};
 
 use crate::Driver;
-use desk_jobs::driving_laws;
-use machine_desk::{DeskStop, Worn};
+use machine_desk::{DeskStop, Worn, driving_laws};
 use std::sync::Wait;
 
 impl<'h> Driver<'h> {

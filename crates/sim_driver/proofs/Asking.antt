@@ -14,7 +14,7 @@ use Rattle.sim_steps.specs.Stretches.{Carried, Obeyed}
 use Rattle.sim_steps.proofs.Joining.{carried_behind, obeyed}
 use Rattle.sim_channels.specs.declared.driver.Driver.{Driver}
 use Rattle.sim_channels.specs.Channels.{Fits, IsKept, bench}
-use Rattle.desk_jobs.specs.Driving.{DrivingLaws}
+use Rattle.machine_desk.specs.Driving.{DrivingLaws}
 use Rattle.sim_channels.specs.Resting.{RestingLaws}
 use Rattle.sim_channels.specs.Waiting.{IsAtRest, IsDone}
 use Rattle.sim_turns.specs.Turning.{IsAsked}

@@ -2,7 +2,7 @@
 use Rattle.std.proofs.Common.{◌≡◌, ℕ, ◌^◌, ◌≤◌, Bool, true, false, List, [], ◌∷◌, ◌++◌, append-nil, append_assoc, length, refl, sym, ap, ◌∙◌, subst, inl, inr}
 use Rattle.std.proofs.Common.{arith}
 use Rattle.std.specs.Prelude.{Option, Some, None, Ok, Err, is_some}
-use Rattle.desk_jobs.specs.Runs.{IsFaultOf}
+use Rattle.sim_steps.specs.Ends.{IsFaultOf}
 use Rattle.maple_io.specs.Views.{NoWriteFailed, SinkView}
 use Rattle.report_text.specs.declared.line.ScriptRefusal.{ScriptRefusal}
 use Rattle.device_port.specs.Devices.{Meaning}
@@ -16,10 +16,12 @@ use Rattle.machine_steps.specs.Waiting.{Waiting}
 use Rattle.machine_sharing.specs.Between.{Both, MostStays, NothingChanges, OnlyGrows, Stays}
 use Rattle.machine_sharing.specs.Legal.{CallsAreTurns, turns_of as turns_along}
 use Rattle.machine_sharing.specs.Sharing.{Allows, Call, Turns}
-use Rattle.machine_desk.specs.Desks.{DeskView, HadMemory, calls_of}
+use Rattle.machine_desk.specs.Arriving.{OthersFindRoom}
+use Rattle.machine_desk.specs.Desks.{DeskView, HadMemory, NoneOverflows, calls_of}
 use Rattle.machine_desk.proofs.Turning.{calls_same, turns_append, turns_length}
 use Rattle.packet_workers.specs.Adding.{PassView}
 use Rattle.packet_workers.specs.Crewing.{Makes}
+use Rattle.worker_crew.specs.declared.gave_up.GaveUp.{GaveUp}
 use Rattle.worker_crew.specs.declared.gave_up.GaveUp.TheVariants as gave_up
 use Rattle.worker_crew.specs.declared.rule.Account.{Account}
 use Rattle.worker_crew.specs.Tasks.{Toiled, Worked}
@@ -36,11 +38,12 @@ use Rattle.sim_steps.proofs.Others.{carried_beside}
 use Rattle.sim_steps.proofs.Silent.{beside_along}
 use Rattle.sim_driver.specs.declared.drive.SimEnd.{SimEnd}
 use Rattle.sim_driver.specs.declared.drive.SimEnd.TheVariants as ends
-use Rattle.sim_driver.specs.Passes.{DroveAt, DroveBy, EndsAt, joined, untaken, with_memory}
+use Rattle.sim_driver.specs.Passes.{DroveAt, DroveBy, EndsAt, joined, sim_ends, untaken, with_memory}
 use Rattle.sim_driver.specs.Runs.{AllHadMemory, Ends, EndsWith, Given, IsAtRefused, IsBrokenOff, IsFollowed, IsFull, IsRunOf, IsUnwritten, is_whole, just}
 use Rattle.sim_driver.specs.Runs.{of_part, opened, orders, report}
 use Rattle.sim_driver.proofs.Going.{Known, report_append, run_of, settings_stay}
-use Rattle.desk_jobs.proofs.HadMemory.{had_at_all, had_joined}
+use Rattle.machine_desk.specs.Crews.{given_up}
+use Rattle.machine_desk.proofs.Smooth.{memory_joined, room_joined}
 use Rattle.sim_driver.proofs.Parting.{Stands, part_longer}
 
 -- ---- what is told of an end
@@ -86,13 +89,13 @@ short_of g after history text h = record {
 -- at the desk
 pub with_memory_drove : (end : SimEnd) (had : Bool) (g : Given) (refused : Option (ℕ × ScriptRefusal)) (desk : DeskView)
     (after : List Meaning) (old new : SinkView) → EndsAt end g desk after old new → Told end refused old new
-    → (had ≡ true → HadMemory (calls_of desk.past) desk.own)
+    → (had ≡ true → HadMemory (calls_of desk.past) desk.own) → NoneOverflows desk.past
     → DroveAt (with_memory end had) g refused desk after old new
-with_memory_drove end had g refused desk after old new (text, e, wrote) told memory =
+with_memory_drove end had g refused desk after old new (text, e, wrote) told memory room =
     let is = told_memory refused old new end had told in
     record {
       ends = (text, ends_so end had e, wrote);
-      memory = λ whole. memory (had_so end had whole);
+      smooth = record { room = room; memory = λ whole. memory (had_so end had whole) };
       done = is.done;
       script = is.script;
       writes = is.writes;
@@ -244,11 +247,11 @@ module _ (calls : CallsAreTurns) (nothing : NothingChanges) (stays : MostStays) 
 
       report_on : report es ≡ report (es ++ more)
       report_on =
-          known.laws.report g.policy g.settings g.devices es last run.runs
+          known.laws.report es g.policy g.settings last.machine run.history
           ∙ ap (λ (s : State). taken_report es ++ untaken s) (sym same)
           ∙ ap (λ (bs : List ℕ). bs ++ untaken m)
           (sym (report_then es more ∙ ap (λ (bs : List ℕ). taken_report es ++ bs) carried.text_is ∙ append-nil (taken_report es)))
-          ∙ sym (known.laws.report g.policy g.settings g.devices (es ++ more) next runs_on)
+          ∙ sym (known.laws.report (es ++ more) g.policy g.settings next.machine (known.laws.history g.policy g.settings g.devices (es ++ more) next runs_on))
 
   followed_on : (after : List Meaning) (text : List ℕ) → IsFollowed g after was text → IsFollowed g after now text
   followed_on after text h =
@@ -312,24 +315,10 @@ module _ (calls : CallsAreTurns) (nothing : NothingChanges) (stays : MostStays) 
   ends_on ends.NoMemory outcome after number text (inr h) few worn = inr (unwritten_on after text h)
   ends_on ends.Worn outcome after number text (h, full) few worn = (broken_on text h, omega (arith, full, few))
 
--- a run that came to its end beside workers did so with all of them
-whole_joined : (end : SimEnd) (outcome : Worked) → is_whole (joined end outcome) ≡ true → (is_whole end ≡ true) × (done : Unit {0}) × (outcome ≡ Ok done)
-whole_joined ends.Done (Ok done) whole = (refl, done, refl)
-whole_joined ends.Done (Err gave_up.NoMemory) whole = absurd (cc)
-whole_joined ends.Done (Err gave_up.Worn) whole = absurd (cc)
-whole_joined (ends.Script line kind) (Ok done) whole = (refl, done, refl)
-whole_joined (ends.Script line kind) (Err gave_up.NoMemory) whole = absurd (cc)
-whole_joined (ends.Script line kind) (Err gave_up.Worn) whole = absurd (cc)
-whole_joined end outcome whole = absurd (cc)
-
-joined_memory : (end : SimEnd) (outcome : Worked) (start : State) (budget : ℕ) (mine x : PassView) (account w : Account Waiting)
-    → (is_whole end ≡ true → HadMemory (calls_of (turns_along start mine.seen)) mine.own)
-    → Toiled (λ item told made. Makes budget item told made) mine account outcome x w → AreAllPositions (length x.seen) x.own
-    → is_whole (joined end outcome) ≡ true → AllHadMemory (turns_along start x.seen)
-joined_memory end outcome start budget mine x account w memory toiled all whole =
-    let is = whole_joined end outcome whole in
-    let went_on = subst (λ (o : Worked). Toiled (λ item told made. Makes budget item told made) mine account o x w) is.2 toiled in
-    had_at_all start x.seen x.own (had_joined start budget mine x account w is.1 went_on (memory is.0)) all
+-- who gives up isn't whole
+short : (cause : GaveUp) → is_whole (given_up sim_ends cause) ≡ false
+short gave_up.NoMemory = refl
+short gave_up.Worn = refl
 
 seen_legal : (start : State) (x : PassView) (seen rest : List Call) → x.seen ≡ seen ++ rest → x.opening ≡ Some start → (legal : HasSeenLegal Turns x)
     → Replays Turns start (seen ++ rest) legal.0
@@ -341,14 +330,14 @@ long_enough : (start : State) (x : PassView) (seen rest : List Call) (n : ℕ) �
     → n ≤ length (turns_along start (seen ++ rest))
 long_enough start x seen rest n is few = let a = ap length is in let b = turns_length start (seen ++ rest) in omega (arith, a, b, few)
 
-pub joined_ends : (calls : CallsAreTurns) (nothing : NothingChanges) (stays : MostStays) (end : SimEnd) (outcome : Worked) (g : Given) → Known g
+pub joined_ends : OthersFindRoom → (calls : CallsAreTurns) (nothing : NothingChanges) (stays : MostStays) (end : SimEnd) (outcome : Worked) (g : Given) → Known g
     → (refused : Option (ℕ × ScriptRefusal)) (start : State) → start ≡ opening g.policy g.settings → (IsSolo start → ⊥)
     → (budget : ℕ) (mine x : PassView) (account w : Account Waiting) (after : List Meaning) (old new : SinkView)
     → DroveBy end g refused start after mine old new
     → Toiled (λ item told made. Makes budget item told made) mine account outcome x w → mine.number ≤ x.number → x.number ≤ length x.seen
     → IsAllowedSince Allows x.seen mine.seen → HasSeenLegal Turns x → x.opening ≡ Some start → AreAllPositions (length x.seen) x.own
     → Ends (joined end outcome) g after old new
-joined_ends calls nothing stays end outcome g known refused start is beside budget mine x account w after old new drove toiled number few since legal opens
+joined_ends find calls nothing stays end outcome g known refused start is beside budget mine x account w after old new drove toiled number few since legal opens
     all =
     let rest = since.0 in (
       drove.ends.0,
@@ -359,9 +348,12 @@ joined_ends calls nothing stays end outcome g known refused start is beside budg
               ends_on calls nothing stays g known start is beside mine.seen rest legal.0 (seen_legal start x mine.seen rest since.1 opens legal) since.2
               end outcome after mine.number drove.ends.0 drove.ends.1 (long_enough start x mine.seen rest mine.number since.1 (omega (arith, number, few)))
               (λ worn. long_enough start x mine.seen rest (2 ^ 62) since.1 (omega (arith, toiled.worn worn, few)));
-          memory =
-              subst (λ cs. is_whole (joined end outcome) ≡ true → AllHadMemory (turns_along start cs)) since.1
-              (joined_memory end outcome start budget mine x account w drove.memory toiled all);
+          smooth = record {
+            room = room_joined find start mine.seen rest legal.0 (seen_legal start x mine.seen rest since.1 opens legal) since.2 drove.smooth.room;
+            memory =
+                subst (λ cs. is_whole (joined end outcome) ≡ true → AllHadMemory (turns_along start cs)) since.1
+                (memory_joined sim_ends short end outcome start budget mine x account w drove.smooth toiled all);
+          };
         },
       ),
       drove.ends.2,

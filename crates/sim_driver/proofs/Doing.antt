@@ -43,7 +43,7 @@ of_ok P r x e h = subst (λ s. OnOk s P) e h
 
 pub begun_at : (d : Driver) (at : ℕ) (k : Channel) → IsKept d → slice_get d.channels.items at ≡ Some k → was_opened (at + 1) d.desk.now ≡ was_begun k.inbound.stage
 begun_at d at k kept there =
-    subst (λ c. was_opened c d.desk.now ≡ was_begun k.inbound.stage) (kept.names at k there) (kept.stages at k there).opened
+    subst (λ c. was_opened c d.desk.now ≡ was_begun k.inbound.stage) (kept.names at k there) (kept.sessions.staged at k there).opened
 
 -- how the session at a place stands
 pub record StandsSo (c : ℕ) (m : State) (stage : Stage) : Type 0 where

@@ -1,5 +1,5 @@
 -- How far a run has come, and how it ends.
-use Rattle.std.proofs.Common.{◌≡◌, ◌⊎◌, ℕ, ◌+◌, ◌≤◌, Bool, true, false, List, [], ◌∷◌, ◌++◌, append-nil, append_assoc, refl, sym, ap, ◌∙◌, subst, length, inl}
+use Rattle.std.proofs.Common.{◌≡◌, ◌⊎◌, ℕ, ◌+◌, ◌≤◌, true, List, [], ◌∷◌, ◌++◌, append-nil, append_assoc, refl, sym, ap, ◌∙◌, subst, length, inl}
 use Rattle.std.proofs.Common.{inr, arith}
 use Rattle.std.specs.Prelude.{Option, Some, None, Err}
 use Rattle.std.specs.List.{flat_map}
@@ -24,6 +24,7 @@ use Rattle.script_text.specs.Steps.{Leads, order_with}
 use Rattle.sim_steps.specs.Agreeing.{taken_report}
 use Rattle.sim_steps.specs.Benches.{Bench, IsSolo}
 use Rattle.sim_steps.specs.Deeds.{Event, Runs, turn_of, turns_of}
+use Rattle.sim_steps.specs.Ends.{IsSmooth}
 use Rattle.sim_steps.specs.Parts.{Follows, IsCalm}
 use Rattle.sim_steps.specs.Showing.{AllIdle}
 use Rattle.sim_steps.proofs.Joining.{report_then, runs_then}
@@ -33,7 +34,7 @@ use Rattle.sim_driver.specs.declared.drive.SimEnd.{SimEnd}
 use Rattle.sim_driver.specs.declared.drive.SimEnd.TheVariants as ends
 use Rattle.sim_driver.specs.Passes.{Breaks, DeedLaws, EndsAt, Finished, IsFinished, IsMarked, IsReady, IsReported, IsUnreported, Passed, end_of}
 use Rattle.sim_driver.specs.Passes.{untaken}
-use Rattle.sim_driver.specs.Runs.{AllHadMemory, Ends, EndsOver, EndsWith, Given, GoesOnFrom, IsBrokenOff, IsFollowed, IsRunOf, IsUnwritten, is_whole, just}
+use Rattle.sim_driver.specs.Runs.{Ends, EndsOver, EndsWith, Given, GoesOnFrom, IsBrokenOff, IsFollowed, IsRunOf, IsUnwritten, is_whole, just}
 use Rattle.sim_driver.specs.Runs.{of_part, opened, orders, report}
 use Rattle.sim_driver.proofs.Parting.{Parts, Stands, part_follows, parts_follow, parts_run, parts_then}
 use Rattle.sim_driver.proofs.Taking.{bench_devices}
@@ -137,7 +138,7 @@ settings_stay m (t ∷ ts) n (same, turn, rest) =
 -- where none of its lines waits the report is what was taken
 report_whole : (g : Given) → Known g → (es : List Event) (b : Bench) → Runs (opened g) es b → b.machine.lines ≡ [] → report es ≡ taken_report es
 report_whole g known es b runs none =
-    known.laws.report g.policy g.settings g.devices es b runs
+    known.laws.report es g.policy g.settings b.machine (known.laws.history g.policy g.settings g.devices es b runs)
     ∙ ap (λ (ls : List Line). taken_report es ++ flat_map spelled ls) none
     ∙ append-nil (taken_report es)
 
@@ -247,7 +248,7 @@ module _ {g : Given} {places : ℕ} {old now : SinkView} {driver : Driver} {devi
           append_cancel_left t (report u.events) (taken_report u.events ++ waits) (
           ap (λ (bs : List ℕ). bs ++ report u.events) (sym whole)
           ∙ sym (report_append h.events u.events)
-          ∙ h.known.laws.report g.policy g.settings g.devices (h.events ++ u.events) last all_runs
+          ∙ h.known.laws.report (h.events ++ u.events) g.policy g.settings last.machine (h.known.laws.history g.policy g.settings g.devices (h.events ++ u.events) last all_runs)
           ∙ ap (λ (bs : List ℕ). bs ++ waits) (report_then h.events u.events)
           ∙ append_assoc t (taken_report u.events) waits
           )
@@ -368,8 +369,8 @@ never_begun g known after number history none old =
 
 -- a front of it was read
 pub closed : (end : SimEnd) (g : Given) (after : List Meaning) (number : ℕ) (history : List Turn) (old new : SinkView) → number ≤ length history
-    → (is_whole end ≡ true → AllHadMemory history) → EndsOver end g after number history old new → Ends end g after old new
-closed end g after number history old new few memory (text, e, wrote) = (text, (history, record { ends = go end e; memory = memory }), wrote)
+    → IsSmooth (is_whole end) history → EndsOver end g after number history old new → Ends end g after old new
+closed end g after number history old new few smooth (text, e, wrote) = (text, (history, record { ends = go end e; smooth = smooth }), wrote)
   where
     go : (end : SimEnd) → EndsWith end g after number history text → EndsWith end g after (length history) history text
     go ends.Done e = e

@@ -13,11 +13,12 @@ use Rattle.sim_driver.specs.declared.drive.SimEnd.{SimEnd}
 use Rattle.sim_driver.specs.Passes.{DroveBy}
 use Rattle.sim_driver.specs.Runs.{Ends, Given}
 use Rattle.sim_driver.proofs.Going.{closed}
-use Rattle.desk_jobs.proofs.HadMemory.{had_at_all, had_seen}
+use Rattle.machine_desk.proofs.HadMemory.{had_at_all, had_seen}
 
 -- how it ends in a hall that is closed with the desk's pass, which made all calls
 pub alone_ends : (end : SimEnd) (g : Given) (refused : Option (ℕ × ScriptRefusal)) (start : State) (k : PassView) (after : List Meaning) (old new : SinkView)
     → k.number ≤ length k.seen → AreAllPositions (length k.seen) k.own → DroveBy end g refused start after k old new → Ends end g after old new
 alone_ends end g refused start k after old new enough all drove =
     closed end g after k.number (turns_of start k.seen) old new (subst (λ n. k.number ≤ n) (sym (turns_length start k.seen)) enough)
-    (λ whole. had_at_all start k.seen k.own (had_seen start k.seen k.own (drove.memory whole)) all) drove.ends
+    (record { room = drove.smooth.room; memory = λ whole. had_at_all start k.seen k.own (had_seen start k.seen k.own (drove.smooth.memory whole)) all })
+    drove.ends

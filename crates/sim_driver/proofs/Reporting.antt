@@ -23,12 +23,12 @@ use Rattle.sim_steps.specs.Deeds.{Event}
 use Rattle.sim_steps.specs.Parts.{IsPart}
 use Rattle.sim_steps.specs.Stretches.{Carried, Obeyed, Stretch}
 use Rattle.sim_steps.proofs.Joining.{report_then}
-use Rattle.desk_jobs.specs.declared.crew.Crew.{Crew}
+use Rattle.machine_desk.specs.declared.crew.Crew.{Crew}
 use Rattle.sim_channels.specs.declared.driver.Driver.{Driver}
 use Rattle.sim_channels.specs.Channels.{EntersNext, Fits, IsKept, WorksAlone, bench}
-use Rattle.desk_jobs.specs.Driving.{DrivingLaws}
+use Rattle.machine_desk.specs.Driving.{DrivingLaws}
 use Rattle.sim_channels.specs.Resting.{RestingLaws}
-use Rattle.sim_channels.specs.Waiting.{IsAtRest, IsDone}
+use Rattle.sim_channels.specs.Waiting.{IsAtRest}
 use Rattle.sim_channels.proofs.Others.{ahead, enters_next, others_ahead}
 use Rattle.sim_driver.specs.Passes.{Breaks, Finished, IsCaughtUp, IsFinished, IsReady, IsReported, IsStopped, IsUnreported, Passed, ReadyAfter, TakesReport, untaken}
 use Rattle.sim_driver.specs.Passes.{waiting}
@@ -93,7 +93,7 @@ module _ (laws : DrivingLaws) (resting : RestingLaws) (d next : Driver) (ds : Li
   takes bytes e =
       let between = ahead d TakeReport (Lines bytes) next.desk fits.kept e in
       let next_is = enters_next d TakeReport (Lines bytes) next.desk fits.kept e in
-      let is = text_is between.desk.now bytes next_is.steps in (
+      let is = text_is between.desk.now bytes next_is.made.steps in (
         record {
           rest = same;
           ahead = between;
@@ -221,8 +221,7 @@ module _ (d : Driver) where
       reached = h.kept.reached;
       numbers = h.kept.numbers;
       names = h.kept.names;
-      stages = h.kept.stages;
-      places_alone = h.kept.places_alone;
+      sessions = h.kept.sessions;
       fresh = h.kept.fresh;
     };
     places = h.places;

@@ -1,7 +1,6 @@
 -- A session is opened or ends, and no other place changes.
 use Rattle.std.proofs.Common.{◌≡◌, ℕ, ◌+◌, Bool, true, false, List, refl, sym, ap, ◌∙◌, inl}
-use Rattle.std.specs.Prelude.{Option, Some, is_some}
-use Rattle.std.specs.List.{slice_get}
+use Rattle.std.specs.Prelude.{Option, is_some}
 use Rattle.device_port.specs.Devices.{Meaning}
 use Rattle.machine_steps.specs.declared.entry.Entry.{Entry}
 use Rattle.machine_steps.specs.declared.entry.Entry.TheVariants as entries
@@ -15,10 +14,9 @@ use Rattle.sim_steps.specs.Parts.{asks, tells_settling}
 use Rattle.machine_desk.specs.Hearing.{stage_opened, was_begun}
 use Rattle.machine_desk.specs.declared.inbound.Stage.{Stage}
 use Rattle.machine_desk.specs.declared.inbound.Stage.TheVariants.{Over, Live, Unopened}
-use Rattle.sim_channels.specs.declared.channel.Channel.{Channel}
 use Rattle.sim_channels.specs.declared.driver.Driver.{Driver}
 use Rattle.sim_channels.specs.Channels.{Fits, IsKept, IsSame, OthersDid, bench, slots_of}
-use Rattle.desk_jobs.specs.Driving.{DrivingLaws}
+use Rattle.machine_desk.specs.Driving.{DrivingLaws}
 use Rattle.sim_channels.specs.Resting.{DoesAt, RestingLaws}
 use Rattle.sim_channels.specs.Staging.{ClosesAt, HasStage, OpensAt}
 use Rattle.sim_channels.specs.Waiting.{IsAtRest, IsDone, IsLeft}

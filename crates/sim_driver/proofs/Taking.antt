@@ -3,18 +3,17 @@ use Rattle.std.proofs.Common.{◌≡◌, List, [], ◌∷◌, ◌++◌, length, 
 use Rattle.device_port.specs.Devices.{Meaning}
 use Rattle.machine_steps.specs.declared.entry.Entry.TheVariants as entries
 use Rattle.machine_steps.specs.declared.reply.Reply.TheVariants.{Lines}
-use Rattle.machine_desk.specs.Desks.{DeskView}
+use Rattle.machine_desk.specs.Desks.{DeskView, turn}
 use Rattle.machine_steps.specs.Machine.{State}
 use Rattle.machine_steps.specs.Steps.{Steps}
 use Rattle.sim_steps.specs.Benches.{Slot}
-use Rattle.sim_steps.specs.Deeds.{turn_by}
 use Rattle.sim_steps.specs.Stretches.{Stretch}
 use Rattle.sim_steps.proofs.Joining.{carried_ahead}
 use Rattle.sim_steps.proofs.Moments.{report_taken}
 use Rattle.sim_channels.specs.declared.channel.Channel.{Channel}
 use Rattle.sim_channels.specs.declared.driver.Driver.{Driver}
 use Rattle.sim_channels.specs.Channels.{Fits, bench, slots_of}
-use Rattle.desk_jobs.specs.Driving.{DrivingLaws}
+use Rattle.machine_desk.specs.Driving.{DrivingLaws}
 use Rattle.sim_channels.specs.Resting.{RestingLaws}
 use Rattle.sim_channels.specs.Waiting.{IsAtRest, IsDone}
 use Rattle.sim_channels.proofs.Keeping.{reached_on}
@@ -38,8 +37,10 @@ module _ (d : Driver) (to : DeskView) where
       reached = reached_on d.desk.now entries.TakeReport (Lines (waiting d)) behind.desk.now h.kept.reached tt (inl (refl, refl));
       numbers = h.kept.numbers;
       names = h.kept.names;
-      stages = λ at k there. let s = h.kept.stages at k there in record { live = s.live; opened = s.opened };
-      places_alone = h.kept.places_alone;
+      sessions = record {
+        staged = λ at k there. let s = h.kept.sessions.staged at k there in record { live = s.live; opened = s.opened };
+        others = h.kept.sessions.others;
+      };
       fresh = h.kept.fresh;
     };
     places = h.places;
@@ -53,15 +54,15 @@ module _ (d : Driver) (to : DeskView) where
   rests_on h = record { done = λ alone. done_on (h.done alone); offered = h.offered; heard = h.heard }
 
   -- the deed
-  taking_on : (ds : List Meaning) → to.past ≡ d.desk.past ++ turn_by d.desk.now entries.TakeReport (Lines (waiting d)) behind.desk.now ∷ []
+  taking_on : (ds : List Meaning) → to.past ≡ d.desk.past ++ turn d.desk.now entries.TakeReport (Lines (waiting d)) behind.desk.now ∷ []
       → Stretch [] (waiting d) (bench d ds) (bench behind ds)
   taking_on ds past =
       report_taken (waiting d) (bench d ds) (bench behind ds)
-      (record { may = tt; admitted = tt; steps = inl (refl, refl); smooth = refl; slots = refl; past = past })
+      (record { may = tt; admitted = tt; steps = inl (refl, refl); slots = refl; past = past })
 
 module _ (laws : DrivingLaws) (d next : Driver) (h : TakesReport d next) where
   now_is : next.desk.now ≡ cleared h.ahead.desk.now
-  now_is = go h.enters.steps
+  now_is = go h.enters.made.steps
     where
       go : Steps h.ahead.desk.now entries.TakeReport (Lines (waiting h.ahead)) next.desk.now → next.desk.now ≡ cleared h.ahead.desk.now
       go (inl (told, is)) = is
@@ -73,8 +74,8 @@ module _ (laws : DrivingLaws) (d next : Driver) (h : TakesReport d next) where
       ∙ sym (ap (λ (x : Driver). record x { desk = next.desk }) h.others.rest)
       ∙ ap (λ (m : State). record h.ahead { desk = record next.desk { now = m } }) now_is
 
-  past_is : next.desk.past ≡ h.ahead.desk.past ++ turn_by h.ahead.desk.now entries.TakeReport (Lines (waiting h.ahead)) (cleared h.ahead.desk.now) ∷ []
-  past_is = h.enters.past ∙ ap (λ (m : State). h.ahead.desk.past ++ turn_by h.ahead.desk.now entries.TakeReport (Lines (waiting h.ahead)) m ∷ []) now_is
+  past_is : next.desk.past ≡ h.ahead.desk.past ++ turn h.ahead.desk.now entries.TakeReport (Lines (waiting h.ahead)) (cleared h.ahead.desk.now) ∷ []
+  past_is = h.enters.past ∙ ap (λ (m : State). h.ahead.desk.past ++ turn h.ahead.desk.now entries.TakeReport (Lines (waiting h.ahead)) m ∷ []) now_is
 
   pub taken_lines : next.desk.now.lines ≡ []
   taken_lines = ap (λ (m : State). m.lines) now_is

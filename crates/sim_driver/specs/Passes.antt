@@ -12,6 +12,7 @@ use Rattle.script_text.specs.Steps.{order_with}
 use Rattle.sim_steps.specs.Agreeing.{taken_report}
 use Rattle.sim_steps.specs.Benches.{Bench, IsSolo, opening_bench}
 use Rattle.sim_steps.specs.Deeds.{Event}
+use Rattle.sim_steps.specs.Ends.{IsFaultOf}
 pub use Rattle.sim_steps.specs.Ends.{untaken}
 use Rattle.sim_steps.specs.Parts.{IsPart, IsStill}
 use Rattle.sim_steps.specs.Showing.{AllIdle}
@@ -20,11 +21,11 @@ use Rattle.sim_laws.specs.Laws.{AgreeLaw, HistoryLaw, PastLaw, ReportLaw, WorldL
 use Rattle.sim_channels.specs.declared.driver.Driver.{Driver}
 use Rattle.sim_channels.specs.Channels.{EntersNext, Fits, OthersDid, bench}
 use Rattle.sim_channels.specs.Waiting.{IsAtRest, IsDone}
-use Rattle.desk_jobs.specs.Crews.{EndsOf, joined as joined_by, unwritten, with_memory as memory_by}
-use Rattle.desk_jobs.specs.Runs.{AtDesk, ByPass, IsFaultOf}
+use Rattle.machine_desk.specs.Crews.{EndsOf, joined as joined_by, unwritten, with_memory as memory_by}
+use Rattle.machine_desk.specs.Runs.{AtDesk, ByPass, IsSmoothFor}
 use Rattle.machine_desk.specs.declared.report.ReportStop.{ReportStop}
 use Rattle.machine_desk.specs.declared.report.ReportStop.TheVariants.{Failed, NoMemory, Worn}
-use Rattle.machine_desk.specs.Desks.{DeskView, HadMemory, calls_of}
+use Rattle.machine_desk.specs.Desks.{DeskView}
 use Rattle.machine_steps.specs.declared.entry.Entry.TheVariants.{TakeReport}
 use Rattle.machine_steps.specs.declared.reply.Reply.TheVariants.{Lines}
 use Rattle.maple_io.specs.Fronts.{IsFront}
@@ -93,24 +94,18 @@ pub record IsOpeningOver (k : PassView) (o : Opening) (devices : List Meaning) :
 abbrev pub given_by : State → List Meaning → List ℕ → ℕ → Given
 given_by start devices script first = given start.policy start.settings devices script first
 
-abbrev pub given_over : Opening → List Meaning → List ℕ → ℕ → Given
-given_over o devices script first = given_by o.start.value devices script first
-
-abbrev pub given_at : DeskView → List Meaning → List ℕ → ℕ → Given
-given_at desk devices script first = given_by desk.now devices script first
-
 -- ---- the end of a run
 
 -- by what the desk knows
 abbrev pub EndsAt : SimEnd → Given → DeskView → List Meaning → SinkView → SinkView → Type 0
 EndsAt end g desk after old new = EndsOver end g after desk.number desk.past old new
 
--- what is known of a run by who drove it, who made the calls at these positions of a history, of which so many were read: how it ends, that memory sufficed for
--- these calls where it came to its end, and what each end tells
+-- what is known of a run by who drove it, who made the calls at these positions of a history, of which so many were read: how it ends, that no packet
+-- found too many others waiting and memory sufficed for these calls where it came to its end, and what each end tells
 pub record Drove (end : SimEnd) (g : Given) (refused : Option (ℕ × ScriptRefusal)) (after : List Meaning) (number : ℕ) (history : List Turn) (own : List ℕ)
     (old new : SinkView) : Type 0 where
   pub ends : EndsOver end g after number history old new
-  pub memory : is_whole end ≡ true → HadMemory (calls_of history) own
+  pub smooth : IsSmoothFor (is_whole end) history own
   pub done : end ≡ Done → refused ≡ None
   pub script : IsAtRefused end refused
   pub writes : IsFaultOf (end ≡ WriteFault) old new

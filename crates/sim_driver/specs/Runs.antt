@@ -16,7 +16,7 @@ use Rattle.sim_steps.specs.Agreeing.{AllAgree}
 use Rattle.sim_steps.specs.Benches.{Bench, IsSolo, Slot, opening_bench}
 use Rattle.sim_steps.specs.Deeds.{Event, Runs, turns_of}
 pub use Rattle.sim_steps.specs.Ends.{AllHadMemory, IsFull, most_entries}
-use Rattle.sim_steps.specs.Ends.{Writes, told_by}
+use Rattle.sim_steps.specs.Ends.{IsSmooth, Writes, told_by}
 use Rattle.sim_steps.specs.Parts.{Follows, IsPart, IsStill}
 use Rattle.sim_steps.specs.Showing.{AllKeep}
 use Rattle.sim_laws.specs.Laws.{AreWorldRun}
@@ -163,7 +163,7 @@ is_whole end = false
 -- how a run ends that wrote this text, where the machine has this history in the end
 pub record EndsBy (end : SimEnd) (g : Given) (after : List Meaning) (history : List Turn) (text : List ℕ) : Type 0 where
   pub ends : EndsWith end g after (length history) history text
-  pub memory : is_whole end ≡ true → AllHadMemory history
+  pub smooth : IsSmooth (is_whole end) history
 
 -- where it has some history
 abbrev pub HasEnded : SimEnd → Given → List Meaning → List ℕ → Type 0

@@ -3,7 +3,7 @@ ghost use Rattle.std.specs.Prelude.{◌≡◌, ◌≢◌, ◌+◌, ◌^◌, ◌<
 ghost use Rattle.maple_io.specs.Views.{NoWriteFailed, WriteFailed};
 ghost use Rattle.machine_steps.specs.Sound.{AreInRange};
 ghost use Rattle.sim_steps.specs.Showing.{AllIdle};
-ghost use Rattle.desk_jobs.specs.Crews.{most_workers};
+ghost use Rattle.machine_desk.specs.Crews.{most_workers};
 ghost use Rattle.sim_driver.specs.Runs.{EndsRun, IsAtRefused, over, refused_line};
 
 use crate::alone::alone;

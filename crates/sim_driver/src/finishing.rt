@@ -2,7 +2,7 @@
 ghost use Rattle.std.specs.Prelude.{◌≡◌, ◌≢◌, true, map, Err, IfErr, OnOk, is_some};
 ghost use Rattle.maple_io.specs.Views.{NoWriteFailed, WriteFailed};
 ghost use Rattle.machine_desk.specs.declared.report.ReportStop.TheVariants as stops;
-ghost use Rattle.desk_jobs.specs.Crews.{SameCrew};
+ghost use Rattle.machine_desk.specs.Crews.{SameCrew};
 ghost use Rattle.sim_channels.specs.Channels.{IsSame};
 ghost use Rattle.sim_driver.specs.Passes.{Finished, IsCaughtUp, IsMarked, IsReady, IsStopped};
 

@@ -3,7 +3,7 @@ ghost use Rattle.std.specs.Prelude.{◌≡◌, ◌≢◌, map, length, Err, OnOk
 ghost use Rattle.maple_io.specs.Views.{NoWriteFailed, WriteFailed};
 ghost use Rattle.script_text.specs.Steps.{IsKept as IsKeptStep};
 ghost use Rattle.machine_desk.specs.declared.report.ReportStop.TheVariants as stops;
-ghost use Rattle.desk_jobs.specs.Crews.{SameCrew};
+ghost use Rattle.machine_desk.specs.Crews.{SameCrew};
 ghost use Rattle.sim_channels.specs.Channels.{IsSame};
 ghost use Rattle.machine_desk.specs.Reports.{ReportsBy};
 ghost use Rattle.sim_driver.specs.Passes.{IsMarked, IsReady, IsStopped, Passed, ReadyAfter};

@@ -2,16 +2,15 @@
 ghost use Rattle.std.specs.Prelude.{◌≡◌, ◌≢◌, ◌+◌, ◌^◌, ◌<◌, None, map, length};
 ghost use Rattle.maple_io.specs.Views.{NoWriteFailed, WriteFailed};
 ghost use Rattle.machine_desk.specs.Desks.{SameHall};
-ghost use Rattle.desk_jobs.specs.Crews.{MayHave, SameCrew};
-ghost use Rattle.sim_driver.specs.Passes.{DeedLaws, DroveAt, EndsAt, IsOpened, IsOpenedOver, end_of, given_at, with_memory};
+ghost use Rattle.machine_desk.specs.Crews.{MayHave, SameCrew};
+ghost use Rattle.sim_driver.specs.Passes.{DeedLaws, DroveAt, EndsAt, IsOpened, IsOpenedOver, end_of, given_by, with_memory};
 ghost use Rattle.sim_driver.specs.Runs.{IsAtRefused, refused_line};
 
 use crate::drive::SimEnd;
 use crate::finishing::finish;
 use crate::following::follow;
-use desk_jobs::Crew;
 use device_port::Device;
-use machine_desk::{Desk, ReportStop};
+use machine_desk::{Crew, Desk, ReportStop};
 use maple_io::Sink;
 use packet_workers::Gate;
 use script_text::{StepStop, next_order};
@@ -38,7 +37,7 @@ pub(crate) fn at_desk<'p, R: Wait, D: Device, O: Sink, G: Gate>(
     requires numbers { first + length script.now < 2 ^ 32 }
     ensures same { SameHall desk.entry.footing result.0.footing }
     ensures crew { SameCrew crew.entry result.1 }
-    ensures drove { DroveAt result.2 (given_at desk.entry (map D.meaning devices.old) script.now first) (refused_line (length devices.old) first script.now)
+    ensures drove { DroveAt result.2 (given_by desk.entry.now (map D.meaning devices.old) script.now first) (refused_line (length devices.old) first script.now)
         result.0 (map D.meaning devices.new) (O.tells to.old) (O.tells to.new) }
 {
     deed_laws();
@@ -46,6 +45,7 @@ pub(crate) fn at_desk<'p, R: Wait, D: Device, O: Sink, G: Gate>(
         Ok(mut driver) => {
             let end = run_lines(rt, alloc, gate, &mut driver, script, first, devices, to);
             let end = with_memory(end, driver.had_memory());
+            driver.law();
             let (desk, crew) = driver.into_parts();
             (desk, crew, end)
         }
@@ -78,7 +78,7 @@ fn run_lines<R: Wait, G: Gate, D: Device, O: Sink>(
     requires numbers { first + length script.now < 2 ^ 32 }
     ensures same { SameHall driver.old.desk.footing driver.new.desk.footing }
     ensures crew { SameCrew driver.old.crew driver.new.crew }
-    ensures ends { EndsAt result (given_at driver.old.desk (map D.meaning devices.old) script.now first) driver.new.desk
+    ensures ends { EndsAt result (given_by driver.old.desk.now (map D.meaning devices.old) script.now first) driver.new.desk
         (map D.meaning devices.new) (O.tells to.old) (O.tells to.new) }
     ensures done { result ≡ SimEnd.Done → refused_line (length devices.old) first script.now ≡ None }
     ensures script { IsAtRefused result (refused_line (length devices.old) first script.now) }

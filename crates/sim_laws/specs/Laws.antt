@@ -12,7 +12,7 @@ use Rattle.world_steps.specs.Right.{IsRight}
 use Rattle.sim_steps.specs.Benches.{Bench, opening_bench}
 use Rattle.sim_steps.specs.Deeds.{Event, Runs, turns_of}
 use Rattle.sim_steps.specs.Agreeing.{AllAgree, taken_report}
-use Rattle.sim_steps.specs.Ends.{IsReportOf}
+use Rattle.sim_steps.specs.Ends.{ReportIsTold}
 use Rattle.sim_steps.specs.Showing.{AllIdle, AllKeep, AreSwitches, Shows}
 
 -- the machine's turns are a legal history
@@ -25,11 +25,9 @@ HistoryLaw =
 abbrev pub PastLaw : Type 0
 PastLaw = (a : Bench) (es : List Event) (b : Bench) → Runs a es b → b.past ≡ a.past ++ turns_of es
 
--- its report is what was taken, and the lines that weren't taken yet
+-- their report is what was taken, and the lines that weren't taken yet
 abbrev pub ReportLaw : Type 0
-ReportLaw =
-    (policy : Policy) (settings : Settings) (devices : List Meaning) (es : List Event) (b : Bench) → Runs (opening_bench policy settings devices) es b
-    → IsReportOf (turns_of es) (taken_report es) b.machine
+ReportLaw = ReportIsTold turns_of taken_report
 
 -- each device agrees with the deeds
 abbrev pub AgreeLaw : Type 0

@@ -1,27 +1,17 @@
 -- What others do beside who drives: entries that anybody may make, one behind the other.
-use Rattle.std.proofs.Common.{◌≡◌, ℕ, Bool, true, false, List, [], ◌∷◌, ◌++◌, refl, sym, ap, ◌∙◌, subst, inl, inr}
+use Rattle.std.proofs.Common.{◌≡◌, ℕ, Bool, true, false, List, [], ◌∷◌, ◌++◌, refl, sym, ap, ◌∙◌, subst, inr}
 use Rattle.std.specs.Prelude.{if◌then◌else◌, Option, Some, None}
 use Rattle.std.specs.List.{AllByRecursion}
-use Rattle.maple_base.specs.declared.decision.Outcome.{Outcome}
-use Rattle.maple_base.specs.declared.decision.Outcome.TheVariants.{Decided, Spent as SpentRun}
-use Rattle.maple_base.specs.declared.items.Item.{Item}
-use Rattle.maple_base.specs.declared.cells.Cell.{Cell}
-use Rattle.maple_base.specs.declared.cells.Value.{Value}
-use Rattle.topo_paths.specs.Scenes.{cell_in}
-use Rattle.policy_meaning.specs.Readings.{cells_of, items_of}
-use Rattle.policy_meaning.specs.Meaning.{eval_of}
 use Rattle.machine_steps.specs.declared.entry.Entry.{Entry}
 use Rattle.machine_steps.specs.declared.entry.Entry.TheVariants as entries
 use Rattle.machine_steps.specs.declared.reply.Reply.{Reply}
-use Rattle.machine_steps.specs.declared.reply.Reply.TheVariants.{Overload}
-use Rattle.machine_steps.specs.declared.job.Job.{Job}
-use Rattle.machine_steps.specs.Machine.{State, in_force}
-use Rattle.machine_steps.specs.Steps.{Commits, Concludes, Decides, LendsPolicy, Steps, asked_now}
+use Rattle.machine_steps.specs.Machine.{State}
+use Rattle.machine_steps.specs.Steps.{Steps}
 use Rattle.machine_sharing.specs.Sharing.{Allows, Call}
 use Rattle.world_steps.specs.Worlds.{lacks_memory}
 use Rattle.sim_steps.specs.Agreeing.{taken_report, taken_text}
 use Rattle.sim_steps.specs.Benches.{Bench}
-use Rattle.sim_steps.specs.Deeds.{Deed, Event, IsSmooth, entry_in}
+use Rattle.sim_steps.specs.Deeds.{Deed, Event, entry_in}
 use Rattle.sim_steps.specs.Deeds.Deed.{Enters, Calls}
 use Rattle.sim_steps.specs.Parts.{FaultsEnd, HadMemory, HearsInOrder, IsBeside, IsFault, IsInOrder, asked_of, asks, failed_in, is_asked, is_of_run, is_shared}
 use Rattle.sim_steps.specs.Stretches.{Beside, Carried}
@@ -123,38 +113,6 @@ allows_shared log entries.OpenJobs may = refl
 allows_shared log (entries.Commit job run) may = refl
 allows_shared log (entries.Decide job) may = refl
 allows_shared log entry may = absurd may
-
-lends_smooth : (old : State) (reply : Reply) (new : State) → LendsPolicy old reply new → IsSmooth reply
-lends_smooth old Overload new h = absurd h
-lends_smooth old reply new h = refl
-
-concludes_smooth : (j : Job) (items : List Item) (cells : List (Cell × Value)) (outcome : Outcome) (old : State) (reply : Reply) (new : State)
-    → Concludes j items cells outcome old reply new → IsSmooth reply
-concludes_smooth j items cells SpentRun old reply new h = subst IsSmooth (sym h.0) refl
-concludes_smooth j items cells (Decided d) old reply new h = subst IsSmooth (sym h.replies) refl
-
--- none finds too many packets waiting
-pub shared_smooth : (entry : Entry) → is_shared entry ≡ true → (old : State) (reply : Reply) (new : State) → Steps old entry reply new → IsSmooth reply
-shared_smooth entries.ReadPolicy may old reply new h = lends_smooth old reply new h
-shared_smooth (entries.ReadCell cell) may old reply new h = subst IsSmooth (sym h.0) refl
-shared_smooth entries.OpenJobs may old reply new h = subst IsSmooth (sym h.0) refl
-shared_smooth (entries.Commit job run) may old reply new h = commits h
-  where
-    commits : Commits job run old reply new → IsSmooth reply
-    commits (inl (none, r, e)) = subst IsSmooth (sym r) refl
-    commits (inr (inl (j, is, other, r, e))) = subst IsSmooth (sym r) refl
-    commits (inr (inr (inl (j, c, v, w, is, same, stale, r, e)))) = subst IsSmooth (sym r) refl
-    commits (inr (inr (inr (inl (j, is, same, fresh, ends))))) = concludes_smooth j run.items run.cells run.outcome old reply new ends
-    commits (inr (inr (inr (inr lacks)))) = subst IsSmooth (sym lacks.0) refl
-shared_smooth (entries.Decide job) may old reply new h = decides h
-  where
-    decides : Decides job old reply new → IsSmooth reply
-    decides (inl (none, r, e)) = subst IsSmooth (sym r) refl
-    decides (inr (inl (j, is, ends))) =
-        concludes_smooth j (items_of (asked_now j old) j.key (cell_in old.scene)) (cells_of (asked_now j old) j.key (cell_in old.scene))
-        (eval_of (in_force old).body old.settings.budget (cell_in old.scene) j.switch j.key) old reply new ends
-    decides (inr (inr lacks)) = subst IsSmooth (sym lacks.0) refl
-shared_smooth entry may old reply new h = absurd (cc)
 
 -- memory runs out for runs alone
 pub lacks_in_run : (entry : Entry) → is_shared entry ≡ true → (old : State) (reply : Reply) (new : State) → Steps old entry reply new → lacks_memory reply ≡ true

@@ -2,7 +2,7 @@
 use Rattle.std.proofs.Common.{◌≡◌, true, false, List, [], ◌∷◌, ◌++◌, map, append-nil, refl, sym, ap, ◌∙◌, subst}
 use Rattle.std.specs.List.{AllByRecursion}
 use Rattle.std.proofs.lemmas.List.{append_assoc, map-append}
-use Rattle.history_lock.specs.Histories.{AreAllowed}
+use Rattle.history_lock.specs.Histories.{AreAllowed, event}
 use Rattle.maple_base.specs.declared.decision.Settings.{Settings}
 use Rattle.machine_steps.specs.declared.entry.Entry.{Entry}
 use Rattle.machine_steps.specs.declared.entry.Entry.TheVariants as entries
@@ -12,24 +12,23 @@ use Rattle.machine_steps.specs.Histories.{IsTurn, Leads, Turn}
 use Rattle.machine_steps.specs.Machine.{State}
 use Rattle.machine_steps.specs.Steps.{Steps}
 use Rattle.machine_steps.proofs.Changes.{changes}
-use Rattle.machine_sharing.specs.Legal.{call_of}
+use Rattle.machine_sharing.specs.Legal.{call_of, turn_of as turn_by}
 use Rattle.machine_sharing.specs.Sharing.{Allows, Call}
 use Rattle.world_steps.specs.Worlds.{lacks_memory}
 use Rattle.sim_steps.specs.Benches.{Bench, IsSolo}
-use Rattle.sim_steps.specs.Deeds.{EntersAt, IsSmooth, turn_by}
+use Rattle.sim_steps.specs.Deeds.{EntersAt}
 use Rattle.sim_steps.specs.Parts.{asks}
 use Rattle.sim_steps.specs.Stretches.{Beside, Carried}
 use Rattle.sim_steps.proofs.Joining.{carried_none, carried_then, stretch_between}
 use Rattle.sim_steps.proofs.Moments.{carried_entry, entered, is_plain}
-use Rattle.sim_steps.proofs.Others.{allows_shared, beside_none, beside_then, lacks_in_run, shared_smooth}
+use Rattle.sim_steps.proofs.Others.{allows_shared, beside_none, beside_then, lacks_in_run}
 
 abbrev calls_in : List Turn → List Call
 calls_in turns = map call_of turns
 
--- in such a turn not too many packets wait, and memory suffices
-pub record IsEasy (t : Turn) : Type 0 where
-  pub smooth : IsSmooth t.reply
-  pub memory : lacks_memory t.reply ≡ false
+-- memory suffices in such a turn
+abbrev pub IsEasy : Turn → Type 0
+IsEasy t = lacks_memory t.reply ≡ false
 
 -- only the machine moves, by these turns
 abbrev pub with_turns : List Turn → State → Bench → Bench
@@ -39,20 +38,20 @@ with_turns turns m a = record a { past = a.past ++ turns; machine = m }
 record Ways (entry : Entry) (reply : Reply) (a : Bench) (m : State) : Type 0 where
   asks : asks entry ≡ false
   plain : is_plain entry ≡ true
-  enters : EntersAt entry reply a (with_turns (turn_by a.machine entry reply m ∷ []) m a)
+  enters : EntersAt entry reply a (with_turns (turn_by a.machine (event entry reply m) ∷ []) m a)
 
-ways : (entry : Entry) (reply : Reply) (a : Bench) (m : State) → Allows (calls_in a.past) entry → Admits a.machine entry → Steps a.machine entry reply m → IsSmooth reply → Ways entry reply a m
-ways entries.ReadPolicy reply a m may admitted steps smooth =
-    record { asks = refl; plain = refl; enters = record { may = tt; admitted = admitted; steps = steps; smooth = smooth; slots = refl; past = refl } }
-ways (entries.ReadCell cell) reply a m may admitted steps smooth =
-    record { asks = refl; plain = refl; enters = record { may = tt; admitted = admitted; steps = steps; smooth = smooth; slots = refl; past = refl } }
-ways entries.OpenJobs reply a m may admitted steps smooth =
-    record { asks = refl; plain = refl; enters = record { may = tt; admitted = admitted; steps = steps; smooth = smooth; slots = refl; past = refl } }
-ways (entries.Commit job run) reply a m may admitted steps smooth =
-    record { asks = refl; plain = refl; enters = record { may = tt; admitted = admitted; steps = steps; smooth = smooth; slots = refl; past = refl } }
-ways (entries.Decide job) reply a m may admitted steps smooth =
-    record { asks = refl; plain = refl; enters = record { may = may; admitted = admitted; steps = steps; smooth = smooth; slots = refl; past = refl } }
-ways entry reply a m may admitted steps smooth = absurd may
+ways : (entry : Entry) (reply : Reply) (a : Bench) (m : State) → Allows (calls_in a.past) entry → Admits a.machine entry → Steps a.machine entry reply m → Ways entry reply a m
+ways entries.ReadPolicy reply a m may admitted steps =
+    record { asks = refl; plain = refl; enters = record { may = tt; admitted = admitted; steps = steps; slots = refl; past = refl } }
+ways (entries.ReadCell cell) reply a m may admitted steps =
+    record { asks = refl; plain = refl; enters = record { may = tt; admitted = admitted; steps = steps; slots = refl; past = refl } }
+ways entries.OpenJobs reply a m may admitted steps =
+    record { asks = refl; plain = refl; enters = record { may = tt; admitted = admitted; steps = steps; slots = refl; past = refl } }
+ways (entries.Commit job run) reply a m may admitted steps =
+    record { asks = refl; plain = refl; enters = record { may = tt; admitted = admitted; steps = steps; slots = refl; past = refl } }
+ways (entries.Decide job) reply a m may admitted steps =
+    record { asks = refl; plain = refl; enters = record { may = may; admitted = admitted; steps = steps; slots = refl; past = refl } }
+ways entry reply a m may admitted steps = absurd may
 
 module _ (a : Bench) (t : Turn) (same : t.before ≡ a.machine) (turn : IsTurn t) where
   abbrev ahead : Bench
@@ -66,8 +65,8 @@ module _ (a : Bench) (t : Turn) (same : t.before ≡ a.machine) (turn : IsTurn t
 
   carried_one : Allows (calls_in a.past) t.entry → IsEasy t → Carried a (with_turns (t ∷ []) t.behind a)
   carried_one may easy =
-      let w = ways t.entry t.reply ahead t.behind may turn.admitted turn.steps easy.smooth in
-      stretch_between [] [] ahead behind a behind is_at refl (carried_entry t.entry t.reply ahead behind w.asks w.plain easy.memory w.enters)
+      let w = ways t.entry t.reply ahead t.behind may turn.admitted turn.steps in
+      stretch_between [] [] ahead behind a behind is_at refl (carried_entry t.entry t.reply ahead behind w.asks w.plain easy w.enters)
 
 -- whatever of that is done is carried
 pub carried_along : (a : Bench) (turns : List Turn) (m : State) → Leads a.machine turns m → AreAllowed Allows (calls_in a.past) (calls_in turns) → AllByRecursion IsEasy turns
@@ -88,7 +87,7 @@ module _ (a : Bench) (t : Turn) (same : t.before ≡ a.machine) (turn : IsTurn t
   beside_one may =
       let there = behind a t same turn in
       let shared = allows_shared (calls_in a.past) t.entry may in
-      let w = ways t.entry t.reply (ahead a t same turn) t.behind may turn.admitted turn.steps (shared_smooth t.entry shared t.before t.reply t.behind turn.steps) in
+      let w = ways t.entry t.reply (ahead a t same turn) t.behind may turn.admitted turn.steps in
       let other : IsSolo t.before → ⊥ = λ solo. beside (subst IsSolo same solo) in
       subst (λ (x : Bench). Beside x there) (is_at a t same turn) (record {
         events = entered t.entry t.reply (ahead a t same turn) there ∷ [];

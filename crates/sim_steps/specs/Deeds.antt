@@ -20,19 +20,15 @@ use Rattle.machine_steps.specs.declared.entry.Input.TheVariants.{Message as Whol
 use Rattle.machine_steps.specs.declared.note.Note.{Note}
 use Rattle.machine_steps.specs.declared.note.Note.TheVariants as notes
 use Rattle.machine_steps.specs.declared.reply.Reply.{Reply}
-use Rattle.machine_steps.specs.declared.reply.Reply.TheVariants.{Overload}
 use Rattle.machine_steps.specs.Admitting.{Admits}
 use Rattle.machine_steps.specs.Histories.{Turn}
 use Rattle.machine_steps.specs.Machine.{State, was_opened}
 use Rattle.machine_steps.specs.Steps.{Steps}
-use Rattle.machine_sharing.specs.Legal.{call_of}
+use Rattle.history_lock.specs.Histories.{event}
+use Rattle.machine_sharing.specs.Legal.{call_of, turn_of as turn_by}
 use Rattle.machine_sharing.specs.Sharing.{ThreeStale}
 use Rattle.world_steps.specs.Worlds.{lacks_memory, messages_for}
 use Rattle.sim_steps.specs.Benches.{Slot, Bench, MovesAt, is_place, is_plugged, slot_at}
-
--- an entry with the reply to it, and the machine ahead of it and behind it
-abbrev pub turn_by : State → Entry → Reply → State → Turn
-turn_by before entry reply behind = record { before = before; entry = entry; reply = reply; behind = behind }
 
 pub data Deed : Type 0 where
   -- the machine is given an entry, and replies so
@@ -92,7 +88,7 @@ pub record CallsAt (c : ℕ) (call : Call) (reply : Reply) (a b : Bench) : Type 
   pub plugged : is_plugged c a.machine ≡ true
   pub slots : MovesAt c (CallsSlot call) a.slots b.slots
   pub noted : Steps a.machine (entries.Note (note_of c call)) reply b.machine
-  pub past : b.past ≡ a.past ++ turn_by a.machine (entries.Note (note_of c call)) reply b.machine ∷ []
+  pub past : b.past ≡ a.past ++ turn_by a.machine (event (entries.Note (note_of c call)) reply b.machine) ∷ []
 
 -- ---- the entries
 
@@ -140,22 +136,12 @@ MayEnter (entries.Decide job) b = ThreeStale job (map call_of b.past)
 MayEnter (entries.Note note) b = MayNote note
 MayEnter entry b = Unit {0}
 
--- a packet finds too many others waiting
-abbrev pub is_overload : Reply → Bool
-is_overload Overload = true
-is_overload reply = false
-
--- none does
-abbrev pub IsSmooth : Reply → Type 0
-IsSmooth reply = is_overload reply ≡ false
-
 pub record EntersAt (entry : Entry) (reply : Reply) (a b : Bench) : Type 0 where
   pub may : MayEnter entry a
   pub admitted : Admits a.machine entry
   pub steps : Steps a.machine entry reply b.machine
-  pub smooth : IsSmooth reply
   pub slots : SlotsBehind a.machine entry reply a.slots b.slots
-  pub past : b.past ≡ a.past ++ turn_by a.machine entry reply b.machine ∷ []
+  pub past : b.past ≡ a.past ++ turn_by a.machine (event entry reply b.machine) ∷ []
 
 -- ---- deeds one after the other
 
@@ -187,7 +173,7 @@ reply_in (Enters entry reply) = reply
 reply_in (Calls c call reply) = reply
 
 abbrev pub turn_of : Event → Turn
-turn_of e = turn_by e.before.machine (entry_in e.deed) (reply_in e.deed) e.behind.machine
+turn_of e = turn_by e.before.machine (event (entry_in e.deed) (reply_in e.deed) e.behind.machine)
 
 abbrev pub turns_of : List Event → List Turn
 turns_of es = flat_map (λ (e : Event). turn_of e ∷ []) es

@@ -10,7 +10,7 @@ use Rattle.sim_steps.proofs.Joining.{carried_ahead}
 use Rattle.sim_steps.proofs.Others.{carried_beside}
 use Rattle.sim_channels.specs.declared.driver.Driver.{Driver}
 use Rattle.sim_channels.specs.Channels.{IsKept, OthersDid, bench}
-use Rattle.desk_jobs.specs.Driving.{DrivingLaws}
+use Rattle.machine_desk.specs.Driving.{DrivingLaws}
 use Rattle.sim_channels.specs.Turns.{Waits}
 use Rattle.sim_channels.specs.Waiting.{IsAtRestBut}
 use Rattle.sim_channels.proofs.Others.{channel_stays, items_stay, others_beside, plugged_stays, tends_fits, tends_of, tends_slots}

@@ -88,6 +88,6 @@ module _ (at : ℕ) (turned : Turned) (bytes : List ℕ) (old : Driver) (before 
     slots = slots_move old.channels.items before at waits.channel l turns.before turns.behind (CallsSlot (Turning turned bytes)) waits.there turns.there
         (takes_turn turned bytes (slot_by waits.channel turns.before) (slot_by l turns.behind) turns.behind taken turns.turns
         (λ i. record { device = turns.behind; to = to i; from = from i }));
-    noted = enters.steps;
+    noted = enters.made.steps;
     past = enters.past;
   }

@@ -18,7 +18,7 @@ use Rattle.sim_steps.specs.Stretches.{Carried}
 use Rattle.sim_steps.proofs.Turned.{is_turn}
 use Rattle.machine_desk.specs.Hearing.{is_live}
 use Rattle.sim_channels.specs.Channels.{Fits, bench}
-use Rattle.desk_jobs.specs.Driving.{DrivingLaws}
+use Rattle.machine_desk.specs.Driving.{DrivingLaws}
 use Rattle.sim_channels.specs.declared.channel.Channel.{Channel}
 use Rattle.sim_channels.specs.declared.driver.Driver.{Driver}
 use Rattle.sim_channels.proofs.Keeping.{reached_sound}

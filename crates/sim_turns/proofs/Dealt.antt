@@ -19,7 +19,7 @@ use Rattle.sim_steps.specs.Stretches.{Stretch}
 use Rattle.sim_steps.proofs.Moments.{called, stretch_call}
 use Rattle.machine_desk.specs.Hearing.{is_live}
 use Rattle.sim_channels.specs.Channels.{EntersNext, Fits, IsKept, IsSame, bench, slots_of}
-use Rattle.desk_jobs.specs.Driving.{DrivingLaws}
+use Rattle.machine_desk.specs.Driving.{DrivingLaws}
 use Rattle.sim_channels.specs.Resting.{RestingLaws}
 use Rattle.sim_channels.specs.Waiting.{IsAtRest, IsAtRestBut, IsOffered}
 use Rattle.sim_channels.specs.declared.channel.Channel.{Channel}
@@ -75,12 +75,12 @@ module _ (laws : DrivingLaws) (resting : RestingLaws) (at : ℕ) (turned : Turne
   noted = subst (EntersNext Telling Done old.desk) (sym desk) enters
 
   kept_behind : IsKept new
-  kept_behind = kept_channel laws old new Telling Done kept tt noted.steps (λ c. refl) at K L at_channel changes.feeds.1
+  kept_behind = kept_channel laws old new Telling Done kept tt noted.made.steps (λ c. refl) at K L at_channel changes.feeds.1
       (not_fresh L (changes.feeds.1.1 ∙ waits.plugged))
 
   -- the machine has no message more for any device
   sessions_stay : (c : ℕ) → session_at c new.desk.now ≡ session_at c old.desk.now
-  sessions_stay c = session_same laws old.desk.now Telling Done new.desk.now kept.reached noted.steps refl c refl
+  sessions_stay c = session_same laws old.desk.now Telling Done new.desk.now kept.reached noted.made.steps refl c refl
 
   offered : IsOffered at new
   offered x there plugged =
@@ -93,7 +93,7 @@ module _ (laws : DrivingLaws) (resting : RestingLaws) (at : ℕ) (turned : Turne
         kept = kept_behind;
         same = same;
         others = record { sessions = λ alone c o. sessions_stay c; channels = is_beside at K L old new at_channel };
-        jobs = λ alone. laws.none old.desk.now Telling Done new.desk.now (rest.done alone).jobs refl noted.steps;
+        jobs = λ alone. laws.none old.desk.now Telling Done new.desk.now (rest.done alone).jobs refl noted.made.steps;
         taken = λ alone. resting.taken at old new kept kept_behind (sessions_stay (at + 1)) ((rest.done alone).taken at);
         offered = offered;
       })

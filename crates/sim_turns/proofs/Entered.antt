@@ -1,23 +1,22 @@
 -- An entry that a script asks for is an event, behind what others did.
-use Rattle.std.proofs.Common.{◌≡◌, ℕ, true, false, List, [], ◌∷◌, refl, sym, ap, ◌∙◌, subst, inl, inr, ⊎_elim}
+use Rattle.std.proofs.Common.{◌≡◌, ℕ, true, false, List, [], ◌∷◌, refl, ap, ◌∙◌, inl, inr, ⊎_elim}
 use Rattle.std.specs.Prelude.{is_some}
 use Rattle.device_port.specs.Devices.{Meaning}
 use Rattle.machine_steps.specs.declared.entry.Entry.{Entry}
 use Rattle.machine_steps.specs.declared.entry.Entry.TheVariants as entries
 use Rattle.machine_steps.specs.declared.reply.Reply.{Reply}
 use Rattle.machine_steps.specs.Machine.{State, was_opened}
-use Rattle.machine_steps.specs.Steps.{EndsSession, Opens, Steps, TellsRules, Updates, link_end}
 use Rattle.machine_desk.specs.Desks.{Enters}
 use Rattle.world_steps.specs.Worlds.{lacks_memory}
 use Rattle.sim_steps.specs.Benches.{Bench, Slot, is_plugged, slot_at}
-use Rattle.sim_steps.specs.Deeds.{EntersAt, IsSmooth, MayEnter, SlotsBehind}
+use Rattle.sim_steps.specs.Deeds.{EntersAt, MayEnter, SlotsBehind}
 use Rattle.sim_steps.specs.Deeds.Deed.{Enters as EntersBy}
 use Rattle.sim_steps.specs.Parts.{IsDrained, asks, tells_settling}
 use Rattle.sim_steps.proofs.Joining.{carried_ahead}
 use Rattle.sim_steps.proofs.Moments.{entered, stretch_entry}
 use Rattle.sim_steps.proofs.Others.{carried_beside}
 use Rattle.sim_channels.specs.Channels.{IsKept, bench, slots_of}
-use Rattle.desk_jobs.specs.Driving.{DrivingLaws}
+use Rattle.machine_desk.specs.Driving.{DrivingLaws}
 use Rattle.sim_channels.specs.Resting.{RestingLaws}
 use Rattle.sim_channels.specs.Waiting.{IsAtRest, IsDone}
 use Rattle.sim_channels.specs.declared.driver.Driver.{Driver}
@@ -26,43 +25,6 @@ use Rattle.sim_turns.specs.Turning.{IsAsked}
 use Rattle.sim_turns.proofs.Aside.{others_aside}
 
 -- ---- what an asked entry is
-
--- its reply tells of no packet
-asked_smooth : (entry : Entry) → asks entry ≡ true → (m : State) (reply : Reply) (n : State) → Steps m entry reply n → IsSmooth reply
-asked_smooth (entries.Open c) asked m reply n h = go h
-  where
-    go : Opens c m reply n → IsSmooth reply
-    go (inl (was, (r, e))) = subst IsSmooth (sym r) refl
-    go (inr (inl (was, many, r, e))) = subst IsSmooth (sym r) refl
-    go (inr (inr (inl (was, few, r, e)))) = subst IsSmooth (sym r) refl
-    go (inr (inr (inr (r, e)))) = subst IsSmooth (sym r) refl
-asked_smooth (entries.Gone c fault) asked m reply n h = go h
-  where
-    go : EndsSession c (link_end fault) m reply n → IsSmooth reply
-    go (inl (none, (r, e))) = subst IsSmooth (sym r) refl
-    go (inr (s, found, r, e)) = subst IsSmooth (sym r) refl
-asked_smooth (entries.Change u) asked m reply n h = go h
-  where
-    go : Updates u m reply n → IsSmooth reply
-    go (inl (free, r, e)) = subst IsSmooth (sym r) refl
-    go (inr (inl (kind, is, r, e))) = subst IsSmooth (sym r) refl
-    go (inr (inr (r, e))) = subst IsSmooth (sym r) refl
-asked_smooth (entries.NewPolicy p) asked m reply n h = go h
-  where
-    go : Steps m (entries.NewPolicy p) reply n → IsSmooth reply
-    go (inl (r, e)) = subst IsSmooth (sym r) refl
-    go (inr (r, e)) = subst IsSmooth (sym r) refl
-asked_smooth (entries.ReadRules switch) asked m reply n h = go h
-  where
-    go : TellsRules switch m reply n → IsSmooth reply
-    go (inl (rules, put, r, e)) = subst IsSmooth (sym r) refl
-    go (inr (r, e)) = subst IsSmooth (sym r) refl
-asked_smooth (entries.Note note) asked m reply n h = go h
-  where
-    go : Steps m (entries.Note note) reply n → IsSmooth reply
-    go (inl (r, e)) = subst IsSmooth (sym r) refl
-    go (inr (r, e)) = subst IsSmooth (sym r) refl
-asked_smooth entry asked m reply n h = absurd (cc)
 
 asked_slots : (m : State) (entry : Entry) (reply : Reply) (old new : List Slot) → asks entry ≡ true → new ≡ old → SlotsBehind m entry reply old new
 asked_slots m (entries.Heard c input) reply old new asked e = absurd (cc)
@@ -102,7 +64,6 @@ module _ (laws : DrivingLaws) (resting : RestingLaws) (entry : Entry) (reply : R
               (opened_stays laws old Ahead kept tends) may;
           admitted = enters.made.admitted;
           steps = enters.made.steps;
-          smooth = asked_smooth entry asked enters.between reply new.desk.now enters.made.steps;
           slots = asked_slots enters.between entry reply _ _ asked (ap (λ (x : Driver). slots_of x.channels.items devices) same);
           past = enters.past;
         }

@@ -19,7 +19,7 @@ use Rattle.sim_steps.proofs.Moments.{called, stretch_failed}
 use Rattle.machine_desk.specs.Hearing.{is_live}
 use Rattle.sim_channels.specs.Channels.{EntersNext, Fits, IsKept, bench, slots_of}
 use Rattle.sim_channels.specs.Delivering.{Leaves}
-use Rattle.desk_jobs.specs.Driving.{DrivingLaws}
+use Rattle.machine_desk.specs.Driving.{DrivingLaws}
 use Rattle.sim_channels.specs.Resting.{RestingLaws}
 use Rattle.sim_channels.specs.Waiting.{IsAtRest, IsAtRestBut}
 use Rattle.sim_channels.specs.declared.channel.Channel.{Channel}

@@ -10,7 +10,7 @@ use Rattle.machine_steps.specs.Steps.{Steps, note_lines}
 use Rattle.world_steps.specs.Worlds.{lacks_memory}
 use Rattle.sim_channels.specs.declared.driver.Driver.{Driver}
 use Rattle.sim_channels.specs.Channels.{EntersNext, IsKept, OthersDid}
-use Rattle.desk_jobs.specs.Driving.{DrivingLaws}
+use Rattle.machine_desk.specs.Driving.{DrivingLaws}
 use Rattle.sim_channels.specs.Resting.{RestingLaws}
 use Rattle.sim_channels.specs.Waiting.{IsAtRest}
 use Rattle.sim_channels.proofs.Kept.{kept_entry}
@@ -27,13 +27,13 @@ noted note m n (inr (r, e)) = (let f : lacks_memory Done ≡ lacks_memory NoMemo
 module _ (laws : DrivingLaws) (note : Note) (old new : Driver) (kept : IsKept old) (enters : EntersNext (entries.Note note) Done old.desk new.desk)
     (same : new ≡ record old { desk = new.desk }) (footing : new.desk.footing ≡ old.desk.footing) where
   now_is : new.desk.now ≡ tells_all (note_lines note) old.desk.now
-  now_is = noted note old.desk.now new.desk.now enters.steps
+  now_is = noted note old.desk.now new.desk.now enters.made.steps
 
   items_are : new.channels.items ≡ old.channels.items
   items_are = ap (λ (x : Driver). x.channels.items) same
 
   pub noted_kept : IsKept new
-  noted_kept = kept_entry laws old new (entries.Note note) Done kept tt enters.steps (λ c. refl) same footing
+  noted_kept = kept_entry laws old new (entries.Note note) Done kept tt enters.made.steps (λ c. refl) same footing
 
   pub noted_fits : FitsStill old new
   noted_fits devices fits = fits_same old new devices noted_kept items_are fits

@@ -10,7 +10,7 @@ use Rattle.machine_steps.specs.declared.reply.Reply.TheVariants.{Done}
 use Rattle.sim_channels.specs.declared.driver.Driver.{Driver}
 use Rattle.sim_channels.specs.Channels.{IsKept, IsSame}
 use Rattle.sim_channels.specs.Delivering.{Leaves}
-use Rattle.desk_jobs.specs.Driving.{DrivingLaws}
+use Rattle.machine_desk.specs.Driving.{DrivingLaws}
 use Rattle.sim_channels.specs.Resting.{RestingLaws}
 use Rattle.sim_channels.specs.Turns.{Appends, ChannelMoves, Waits}
 use Rattle.sim_channels.specs.Waiting.{IsAtRest}

@@ -1,6 +1,7 @@
 // What a device appended is heard.
 ghost use Rattle.std.specs.Prelude.{◌≡◌, ◌≢◌, ◌<◌, false, length, Ok, OnOk};
-ghost use Rattle.sim_channels.specs.Channels.{CarriedOver, IsKept, IsSame, WorksAlone};
+ghost use Rattle.machine_desk.specs.Homes.{LeavesNone};
+ghost use Rattle.sim_channels.specs.Channels.{CarriedOver, IsKept, IsSame, WorksAlone, home};
 ghost use Rattle.sim_channels.specs.Waiting.{IsHeard, IsOffered, NoneWaits, StaysBut};
 ghost use Rattle.sim_channels.specs.Hearing.{KeepsChannels};
 ghost use Rattle.sim_turns.specs.declared.hear.Reach.TheVariants.{Anybody, Itself, Nobody};
@@ -34,7 +35,7 @@ pub(crate) fn hear_all<R: Wait, G: Gate>(
 ) -> Result<Reach, Stopped>
     requires kept { IsKept driver.old }
     requires within { at < length driver.old.channels.items }
-    requires jobs { WorksAlone driver.old → NoneWaits driver.old.desk }
+    requires jobs { LeavesNone home driver.old }
     requires offered { IsOffered at driver.old }
     ensures kept { OnOk result (IsKept driver.new) }
     ensures carried { OnOk result (CarriedOver driver.old driver.new) }

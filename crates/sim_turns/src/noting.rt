@@ -25,6 +25,7 @@ pub fn note<R: Wait>(rt: &R, driver: &mut Driver<'_>, note: Note) -> Result<(), 
     ensures rest { OnOk result (IsAtRest driver.new) }
     ensures told { OnOk result (ToldSo note driver.old driver.new) }
     ensures same { IsSame driver.old driver.new }
+    ensures desk { driver.new ≡ record driver.old { desk = driver.new.desk } }
 {
     driving_laws();
     resting_laws();

@@ -1,5 +1,5 @@
 // What a world keeps of a connection.
-ghost use Rattle.std.specs.Prelude.{◌≡◌, ◌<◌, ◌++◌, [], drop, length, map, Decides, OnOk};
+ghost use Rattle.std.specs.Prelude.{◌≡◌, ◌<◌, ◌++◌, [], drop, length, map, Decides, OnErr, OnOk};
 ghost use Rattle.std.specs.List.{position};
 ghost use Rattle.world_places.specs.Places.{BeginsWith, HasRoom, Keeps, is_of, most_rules, opened_switch, switch_of, to_of};
 ghost use Rattle.world_places.specs.Said.{message_sent};
@@ -62,6 +62,7 @@ pub fn make_room(place: &mut Place) -> Result<(), NoMemory>
     ensures same { Keeps place.old place.new }
     ensures table { place.new.table ≡ place.old.table }
     ensures room { OnOk result (HasRoom place.new) }
+    ensures full { OnErr result (HasRoom place.old → ⊥) }
 {
     place.blocks.reserve(1)?;
     Ok(())

@@ -21,6 +21,7 @@ returns-clause-ran g c =
       read_fault = c.maple.ensures.read_fault;
       spares = record {
         reads_spared = c.maple.ensures.reads_spared;
+        reads_count = c.maple.ensures.reads_count;
         write_fault = c.maple.ensures.write_fault;
         writes_spared = c.maple.ensures.writes_spared;
         board_fault = c.maple.ensures.board_fault;

@@ -44,6 +44,9 @@ returns-clause-unserved g c = c.run_over.ensures.ran.spares.unserved
 pub returns-clause-reads_spared : goal.returns-clause-reads_spared
 returns-clause-reads_spared g c = c.run_over.ensures.ran.spares.reads_spared
 
+pub returns-clause-reads_count : goal.returns-clause-reads_count
+returns-clause-reads_count g c = c.run_over.ensures.ran.spares.reads_count
+
 pub returns-clause-writes_spared : goal.returns-clause-writes_spared
 returns-clause-writes_spared g c = c.run_over.ensures.ran.spares.writes_spared
 

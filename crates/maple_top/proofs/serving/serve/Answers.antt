@@ -11,7 +11,7 @@ returns-clause-run g c =
 pub returns-clause-fault : goal.returns-clause-fault
 returns-clause-fault g c =
     closes_failed (g.O.Sink.tells c.args.to.now) (g.O.Sink.tells c.run_serve-end.new.out) (g.O.Sink.tells c.conclude.new.output) c.run_serve-end.result c.conclude.result
-    c.run_serve-end.ensures.cause.write c.run_serve-end.ensures.cause.no_write c.conclude.ensures.closes
+    c.run_serve-end.ensures.cause.writes.fault c.run_serve-end.ensures.cause.writes.spared c.conclude.ensures.closes
 
 pub returns-clause-board_fault : goal.returns-clause-board_fault
 returns-clause-board_fault g c =

@@ -5,13 +5,13 @@ use Rattle.history_lock.specs.Passes.{known}
 use Rattle.machine_sharing.specs.Sharing.{Turns}
 use Rattle.serve_steps.specs.declared.end.ServeEnd.{ServeEnd}
 use Rattle.serve_steps.specs.Runs.{HasCause, HasRun}
-use Rattle.serve_pump.specs.Opened.{given_over}
+use Rattle.serve_pump.specs.Beginning.{given_by}
 use Rattle.serve_pump.proofs.Closed.{cause_of, closed_alone}
 use Rattle.serve_pump.proofs.alone.alone.Goals as goal
 
 pub returns-clause-ends : goal.returns-clause-ends
 returns-clause-ends g c =
-    let given = given_over c.args.opening c.args.startup.now in
+    let given = given_by c.args.opening.start.value c.args.startup.now in
     let start = c.args.opening.start.value in
     let opened = c.requires.opened in
     let old_board = g.B.Board.tells c.args.board.now in

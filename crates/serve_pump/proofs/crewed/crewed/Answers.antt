@@ -7,7 +7,7 @@ use Rattle.machine_steps.proofs.Sending.{entry_send, reply_send}
 use Rattle.worker_crew.specs.Takers.{account}
 use Rattle.serve_steps.specs.declared.end.ServeEnd.{ServeEnd}
 use Rattle.serve_steps.specs.declared.end.ServeEnd.TheVariants as ends
-use Rattle.serve_pump.specs.Opened.{given_over}
+use Rattle.serve_pump.specs.Beginning.{given_by}
 use Rattle.serve_pump.specs.Resting.{RestsBy}
 use Rattle.serve_pump.proofs.Beside.{ended}
 use Rattle.serve_pump.proofs.Closed.{cause_of, never_ran}
@@ -25,7 +25,7 @@ with_workers-pass-requires-send-M-Reply g c κs within = search (reply_send, sen
 
 pub returns-in_default-clause-ends : goal.returns-in_default-clause-ends
 returns-in_default-clause-ends g c =
-    never_ran c.ending_laws.ensures (given_over c.args.opening c.args.startup.now) (g.B.Board.tells c.args.board.now) (g.O.Sink.tells c.args.out.now)
+    never_ran c.ending_laws.ensures (given_by c.args.opening.start.value c.args.startup.now) (g.B.Board.tells c.args.board.now) (g.O.Sink.tells c.args.out.now)
 
 pub returns-in_default-clause-cause : goal.returns-in_default-clause-cause
 returns-in_default-clause-cause g c =
@@ -47,7 +47,7 @@ returns-clause-ends g c =
     let mid = g.O.Sink.tells run.out.now in
     let to = g.O.Sink.tells c.tell_rest-end.new.out in
     let rests = subst (λ (end : ServeEnd). RestsBy end c.tell_rest-end.result x l mid to) c.joined-end.ensures c.tell_rest-end.ensures.rests in
-    (ended c.ending_laws.ensures (given_over c.args.opening c.args.startup.now) c.args.opening.start.value opened.machine opened.ahead.sound c.args.opening.budget
+    (ended c.ending_laws.ensures (given_by c.args.opening.start.value c.args.startup.now) c.args.opening.start.value opened.machine opened.ahead.sound c.args.opening.budget
     outcome ran.mine x l ran.account (account c.with_workers-pass.result.1) (g.B.Board.tells c.args.board.now) (g.B.Board.tells run.board.now)
     (g.O.Sink.tells c.args.out.now) mid to ran.toiled ran.number (ran.led opened.ahead.leads) opens (c.tell_rest-end.ensures.stays.1 ∙ opens)
     (crew.stays.2 ∙ c.requires.all) (hall c.with_workers-pass.result.0) all.legal all.enough all.all_own run.end c.tell_rest-end.result ran.drove.2 rests).0
@@ -66,7 +66,7 @@ returns-clause-cause g c =
     let mid = g.O.Sink.tells run.out.now in
     let to = g.O.Sink.tells c.tell_rest-end.new.out in
     let rests = subst (λ (end : ServeEnd). RestsBy end c.tell_rest-end.result x l mid to) c.joined-end.ensures c.tell_rest-end.ensures.rests in
-    (ended c.ending_laws.ensures (given_over c.args.opening c.args.startup.now) c.args.opening.start.value opened.machine opened.ahead.sound c.args.opening.budget
+    (ended c.ending_laws.ensures (given_by c.args.opening.start.value c.args.startup.now) c.args.opening.start.value opened.machine opened.ahead.sound c.args.opening.budget
     outcome ran.mine x l ran.account (account c.with_workers-pass.result.1) (g.B.Board.tells c.args.board.now) (g.B.Board.tells run.board.now)
     (g.O.Sink.tells c.args.out.now) mid to ran.toiled ran.number (ran.led opened.ahead.leads) opens (c.tell_rest-end.ensures.stays.1 ∙ opens)
     (crew.stays.2 ∙ c.requires.all) (hall c.with_workers-pass.result.0) all.legal all.enough all.all_own run.end c.tell_rest-end.result ran.drove.2 rests).1

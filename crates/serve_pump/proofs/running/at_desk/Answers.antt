@@ -1,6 +1,6 @@
 use Rattle.std.proofs.Common.{◌≡◌, true, ap, ◌∙◌, subst, sym}
-use Rattle.desk_jobs.proofs.Crewed.{same_crew}
-use Rattle.machine_desk.specs.Desks.{DeskView, HadMemory, calls_of}
+use Rattle.machine_desk.proofs.Crewed.{same_crew}
+use Rattle.machine_desk.specs.Desks.{DeskView, HadMemory, NoneOverflows, calls_of}
 use Rattle.serve_steps.specs.declared.end.ServeEnd.{ServeEnd}
 use Rattle.serve_channels.specs.declared.server.Server.{Server}
 use Rattle.serve_pump.specs.Beginning.{given_by}
@@ -48,6 +48,7 @@ returns-clause-drove g c =
     subst (λ (d : DeskView). RanAt c.run-end.result (given_by d.footing.start startup) old_board.log new_board.log last old new) begins c.run-end.ensures.ran in
     let had : c.had_memory.result ≡ true → HadMemory (calls_of last.past) last.own =
     subst (λ (s : Server). c.had_memory.result ≡ true → HadMemory (calls_of s.desk.past) s.desk.own) c.into_server-server.ensures c.had_memory.ensures in
-    let drove = memory_drove given last old_board new_board old new c.run-end.result c.had_memory.result ran c.run-end.ensures.caused had in
+    let room : NoneOverflows last.past = subst (λ (s : Server). NoneOverflows s.desk.past) c.into_server-server.ensures c.law.ensures.room in
+    let drove = memory_drove given last old_board new_board old new room c.run-end.result c.had_memory.result ran c.run-end.ensures.caused had in
     subst (λ (d : DeskView). DroveAt c.with_memory-end.result given d old_board new_board old new) (sym ended)
     (subst (λ (end : ServeEnd). DroveAt end given last old_board new_board old new) (sym c.with_memory-end.ensures) drove)

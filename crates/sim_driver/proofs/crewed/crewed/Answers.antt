@@ -6,7 +6,7 @@ use Rattle.history_lock.specs.Passes.{known}
 use Rattle.machine_steps.proofs.Sending.{entry_send, reply_send}
 use Rattle.worker_crew.specs.Takers.{account}
 use Rattle.sim_driver.specs.declared.drive.SimEnd.{SimEnd}
-use Rattle.sim_driver.specs.Passes.{given_over}
+use Rattle.sim_driver.specs.Passes.{given_by}
 use Rattle.sim_driver.specs.Runs.{Ends, refused_line}
 use Rattle.sim_driver.proofs.Beside.{joined_ends}
 use Rattle.sim_driver.proofs.Going.{Known}
@@ -25,14 +25,14 @@ with_workers-pass-requires-send-M-Reply g c κs within = search (reply_send, sen
 pub returns-in_default-clause-ends : goal.returns-in_default-clause-ends
 returns-in_default-clause-ends g c =
     let devices = map g.D.Device.meaning c.args.devices.now in
-    let given = given_over c.args.opening devices c.args.script.now c.args.first in
+    let given = given_by c.args.opening.start.value devices c.args.script.now c.args.first in
     let opened = c.requires.opened in
     never_ran given (record { laws = c.deed_laws.ensures; ranges = opened.ranges; idle = opened.idle }) devices (g.O.Sink.tells c.args.to.now)
 
 pub returns-clause-ends : goal.returns-clause-ends
 returns-clause-ends g c =
     let devices = map g.D.Device.meaning c.args.devices.now in
-    let given = given_over c.args.opening devices c.args.script.now c.args.first in
+    let given = given_by c.args.opening.start.value devices c.args.script.now c.args.first in
     let refused = refused_line (length c.args.devices.now) c.args.first c.args.script.now in
     let opened = c.requires.opened in
     let told : Known given = record { laws = c.deed_laws.ensures; ranges = opened.ranges; idle = opened.idle } in
@@ -45,7 +45,7 @@ returns-clause-ends g c =
     let ran = crew.crewed in
     let all = c.close_hall-2.ensures in
     let ends =
-    joined_ends c.legal_laws.ensures.turns c.between_laws.ensures.frozen c.between_laws.ensures.stays run.end c.with_workers-pass.result.2 given told refused
+    joined_ends c.hearing_laws.ensures.room c.legal_laws.ensures.turns c.between_laws.ensures.frozen c.between_laws.ensures.stays run.end c.with_workers-pass.result.2 given told refused
     c.args.opening.start.value opened.opened.machine c.requires.beside.0 c.args.opening.budget ran.mine last ran.account (account c.with_workers-pass.result.1)
     after old new
     ran.drove.2 ran.toiled ran.number all.enough (ran.led opened.opened.ahead.leads) all.legal (crew.stays.1 ∙ opened.opened.ahead.opens) all.all_own in

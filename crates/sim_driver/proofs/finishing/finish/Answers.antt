@@ -1,4 +1,4 @@
-use Rattle.std.proofs.Common.{ap, is_some, map, subst, sym, ◌∙◌}
+use Rattle.std.proofs.Common.{map, subst, sym}
 use Rattle.sim_channels.specs.declared.driver.Driver.{Driver}
 use Rattle.sim_channels.specs.Channels.{bench}
 use Rattle.sim_driver.specs.Passes.{IsFinished, IsReady}

@@ -1,12 +1,12 @@
 use Rattle.std.proofs.Common.{◌≡◌, ℕ, true, List, [], length, map, arith, refl, sym, ap, ◌∙◌, subst, rules}
 use Rattle.std.proofs.lemmas.List.{length-map, nil_from_length}
-use Rattle.desk_jobs.proofs.Crewed.{crew_then, same_crew}
+use Rattle.machine_desk.proofs.Crewed.{crew_then, same_crew}
 use Rattle.script_text.specs.Lines.{ended_lines}
 use Rattle.script_text.specs.Orders.{orders_of}
 use Rattle.script_text.specs.Steps.{order_with}
 use Rattle.sim_steps.specs.Benches.{Bench}
 use Rattle.sim_driver.specs.declared.drive.SimEnd.{SimEnd}
-use Rattle.sim_driver.specs.Passes.{EndsAt, given_at}
+use Rattle.sim_driver.specs.Passes.{EndsAt, given_by}
 use Rattle.sim_driver.specs.Runs.{is_whole}
 use Rattle.sim_driver.proofs.Going.{Known, broken_off, followed, marked_hall, stopped_behind, stopped_in, went_further, went_none}
 use Rattle.sim_driver.proofs.lines.run_lines.Goals.{then-is_empty, else-is_empty+in-Err-End, else-is_empty+in-Err-Refused}
@@ -19,7 +19,7 @@ overflow_cast-places g c =
 pub loop-rest-init : goal.loop-rest-init
 loop-rest-init g c =
     let devices = map g.D.Device.meaning c.args.devices.now in
-    let given = given_at c.args.driver.now.desk devices c.args.script.now c.args.first in
+    let given = given_by c.args.driver.now.desk.now devices c.args.script.now c.args.first in
     let known : Known given = record { laws = c.deed_laws.ensures; ranges = c.requires.opened.ranges; idle = c.requires.opened.idle } in
     record {
       ready = c.requires.opened.ready;
@@ -69,7 +69,7 @@ returns-in-Err-clause-crew g c =
 
 pub returns-in-Err-clause-ends : goal.returns-in-Err-clause-ends
 returns-in-Err-clause-ends g c =
-    let given = given_at c.args.driver.now.desk (map g.D.Device.meaning c.args.devices.now) c.args.script.now c.args.first in
+    let given = given_by c.args.driver.now.desk.now (map g.D.Device.meaning c.args.devices.now) c.args.script.now c.args.first in
     let after = map g.D.Device.meaning c.follow.new.all in
     let to = g.O.Sink.tells c.follow.new.to in
     let start = c.loop-rest.invariant.same.start ∙ c.requires.opened.start ∙ ap (λ (b : Bench). b.machine) c.requires.opened.opening in
@@ -116,7 +116,7 @@ returns-in-Err-finish-clause-ends g c =
       | else-is_empty+in-Err-End w ↦ (rw w.in-Err-End.field-0-is at w.in-Err-End.ensures.stop).orders
       | else-is_empty+in-Err-Refused w ↦ (rw w.in-Err-Refused.field-0-is at w.in-Err-Refused.ensures.stop).orders
     ] in
-    let given = given_at c.args.driver.now.desk (map g.D.Device.meaning c.args.devices.now) c.args.script.now c.args.first in
+    let given = given_by c.args.driver.now.desk.now (map g.D.Device.meaning c.args.devices.now) c.args.script.now c.args.first in
     let after = map g.D.Device.meaning c.finish.new.all in
     let to = g.O.Sink.tells c.finish.new.to in
     let start = c.loop-rest.invariant.same.start ∙ c.requires.opened.start ∙ ap (λ (b : Bench). b.machine) c.requires.opened.opening in

@@ -23,4 +23,5 @@ returns g c =
       rest = told_rest laws note old new h.kept enters rest footing resting h.rest;
       told = λ devices fits. asked_over laws resting (entries.Note note) Done old new h.kept enters rest devices h.rest refl h.settled refl h.may;
       same = same_desk old new rest footing;
+      desk = rest;
     }

@@ -3,6 +3,7 @@ use Rattle.history_lock.specs.Histories.{state_behind}
 use Rattle.history_lock.specs.Passes.{known}
 use Rattle.machine_sharing.specs.Legal.{turns_of}
 use Rattle.machine_desk.specs.Desks.{DeskLaw, DeskView}
+use Rattle.machine_desk.proofs.Room.{turns_found}
 use Rattle.machine_desk.proofs.Turning.{turns_append}
 use Rattle.machine_desk.proofs.desk.Desk.law.Goals as goal
 
@@ -20,4 +21,5 @@ returns c =
       legal = (laws.turns start k.seen (state_behind start k.seen) desk.legal).leads;
       begins = (turns_of (state_behind start mark.seen) later.0, (ap (turns_of start) later.1 ∙ turns_append start mark.seen later.0));
       full = desk.full;
+      room = turns_found start k.seen c.self.invariant.1.4;
     })

@@ -3,7 +3,7 @@ use Rattle.history_lock.specs.Passes.{hall, known}
 use Rattle.packet_workers.specs.declared.worked.Worked.TheVariants.{Worn}
 use Rattle.machine_desk.specs.Desks.{DeskView, view_by}
 use Rattle.machine_desk.specs.Working.{Works}
-use Rattle.machine_desk.proofs.AtWork.{desk_stays, full_by, is_same, is_worn, marked, not_lacking, told_stays, works, works_not}
+use Rattle.machine_desk.proofs.AtWork.{desk_stays, full_by, is_same, is_worn, marked, not_lacking, roomy_stays, told_stays, works, works_not}
 use Rattle.machine_desk.proofs.Memory.{AllHad, memory_stays, rounds_had}
 use Rattle.machine_desk.proofs.desk.Desk.work.Goals as goal
 
@@ -35,6 +35,7 @@ invariant_of-self g c =
         told_stays laws old new start worn desk done.calls done.adds c.self.inside.learning c.self.inside.budget c.self.invariant.1.1,
         marked laws old new start worn desk done.calls done.adds (known c.self.inside.mark.value) c.self.invariant.1.2,
         memory_stays old new done.calls done.adds.did c.self.inside.lacked c.eq.result had c.self.invariant.1.3,
+        roomy_stays laws old new start worn desk done.calls done.adds c.self.invariant.1.4,
       ),
     )
 

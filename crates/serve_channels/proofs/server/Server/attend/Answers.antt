@@ -1,18 +1,12 @@
-use Rattle.std.proofs.Common.{Ok, Err, ap}
-use Rattle.std.specs.Prelude.{OnOk, Result, is_some}
-use Rattle.desk_jobs.specs.declared.stopped.Stopped.{Stopped}
-use Rattle.desk_jobs.specs.Tending.{IsWhole}
-use Rattle.serve_channels.specs.Passing.{Attends}
-use Rattle.serve_channels.specs.declared.server.Server.{Server}
-use Rattle.serve_channels.proofs.Attended.{worked_alone}
+use Rattle.std.proofs.Common.{ap, refl}
+use Rattle.std.specs.Prelude.{is_some}
+use Rattle.machine_desk.proofs.Tended.{attends_alone}
+use Rattle.serve_channels.specs.Servers.{home}
 use Rattle.serve_channels.proofs.server.Server.attend.Goals as goal
 
 pub returns-in-None-clause-attends : goal.returns-in-None-clause-attends
-returns-in-None-clause-attends g c = go c.answered.result c.answered.ensures.whole
-  where
-    old : Server
-    old = c.args.self.now
-
-    go : (r : Result (Unit {0}) Stopped) → OnOk r (IsWhole c.work.result) → OnOk r (Attends c.args.item old (record old { desk = c.work.new.self }))
-    go (Err stopped) whole = tt
-    go (Ok done) whole = worked_alone old c.work.new.self c.args.item c.work.result (ap is_some c.in-None.is) c.work.ensures.footing c.work.ensures.works whole
+returns-in-None-clause-attends g c =
+    let old = c.args.self.now in
+    let w = c.work.ensures in
+    attends_alone home old (record old { desk = c.work.new.self }) refl w.footing (ap is_some c.in-None.is) refl c.args.item c.work.result w.works
+    c.answered.result c.answered.ensures.whole

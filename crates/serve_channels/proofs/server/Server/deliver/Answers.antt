@@ -1,10 +1,11 @@
 use Rattle.std.proofs.Common.{◌∙◌}
+use Rattle.machine_desk.proofs.Tended.{same_then}
 use Rattle.serve_channels.proofs.Acts.{quietly_then}
 use Rattle.serve_channels.specs.Delivering.{ServesAll}
-use Rattle.serve_channels.proofs.Kept.{same_then}
 use Rattle.serve_channels.proofs.Numbered.{numbers_then}
 use Rattle.serve_channels.proofs.Rounds.{round_done, round_then, serving_on, still_now}
 use Rattle.serve_channels.proofs.server.Server.deliver.Goals as goal
+use Rattle.serve_channels.specs.Servers.{home}
 
 pub rounds-preserved : goal.rounds-preserved
 rounds-preserved g c =
@@ -21,7 +22,7 @@ rounds-preserved g c =
       numbers = numbers_then c.args.self.now c.rounds.self c.deliver_round.new.self i.numbers e.numbers;
       quietly = quietly_then first old new i.quietly e.quietly;
       faults = e.faults ∙ i.faults;
-      same = same_then i.same e.same;
+      same = same_then home i.same e.same;
     }
 
 pub returns-clause-goes : goal.returns-clause-goes

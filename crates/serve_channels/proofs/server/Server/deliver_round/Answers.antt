@@ -1,10 +1,11 @@
 use Rattle.std.proofs.Common.{◌<◌, ℕ, refl, subst, ◌∙◌, arith}
+use Rattle.machine_desk.proofs.Tended.{same_self, same_then}
 use Rattle.serve_channels.proofs.Acts.{quietly_none, quietly_then}
 use Rattle.serve_channels.specs.Delivering.{ServesAt}
-use Rattle.serve_channels.proofs.Kept.{same_self, same_then}
 use Rattle.serve_channels.proofs.Numbered.{numbers_then, numbers_same}
 use Rattle.serve_channels.proofs.Rounds.{below_all, below_none, below_then, empties_all, empties_none, empties_then, fewer_then, long_on, serving_on, within_on}
 use Rattle.serve_channels.proofs.server.Server.deliver_round.Goals as goal
+use Rattle.serve_channels.specs.Servers.{home}
 
 pub loop-at-init : goal.loop-at-init
 loop-at-init g c = record {
@@ -15,7 +16,7 @@ loop-at-init g c = record {
   numbers = numbers_same c.args.self.now;
   quietly = quietly_none (g.B.Board.tells c.args.board.now).log;
   faults = refl;
-  same = same_self c.args.self.now;
+  same = same_self home c.args.self.now;
 }
 
 pub deliver_to-requires-clause-within : goal.deliver_to-requires-clause-within
@@ -41,7 +42,7 @@ loop-at-preserved g c =
       numbers = numbers_then c.args.self.now c.loop-at.self c.deliver_to.new.self i.numbers e.numbers;
       quietly = quietly_then first old new i.quietly e.quietly;
       faults = e.faults ∙ i.faults;
-      same = same_then i.same e.same;
+      same = same_then home i.same e.same;
     }
 
 pub returns-clause-goes : goal.returns-clause-goes

@@ -1,9 +1,10 @@
 use Rattle.std.proofs.Common.{subst}
 use Rattle.machine_desk.specs.Hearing.{Comes}
-use Rattle.serve_channels.proofs.Coming.{crew_stays, has_crew, nothing_at, numbers_behind, source_numbers, source_same, told_at}
-use Rattle.serve_channels.proofs.Kept.{same_then}
+use Rattle.machine_desk.proofs.Tended.{same_then}
+use Rattle.serve_channels.proofs.Coming.{crew_stays, has_crew, nothing_at, numbers_behind, room_there, source_numbers, source_same, told_at}
 use Rattle.serve_channels.proofs.Numbered.{numbers_of, numbers_same, numbers_then}
 use Rattle.serve_channels.proofs.server.Server.hear_next.Goals as goal
+use Rattle.serve_channels.specs.Servers.{home}
 
 pub returns-in_default-clause-hears : goal.returns-in_default-clause-hears
 returns-in_default-clause-hears g c =
@@ -13,10 +14,15 @@ returns-in_default-clause-hears g c =
 pub make_room_for-requires : goal.make_room_for-requires
 make_room_for-requires g c = record { crew = has_crew c.args.self.now c.requires.serving }
 
+pub hear_input-requires-clause-room : goal.hear_input-requires-clause-room
+hear_input-requires-clause-room g c =
+    room_there c.args.at c.args.self.now c.index_mut.result.now c.next.new.self c.requires.within c.index_mut.ensures.value c.requires.serving
+    c.make_room_for.new.self c.in-Some.input c.in_ok-make_room_for.ensures.room
+
 pub returns-clause-hears : goal.returns-clause-hears
 returns-clause-hears g c =
     told_at c.args.at c.args.self.now c.index_mut.result.now c.next.new.self c.requires.within c.index_mut.ensures.value
-    c.serving_laws.ensures c.working_laws.ensures.close c.law.ensures c.requires.serving c.make_room_for.new.self c.hear_input.new.self c.follow.new.self
+    c.serving_laws.ensures c.law.ensures c.requires.serving c.make_room_for.new.self c.hear_input.new.self c.follow.new.self
     c.in-Some.input c.in_ok-heard.heard (subst (λ o. Comes o c.index_mut.result.now.inbound c.next.new.self) c.in-Some.is c.in_ok-input.ensures.comes)
     c.in_ok-make_room_for.ensures.room c.in_ok-heard.ensures.hears c.hear_input.ensures.same c.of-came.result c.of-came.ensures c.in_ok-follow.ensures.follows
 
@@ -60,16 +66,16 @@ returns-in_err-follow-clause-same g c =
     let room = c.make_room_for.new.self in
     let mid = c.hear_input.new.self in
     let new = c.follow.new.self in
-    same_then (source_same c.args.at c.args.self.now c.index_mut.result.now c.next.new.self c.requires.within c.index_mut.ensures.value)
-    (same_then c.make_room_for.ensures.same (same_then c.hear_input.ensures.same c.follow.ensures.same))
+    same_then home (source_same c.args.at c.args.self.now c.index_mut.result.now c.next.new.self c.requires.within c.index_mut.ensures.value)
+    (same_then home c.make_room_for.ensures.same (same_then home c.hear_input.ensures.same c.follow.ensures.same))
 
 pub returns-clause-same : goal.returns-clause-same
 returns-clause-same g c =
     let room = c.make_room_for.new.self in
     let mid = c.hear_input.new.self in
     let new = c.follow.new.self in
-    same_then (source_same c.args.at c.args.self.now c.index_mut.result.now c.next.new.self c.requires.within c.index_mut.ensures.value)
-    (same_then c.make_room_for.ensures.same (same_then c.hear_input.ensures.same c.follow.ensures.same))
+    same_then home (source_same c.args.at c.args.self.now c.index_mut.result.now c.next.new.self c.requires.within c.index_mut.ensures.value)
+    (same_then home c.make_room_for.ensures.same (same_then home c.hear_input.ensures.same c.follow.ensures.same))
 
 pub follow-requires : goal.follow-requires
 follow-requires g c = record {

@@ -1,9 +1,10 @@
 use Rattle.std.proofs.Common.{take, refl}
 use Rattle.maple_io.specs.declared.board.Turn.TheVariants as turn
+use Rattle.machine_desk.proofs.Tended.{same_self}
 use Rattle.serve_channels.specs.Delivering.{bytes_in}
-use Rattle.serve_channels.proofs.Kept.{same_server}
 use Rattle.serve_channels.proofs.Taking.{fails_by, given_so, gives_bytes, not_fed, receives}
 use Rattle.serve_channels.proofs.server.Server.receive.Goals as goal
+use Rattle.serve_channels.specs.Servers.{home}
 
 pub returns-in_ok-feed-clause-receives : goal.returns-in_ok-feed-clause-receives
 returns-in_ok-feed-clause-receives g c = λ given before past kept.
@@ -21,7 +22,7 @@ returns-in_default g c =
       faults = fails_by t (g.B.Board.tells c.args.board.now) (g.B.Board.tells c.next-turn.new.self) c.next-turn.ensures.cause c.next-turn.ensures.spared;
       stopped = tt;
       desk = refl;
-      same = same_server old old refl;
+      same = same_self home old;
     }
 
 pub returns-in_ok-feed-clause-faults : goal.returns-in_ok-feed-clause-faults

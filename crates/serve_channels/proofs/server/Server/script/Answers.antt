@@ -5,11 +5,12 @@ use Rattle.std.proofs.lemmas.List.{append-nil}
 use Rattle.std.proofs.lemmas.Result.{on_ok_weaker}
 use Rattle.board_lines.specs.Laws.{given_of}
 use Rattle.board_lines.specs.Readings.{Reading}
+use Rattle.machine_desk.proofs.Tended.{same_then}
 use Rattle.serve_channels.specs.declared.scripting.ScriptEnd.{ScriptEnd}
 use Rattle.serve_channels.proofs.Items.{list_end, script_does}
-use Rattle.serve_channels.proofs.Kept.{same_then}
 use Rattle.serve_channels.proofs.Texts.{followed_all, followed_by, followed_end, followed_none, followed_on, script_last, script_next}
 use Rattle.serve_channels.proofs.server.Server.script.Goals as goal
+use Rattle.serve_channels.specs.Servers.{home}
 
 pub loop-byte-init : goal.loop-byte-init
 loop-byte-init g c =
@@ -18,7 +19,7 @@ loop-byte-init g c =
     (sym (c.control_laws.ensures.numbered c.args.first_line text) ∙ ap (λ (r : Reading). given_of r (text ∷ [])) (sym c.new_at-reader.ensures))
 
 pub returns-in_err-end-clause-same : goal.returns-in_err-end-clause-same
-returns-in_err-end-clause-same g c = same_then c.loop-byte.invariant.same c.in_err-end.ensures.same
+returns-in_err-end-clause-same g c = same_then home c.loop-byte.invariant.same c.in_err-end.ensures.same
 
 pub returns-in_default : goal.returns-in_default
 returns-in_default g c =
@@ -50,5 +51,5 @@ returns g c =
           (λ goes. followed_all (followed_by (script_does first) at.invariant goes did.connections did.same (ap script_does last ∙ sym (append-nil (script_does first))) refl)) did.goes;
       end = subst (λ (end : ScriptEnd). IfOk result (λ how. how ≡ end)) (sym (at.invariant.end_is ∙ ap list_end last)) did.end;
       connections = did.connections ∙ at.invariant.connections;
-      same = same_then at.invariant.same did.same;
+      same = same_then home at.invariant.same did.same;
     }

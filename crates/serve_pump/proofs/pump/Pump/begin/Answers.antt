@@ -1,18 +1,19 @@
 use Rattle.std.proofs.Common.{◌≡◌, true, [], ◌++◌, append-nil, refl, ap, ◌∙◌, subst, sym}
 use Rattle.std.specs.List.{list_all}
 use Rattle.machine_desk.proofs.Opened.{opened_with}
+use Rattle.machine_desk.proofs.Tended.{same_then}
+use Rattle.core_machine.proofs.Hearing.{on_err}
+use Rattle.serve_channels.specs.Servers.{home}
 use Rattle.serve_steps.specs.Parts.{is_quiet}
 use Rattle.serve_steps.specs.Runs.{taken_report}
-use Rattle.serve_channels.proofs.Kept.{same_then}
 use Rattle.serve_pump.specs.declared.pump.Pump.{Pump}
 use Rattle.serve_pump.specs.Beginning.{given_at}
 use Rattle.serve_pump.proofs.Started.{begun_breaks, begun_failed, begun_ok, begun_serving, breaks_by_past, breaks_told, is_failed, listens_not_write, listens_spared, reader_stays, room_stays, still_alone}
-use Rattle.serve_pump.proofs.Turned.{on_err}
 use Rattle.serve_pump.proofs.pump.Pump.begin.Goals as goal
 
 pub returns-in_err-end-clause-breaks : goal.returns-in_err-end-clause-breaks
 returns-in_err-end-clause-breaks g c =
-    on_err c.from_residual.result
+    on_err c.from_residual.result _
     (breaks_by_past c.begin_laws.ensures.report (given_at c.args.self.now.server c.args.startup.now) (g.B.Board.tells c.args.board.now).log c.carry_out-carried.new.self
     c.law.ensures (ap (λ f. f.start) c.carry_out-carried.ensures.same.footing ∙ opened_with c.args.self.now.server.desk c.requires.fresh.opened) (g.O.Sink.tells c.args.out.now))
 
@@ -58,7 +59,7 @@ returns-in-Ok g c =
           begun_serving laws state startup old_board f.server d old new w v reports law none rest still end told.end p refl reader new_board c.listen.result
           listens;
       room = room_stays c.args.self.now f c.carry_out-carried.ensures.rest;
-      same = same_then c.carry_out-carried.ensures.same c.report-reported.ensures.same;
+      same = same_then home c.carry_out-carried.ensures.same c.report-reported.ensures.same;
     }
 
 pub returns-in-Err-clause-breaks : goal.returns-in-Err-clause-breaks

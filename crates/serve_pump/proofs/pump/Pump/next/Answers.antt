@@ -1,13 +1,14 @@
 use Rattle.std.proofs.Common.{refl}
 use Rattle.std.specs.Vec.{with_items}
+use Rattle.core_machine.proofs.Hearing.{on_err}
 use Rattle.serve_pump.specs.declared.pump.Pump.{Pump}
-use Rattle.serve_pump.proofs.Turned.{breaks_given, breaks_unbegun, comes_else, fails_at_board, fails_else, on_err, received_in, stays_failed, stays_lacking}
+use Rattle.serve_pump.proofs.Turned.{breaks_given, breaks_unbegun, comes_else, fails_at_board, fails_else, received_in, stays_failed, stays_lacking}
 use Rattle.serve_pump.proofs.pump.Pump.next.Goals as goal
 
 pub returns-in_err-turn-clause-breaks : goal.returns-in_err-turn-clause-breaks
 returns-in_err-turn-clause-breaks g c =
     let new : Pump = record c.args.self.now { server = c.receive.new.self; room = with_items c.args.self.now.room c.receive.new.into } in
-    on_err c.from_residual.result
+    on_err c.from_residual.result _
     (breaks_given c.args.self.now new c.law.ensures c.receive.ensures.desk c.turn_laws.ensures.report _ _ c.in_err-turn.ensures.stopped.0)
 
 pub returns-in-Failed-clause-breaks : goal.returns-in-Failed-clause-breaks

@@ -1,8 +1,9 @@
 use Rattle.std.proofs.Common.{◌≡◌, Err, ap, ◌∙◌, refl}
+use Rattle.core_machine.proofs.Hearing.{on_err}
 use Rattle.serve_pump.specs.declared.pump.Pump.{Pump}
 use Rattle.serve_pump.specs.declared.pump.TurnStop.{TurnStop}
 use Rattle.serve_pump.specs.declared.pump.TurnStop.TheVariants as stops
-use Rattle.serve_pump.proofs.Turned.{breaks_followed, breaks_told, on_err, serving_told, turned_by, turns_by}
+use Rattle.serve_pump.proofs.Turned.{breaks_followed, breaks_told, serving_told, turned_by, turns_by}
 use Rattle.serve_pump.proofs.pump.Pump.turn.Goals as goal
 
 pub returns-in-Err-clause-failed : goal.returns-in-Err-clause-failed
@@ -17,7 +18,7 @@ follow-followed-requires-clause-turned g c =
 
 pub returns-in_err-ended-clause-breaks : goal.returns-in_err-ended-clause-breaks
 returns-in_err-ended-clause-breaks g c =
-    on_err c.from_residual.result
+    on_err c.from_residual.result _
     (breaks_followed c.in-Ok.turn c.args.self.now c.next.new.self (g.B.Board.tells c.args.board.now) (g.B.Board.tells c.next.new.board) c.in-Ok.ensures.received
     c.mark.new.self c.mark.ensures c.follow-followed.new.self _ c.turn_laws.ensures.report c.follow-followed.ensures.same.footing c.follow-followed.ensures.quietly
     c.law.ensures (g.O.Sink.tells c.args.out.now))

@@ -4,7 +4,7 @@ use Rattle.std.proofs.lemmas.Option.{slice_get_read}
 use Rattle.sim_channels.specs.declared.driver.Driver.{Driver}
 use Rattle.sim_channels.specs.Channels.{with_inbound}
 use Rattle.sim_channels.proofs.Others.{same_but}
-use Rattle.sim_channels.proofs.Staged.{kept_heard, waits_heard}
+use Rattle.sim_channels.proofs.Staged.{kept_heard}
 use Rattle.sim_channels.proofs.driver.Driver.hear.Goals as goal
 
 pub returns : goal.returns
@@ -19,6 +19,5 @@ returns g c =
     record {
       hears = record { connection = k; there = there; number = c.requires.kept.names c.args.at k there; behind = j; does = h.ok; rest = refl; all = refl };
       kept = kept_heard c.driving_laws.ensures old new c.args.at k j c.requires.kept there refl refl same c.args.input c.in_ok-hear.field-0 h.ok h.staged;
-      waits = waits_heard c.driving_laws.ensures old new c.args.at k j c.requires.kept there refl refl same c.args.input c.in_ok-hear.field-0 h.ok;
       same = same;
     }

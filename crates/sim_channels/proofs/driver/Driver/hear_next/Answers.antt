@@ -3,6 +3,8 @@ use Rattle.std.specs.Prelude.{IfSome}
 use Rattle.machine_steps.specs.Admitting.{IsHeard}
 use Rattle.sim_channels.specs.declared.driver.Driver.{Driver}
 use Rattle.sim_channels.specs.Passes.{ComesAt, HearsInput}
+use Rattle.machine_desk.proofs.Smooth.{takes_in}
+use Rattle.sim_channels.specs.Channels.{WorksAlone, home}
 use Rattle.sim_channels.specs.Waiting.{NoneWaits}
 use Rattle.sim_channels.proofs.Others.{alone_back, same_then, tends_kept}
 use Rattle.sim_channels.proofs.Passing.{hears_next, passed_by, passed_nothing}
@@ -21,13 +23,17 @@ returns-in_default g c =
 pub hear-requires-clause-kept : goal.hear-requires-clause-kept
 hear-requires-clause-kept g c = tends_kept c.driving_laws.ensures c.next.new.self c.make_room_for.new.self c.in_ok-input.ensures.kept c.in_ok-make_room_for.ensures.room.tends
 
-pub follow-requires-clause-waits : goal.follow-requires-clause-waits
-follow-requires-clause-waits g c alone =
-    let next = c.next.new.self in
-    let none = c.requires.jobs (alone_back c.args.self.now _ (same_then _ next _ c.next.ensures.same (same_then next _ _ c.make_room_for.ensures.same c.hear.ensures.same)) alone) in
-    c.in_ok-heard.ensures.waits
-    (subst (λ (d : Driver). NoneWaits d.desk) (sym (c.in_ok-make_room_for.ensures.room.alone (alone_back next _ (same_then next _ _ c.make_room_for.ensures.same c.hear.ensures.same) alone)))
-    (subst (λ (d : Driver). NoneWaits d.desk) (sym c.in_ok-input.ensures.comes.rest) none))
+pub hear-requires-clause-room : goal.hear-requires-clause-room
+hear-requires-clause-room g c = takes_in home c.in-Some.input c.make_room_for.new.self c.in_ok-make_room_for.ensures.room.room still
+  where
+    next : Driver
+    next = c.next.new.self
+
+    still : WorksAlone c.make_room_for.new.self → NoneWaits c.make_room_for.new.self.desk
+    still alone =
+        let before = alone_back next c.make_room_for.new.self c.make_room_for.ensures.same alone in
+        let none = c.requires.jobs (alone_back c.args.self.now next c.next.ensures.same before) in
+        subst (λ (d : Driver). NoneWaits d.desk) (sym (c.in_ok-make_room_for.ensures.room.alone before)) (subst (λ (d : Driver). NoneWaits d.desk) (sym c.in_ok-input.ensures.comes.rest) none)
 
 pub returns : goal.returns
 returns g c =

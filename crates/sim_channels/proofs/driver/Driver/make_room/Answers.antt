@@ -11,4 +11,4 @@ returns-in_ok-make_room-in-Some-clause-room g c =
     let old = c.args.self.now in
     let e = c.in_ok-make_room-in-Some.ensures in
     let same = same_beside old c.make_room.new.desk c.in-Some.crew c.make_room.new.self c.in-Some.is e.still e.footing in
-    room_by old c.make_room.new.desk c.in-Some.crew c.make_room.new.self c.in-Some.is same c.driving_laws.ensures c.tending_laws.ensures.allowed c.requires.kept c.tending_laws.ensures.room e.room
+    room_by old c.make_room.new.desk c.in-Some.crew c.make_room.new.self c.in-Some.is same c.driving_laws.ensures c.tending_laws.ensures.allowed c.requires.kept c.tending_laws.ensures.count e.room

@@ -1,6 +1,0 @@
-pub mod Crewed
-pub mod HadMemory
-pub mod Lists
-pub mod Meanwhile
-pub mod Parting
-pub mod Rounding

@@ -1,2 +1,0 @@
-pub mod Committing
-pub mod Concluding

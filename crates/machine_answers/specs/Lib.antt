@@ -1,2 +1,0 @@
--- Concluding serves private contracts; what the calls do is said in machine_steps.
-pub mod Concluding

@@ -1,7 +1,0 @@
-//! Packets are answered, and their traces learned.
-#![tactic(auto)]
-
-mod answers;
-mod runs;
-
-pub use runs::{commit, decide};
