@@ -10,6 +10,7 @@ pub mod Memory
 pub mod NoneLeft
 pub mod Opened
 pub mod Parting
+pub mod Renewing
 pub mod Replies
 pub mod Rested
 pub mod Room

@@ -57,7 +57,13 @@ abbrev pub Renews : Bool → List ℕ → DeskView → DeskView → Type 0
 Renews true text a b = PutsInForce text a b
 Renews false text a b = TellsRefusal text a b
 
--- memory didn't suffice for the policy's text, or for what would be told of it
-abbrev pub StopsRenewing : DeskStop → DeskView → DeskView → Type 0
-StopsRenewing NoMemory a b = (b ≡ a) ⊎ ((entry : Entry) × Enters a entry LacksMemory b)
-StopsRenewing Worn a b = WearsOut a b
+-- the entry that is made with a text: its policy is put in force, or it is of none, and where and why is told
+abbrev pub IsToRenew : List ℕ → Entry → Type 0
+IsToRenew text entry =
+    ((policy : Policy) × IsTextOf policy text × (entry ≡ entries.NewPolicy policy))
+    ⊎ ((line column kind : ℕ) × IsRefused text (Refused line column kind) × (entry ≡ refusal line column kind))
+
+-- memory didn't suffice for the policy's text, or for the entry that is made with it
+abbrev pub StopsRenewing : DeskStop → List ℕ → DeskView → DeskView → Type 0
+StopsRenewing NoMemory text a b = (b ≡ a) ⊎ ((entry : Entry) × IsToRenew text entry × Enters a entry LacksMemory b)
+StopsRenewing Worn text a b = WearsOut a b

@@ -62,9 +62,10 @@ impl<'h> Desk<'h> {
     /// # Errors
     ///
     /// As `ask`, and `NoMemory` for reading the text.
+    #[tactic(auto, using(crate::proofs::Renewing::stops_accepted, crate::proofs::Renewing::stops_refused))]
     pub fn renew<R: Wait>(&mut self, rt: &R, alloc: Global, text: &[u8]) -> Result<bool, DeskStop>
         ensures ok { IfOk result (λ accepted. Renews accepted text.now self.old self.new) }
-        ensures stops { IfErr result (λ stop. StopsRenewing stop self.old self.new) }
+        ensures stops { IfErr result (λ stop. StopsRenewing stop text.now self.old self.new) }
         ensures footing { self.new.footing ≡ self.old.footing }
     {
         match read_policy(alloc, text) {

@@ -23,9 +23,10 @@ pub fn first_wrong(alloc: Global, words: Words<'_>, out: &mut String) -> Result<
 fn wrong_among(alloc: Global, tokens: &[PlacedToken]) -> Result<Option<usize>, NoMemory> {
     let mut reader = Reader::new(alloc);
     for (ahead, placed) in tokens.iter().enumerate() {
-        if !reader.step(&placed.token)? {
+        let Some(next) = reader.step(&placed.token)? else {
             return Ok(Some(ahead));
-        }
+        };
+        reader = next;
     }
     if reader.is_at_end() {
         Ok(None)
@@ -50,9 +51,10 @@ fn emitted(alloc: Global, tokens: &[PlacedToken]) -> Result<Vec<Event>, NoMemory
     let mut events = Vec::new(alloc);
     for placed in tokens {
         reader.emit(&placed.token, &mut events)?;
-        if !reader.step(&placed.token)? {
+        let Some(next) = reader.step(&placed.token)? else {
             return Ok(events);
-        }
+        };
+        reader = next;
     }
     Ok(events)
 }

@@ -1,5 +1,5 @@
--- A reader must believe: Data (what data stand for), Scopes (which names are in force), Walked (what the answers of a part of a run say), Answers (the limits
--- of a budget). ExpressionParts, StatementParts and Evaluated serve private contracts alone.
+-- A reader must believe: Data (what data stand for), Scopes (which names are in force), Answers (the limits of a budget).
+-- Walked, ExpressionParts, StatementParts and Evaluated serve private contracts alone.
 pub mod Answers
 pub mod Data
 pub mod Evaluated

@@ -45,12 +45,12 @@ pub trait Asker {
         ensures held { holds self.new ≡ holds self.old };
 }
 
-/// Why a part of a run goes no further.
+// Why a part of a run goes no further.
 #[derive(Drop)]
 pub enum Stop {
-    /// The run has ended.
+    // The run has ended.
     Ended(Outcome),
-    /// A question was not answered, or memory ran out.
+    // A question was not answered, or memory ran out.
     Unanswered,
 }
 

@@ -54,7 +54,7 @@ impl Datum {
     }
 }
 
-/// What an operator makes of two data. Sums stop at 2^64 - 1, and differences at 0.
+// What an operator makes of two data. Sums stop at 2^64 - 1, and differences at 0.
 pub fn applied(operator: Operator, left: Datum, right: Datum) -> Datum
     ensures { datum_of result ≡ applied operator (datum_of left) (datum_of right) }
 {
@@ -70,7 +70,7 @@ pub fn applied(operator: Operator, left: Datum, right: Datum) -> Datum
     }
 }
 
-/// What an operator makes of both parts, where the left one doesn't settle it.
+// What an operator makes of both parts, where the left one doesn't settle it.
 pub fn made(operator: Operator, left: Datum, right: Datum) -> Datum
     ensures { IsMade result (settling operator) operator (datum_of left) (datum_of right) }
 {

@@ -9,31 +9,32 @@ ghost use Rattle.policy_eval.specs.declared.asker.Stop.TheVariants.{Ended};
 ghost use Rattle.policy_eval.specs.ExpressionParts.{GivesDatum, call_of, is_of, not_of, pair_of};
 ghost use Rattle.policy_eval.specs.Walked.{GivesValue, GivesNumbers};
 
+use crate::asker::{Asker, Stop, Unanswered};
 use crate::datum::{Datum, made};
 use crate::scope::Scope;
-use crate::{Asker, Stop, Unanswered};
 use maple_base::{Cell, Field, Operator, Outcome, Place, Value};
 use policy_lang::{Atom, Callee, Expr, Form};
 use std::alloc::Global;
 
-/// What a part of a run sees: its switch and the names in force.
+// What a part of a run sees: its switch and the names in force.
 #[derive(Drop)]
 pub struct Local {
     pub switch: u64,
     pub scope: Scope,
 }
 
-/// A run under way: who answers its questions, the steps that are left, and where its lists are made.
+// A run under way: who answers its questions, the steps that are left, and where its lists are made.
 pub struct Walk<A> {
     pub asker: A,
     pub steps: u32,
     pub alloc: Global,
 }
 
-/// Counts a step of those that are left; the run ends where none is.
+// Counts a step of those that are left; the run ends where none is.
 pub fn count(steps: &mut u32) -> Result<(), Stop>
     ensures counted { OnOk result (steps.old ≡ suc steps.new) }
     ensures none { OnErr result (steps.old ≡ 0) }
+    ensures kept { OnErr result (steps.new ≡ steps.old) }
     ensures spent { IfErr result (λ stop. stop ≡ Ended Spent) }
 {
     let left = steps.checked_sub(1);
@@ -75,7 +76,7 @@ impl<A: Asker> Walk<A> {
         }
     }
 
-    /// What an expression gives.
+    // What an expression gives.
     #[cycle(expressions)]
     #[tactic(auto, using(crate::proofs::Values::value_spent))]
     pub fn value(&mut self, expr: &Expr, at: &Local) -> Result<Datum, Stop>
@@ -147,7 +148,7 @@ impl<A: Asker> Walk<A> {
         Ok(made(op, left, right))
     }
 
-    /// The numbers of expressions, from left to right.
+    // The numbers of expressions, from left to right.
     #[tactic(auto, using(crate::proofs::Numbers::none_left, crate::proofs::Numbers::first_ends, crate::proofs::Numbers::rest_ends, crate::proofs::Numbers::rest_goes))]
     pub fn numbers(&mut self, exprs: &[Expr], at: &Local) -> Result<Vec<u64>, Stop>
         ensures given { GivesNumbers A.said self.old at.now (numbers_of (terms_of exprs.now)) result self.new }

@@ -1,11 +1,11 @@
 // The names in force.
-ghost use Rattle.std.specs.Prelude.{◌≡◌, ◌-◌, [], ◌∷◌, drop, length, OnOk};
+ghost use Rattle.std.specs.Prelude.{◌≡◌, ◌-◌, [], ◌∷◌, drop, length, OnOk, OnErr};
 ghost use Rattle.std.specs.List.{position};
 ghost use Rattle.policy_meaning.specs.Values.{named, assigned};
 ghost use Rattle.policy_eval.specs.Data.{datum_of};
 ghost use Rattle.policy_eval.specs.Scopes.{is_named};
 
-use crate::Datum;
+use crate::datum::Datum;
 use maple_base::{Name, NoMemory};
 use std::alloc::Global;
 use std::collections::VecDeque;
@@ -63,7 +63,8 @@ impl Scope {
 
     /// Declares a name.
     pub fn declare(&mut self, name: Name, datum: Datum) -> Result<(), NoMemory>
-        ensures { OnOk result (self.new ≡ (name, datum_of datum) ∷ self.old) }
+        ensures declared { OnOk result (self.new ≡ (name, datum_of datum) ∷ self.old) }
+        ensures err { OnErr result (self.new ≡ self.old) }
     {
         self.names.push_front((name, datum))?;
         Ok(())

@@ -8,6 +8,7 @@ use Rattle.policy_grammar.specs.declared.stage.Around.{Around}
 use Rattle.policy_grammar.specs.declared.stage.Shape.{Shape}
 use Rattle.policy_grammar.specs.Automaton.{least, made, settle}
 use Rattle.policy_grammar.specs.Events.{ended, endings}
+use Rattle.policy_grammar.specs.Reading.{HasGrown}
 use Rattle.policy_grammar.specs.Stacks.{top_of}
 
 pub top_below : {A : Type 0} (xs ys : List A) (n d : ℕ) (x : A) → reverse xs ≡ ys → n ≡ length xs → d < n → x ≡ get_or xs (n - 1 - d) x → Some x ≡ top_of (drop d ys)
@@ -30,8 +31,13 @@ stays_around : (n : ℕ) (as_ : List Around) (s r : Shape) → (settle n as_ s).
 stays_around n [] s r = refl
 stays_around n (a ∷ as_) s r = grind (arith, nat_tests)
 
+-- one more was added
+grown_more : (start es : List Event) (e : Event) → HasGrown start es → HasGrown start (es ++ e ∷ [])
+grown_more start es e g = record { more = g.more ++ e ∷ []; is = ap (λ us. us ++ e ∷ []) g.is ∙ append_assoc start g.more (e ∷ []) }
+
 -- so many of what stands around have ended, and were added to what there was
 pub record Ending (n : ℕ) (xs : List Around) (d : ℕ) (start es : List Event) : Type 0 where
+  pub grown : HasGrown start es
   pub events : es ++ endings n (drop d xs) ≡ start ++ endings n xs
   pub around : (s : Shape) → (settle n (drop d xs) s).around ≡ (settle n xs s).around
 
@@ -41,6 +47,7 @@ ending_more n xs d start es a t h k =
     let next = drop (d + 1) xs in
     let more : endings n (a ∷ next) ≡ ended a ∷ endings n next = ap (λ v. cond v (ended a ∷ endings n next) []) (lt-ltb n (least a) h) in
     record {
+      grown = grown_more start es (ended a) k.grown;
       events = append_assoc es (ended a ∷ []) (endings n next) ∙ ap (λ us. es ++ us) (sym more ∙ ap (endings n) (sym (drop_next xs d a t))) ∙ k.events;
       around = λ s.
           let same : settle n (a ∷ next) s ≡ settle n next (made a) = ap (λ v. cond v (settle n next (made a)) (record { around = a ∷ next; shape = s })) (lt-ltb n (least a) h) in

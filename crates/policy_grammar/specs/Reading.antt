@@ -1,15 +1,21 @@
 -- What a reader's answers say.
-use Rattle.std.specs.Prelude.{◌≡◌, ◌≢◌, ℕ, ◌≤◌, Bool, true, false, List, length, map, take, Option, Some, None}
+use Rattle.std.specs.Prelude.{◌≡◌, ◌≢◌, ℕ, ◌≤◌, ◌++◌, Bool, true, false, List, length, map, take, Option, Some, None}
 use Rattle.std.specs.List.{slice_get}
 use Rattle.policy_tokens.specs.declared.token.Token.{Token}
 use Rattle.policy_tokens.specs.declared.token.PlacedToken.{PlacedToken}
+use Rattle.policy_grammar.specs.declared.event.Event.{Event}
 use Rattle.policy_grammar.specs.declared.stage.Stage.TheVariants as at
 use Rattle.policy_grammar.specs.Automaton.{State, start, step, run}
 
--- the token was read, and this is the state behind it; or none like it may stand there
+-- for private contracts: the token was read, and this is the state behind it; or none like it may stand there
 abbrev pub Goes : Bool → State → Option State → Type 0
 Goes true new s = s ≡ Some new
 Goes false new s = s ≡ None
+
+-- for private contracts: what was there is still ahead of what was added
+pub record HasGrown (old new : List Event) : Type 0 where
+  pub more : List Event
+  pub is : new ≡ old ++ more
 
 -- ---- reading tokens
 

@@ -1,8 +1,9 @@
 // What each token adds to what was read.
-ghost use Rattle.std.specs.Prelude.{◌≡◌, ◌++◌, [], ◌∷◌, drop, OnOk, IfOk};
+ghost use Rattle.std.specs.Prelude.{◌≡◌, ◌++◌, [], ◌∷◌, drop, OnOk, OnErr, IfOk};
 ghost use Rattle.policy_grammar.specs.Automaton.{settle, operator_in};
 ghost use Rattle.policy_grammar.specs.declared.stage.Shape.{Shape};
 ghost use Rattle.policy_grammar.specs.Events.{ended, endings, operator_event, closing, finished, opening, behind_events, ahead_events, closed_events, name_events, table_events, statement_events, question_first, events_at, events};
+ghost use Rattle.policy_grammar.specs.Reading.{HasGrown};
 
 use crate::operator::operator_in;
 use crate::reader::pull;
@@ -13,7 +14,8 @@ use policy_tokens::{Keyword, Sign, Token};
 
 // Adds one item at the end.
 fn add<T: Copy>(out: &mut Vec<T>, item: T) -> Result<(), NoMemory>
-    ensures { OnOk result (out.new.items ≡ out.old.items ++ item ∷ []) }
+    ensures added { OnOk result (out.new.items ≡ out.old.items ++ item ∷ []) }
+    ensures kept { OnErr result (out.new.items ≡ out.old.items) }
 {
     out.push(item)?;
     Ok(())
@@ -21,10 +23,13 @@ fn add<T: Copy>(out: &mut Vec<T>, item: T) -> Result<(), NoMemory>
 
 // Adds one item, and another behind it.
 fn add_both<T: Copy>(out: &mut Vec<T>, first: T, second: T) -> Result<(), NoMemory>
-    ensures { OnOk result (out.new.items ≡ out.old.items ++ first ∷ second ∷ []) }
+    ensures added { OnOk result (out.new.items ≡ out.old.items ++ first ∷ second ∷ []) }
+    ensures kept { OnErr result (out.new.items ≡ out.old.items) }
 {
-    add(out, first)?;
-    add(out, second)
+    out.reserve(2)?;
+    out.push_reserved(first);
+    out.push_reserved(second);
+    Ok(())
 }
 
 // The end of an expression that has this around it.
@@ -41,7 +46,8 @@ fn ended(around: Around) -> Event
 }
 
 fn table(token: &Token, out: &mut Vec<Event>) -> Result<(), NoMemory>
-    ensures { OnOk result (out.new.items ≡ out.old.items ++ table_events token.now) }
+    ensures added { OnOk result (out.new.items ≡ out.old.items ++ table_events token.now) }
+    ensures kept { OnErr result (out.new.items ≡ out.old.items) }
 {
     match token {
         Token::Name(name) => add(out, Event::Table(*name)),
@@ -50,7 +56,8 @@ fn table(token: &Token, out: &mut Vec<Event>) -> Result<(), NoMemory>
 }
 
 fn named(token: &Token, out: &mut Vec<Event>) -> Result<(), NoMemory>
-    ensures { OnOk result (out.new.items ≡ out.old.items ++ name_events token.now) }
+    ensures added { OnOk result (out.new.items ≡ out.old.items ++ name_events token.now) }
+    ensures kept { OnErr result (out.new.items ≡ out.old.items) }
 {
     match token {
         Token::Name(name) => add(out, Event::Name(*name)),
@@ -58,8 +65,20 @@ fn named(token: &Token, out: &mut Vec<Event>) -> Result<(), NoMemory>
     }
 }
 
+// The beginning of a statement, with the name that is assigned.
+fn beginning(token: &Token, out: &mut Vec<Event>) -> Result<(), NoMemory>
+    ensures added { OnOk result (out.new.items ≡ out.old.items ++ Event.Begin ∷ name_events token.now) }
+    ensures kept { OnErr result (out.new.items ≡ out.old.items) }
+{
+    match token {
+        Token::Name(name) => add_both(out, Event::Begin, Event::Name(*name)),
+        _ => add(out, Event::Begin),
+    }
+}
+
 fn learning(token: &Token, out: &mut Vec<Event>) -> Result<(), NoMemory>
-    ensures { OnOk result (out.new.items ≡ out.old.items ++ events_at Stage.Policy [] [] token.now) }
+    ensures added { OnOk result (out.new.items ≡ out.old.items ++ events_at Stage.Policy [] [] token.now) }
+    ensures kept { OnErr result (out.new.items ≡ out.old.items) }
 {
     if is_keyword(token, Keyword::Learning) {
         return add(out, Event::Learning);
@@ -69,7 +88,8 @@ fn learning(token: &Token, out: &mut Vec<Event>) -> Result<(), NoMemory>
 
 // The first token of an expression.
 fn ahead(token: &Token, out: &mut Vec<Event>) -> Result<(), NoMemory>
-    ensures { OnOk result (out.new.items ≡ out.old.items ++ ahead_events token.now) }
+    ensures added { OnOk result (out.new.items ≡ out.old.items ++ ahead_events token.now) }
+    ensures kept { OnErr result (out.new.items ≡ out.old.items) }
 {
     if is_sign(token, Sign::OpenParenthesis) {
         add(out, Event::Group)
@@ -86,7 +106,8 @@ fn ahead(token: &Token, out: &mut Vec<Event>) -> Result<(), NoMemory>
 
 // The first token of what an `if` asks.
 fn question(token: &Token, out: &mut Vec<Event>) -> Result<(), NoMemory>
-    ensures { OnOk result (out.new.items ≡ out.old.items ++ question_first token.now) }
+    ensures added { OnOk result (out.new.items ≡ out.old.items ++ question_first token.now) }
+    ensures kept { OnErr result (out.new.items ≡ out.old.items) }
 {
     if is_keyword(token, Keyword::Host) || is_keyword(token, Keyword::Hop) {
         return add(out, Event::Begin);
@@ -96,7 +117,8 @@ fn question(token: &Token, out: &mut Vec<Event>) -> Result<(), NoMemory>
 
 // The semicolon behind a statement's expressions.
 fn finished(base: Base, out: &mut Vec<Event>) -> Result<(), NoMemory>
-    ensures { OnOk result (out.new.items ≡ out.old.items ++ finished base) }
+    ensures added { OnOk result (out.new.items ≡ out.old.items ++ finished base) }
+    ensures kept { OnErr result (out.new.items ≡ out.old.items) }
 {
     match base {
         Base::Out(count) => add(out, Event::Out(usize::from(count) + 1)),
@@ -109,7 +131,8 @@ fn finished(base: Base, out: &mut Vec<Event>) -> Result<(), NoMemory>
 
 // The opening brace behind an expression.
 fn opening(base: Base, out: &mut Vec<Event>) -> Result<(), NoMemory>
-    ensures { OnOk result (out.new.items ≡ out.old.items ++ opening base) }
+    ensures added { OnOk result (out.new.items ≡ out.old.items ++ opening base) }
+    ensures kept { OnErr result (out.new.items ≡ out.old.items) }
 {
     match base {
         Base::If => add_both(out, Event::Holds, Event::Open),
@@ -118,7 +141,8 @@ fn opening(base: Base, out: &mut Vec<Event>) -> Result<(), NoMemory>
 }
 
 fn operator(token: &Token, out: &mut Vec<Event>) -> Result<(), NoMemory>
-    ensures { OnOk result (out.new.items ≡ out.old.items ++ operator_event (operator_in token.now)) }
+    ensures added { OnOk result (out.new.items ≡ out.old.items ++ operator_event (operator_in token.now)) }
+    ensures kept { OnErr result (out.new.items ≡ out.old.items) }
 {
     match operator_in(token) {
         Some(operator) => add(out, Event::Operator(operator)),
@@ -129,10 +153,10 @@ fn operator(token: &Token, out: &mut Vec<Event>) -> Result<(), NoMemory>
 impl Reader {
     /// Adds to `out` what this token adds to what was read.
     ///
-    /// A token with which no policy can go on may add something too, which means nothing. Where
-    /// memory is wanting, a part may have been added.
+    /// A token with which no policy can go on may add something too, which means nothing.
     pub fn emit(&self, token: &Token, out: &mut Vec<Event>) -> Result<(), NoMemory>
         ensures emitted { OnOk result (out.new.items ≡ out.old.items ++ events self.now token.now) }
+        ensures kept { OnErr result (out.new.items ≡ out.old.items) }
     {
         match self.stage {
             Stage::Table => table(token, out),
@@ -160,7 +184,8 @@ impl Reader {
 
     // A closing brace.
     fn emit_closed(&self, out: &mut Vec<Event>) -> Result<(), NoMemory>
-        ensures { OnOk result (out.new.items ≡ out.old.items ++ closed_events self.now.blocks) }
+        ensures added { OnOk result (out.new.items ≡ out.old.items ++ closed_events self.now.blocks) }
+        ensures kept { OnErr result (out.new.items ≡ out.old.items) }
     {
         match self.blocks.top() {
             None => Ok(()),
@@ -172,7 +197,8 @@ impl Reader {
 
     // The first word of a statement, or the brace that closes its block.
     fn emit_statement(&self, token: &Token, out: &mut Vec<Event>) -> Result<(), NoMemory>
-        ensures { OnOk result (out.new.items ≡ out.old.items ++ statement_events self.now.blocks token.now) }
+        ensures added { OnOk result (out.new.items ≡ out.old.items ++ statement_events self.now.blocks token.now) }
+        ensures kept { OnErr result (out.new.items ≡ out.old.items) }
     {
         if is_sign(token, Sign::CloseBrace) {
             self.emit_closed(out)
@@ -181,25 +207,30 @@ impl Reader {
         } else if is_keyword(token, Keyword::Flood) {
             add_both(out, Event::Begin, Event::Flood)
         } else {
-            add(out, Event::Begin)?;
-            named(token, out)
+            beginning(token, out)
         }
     }
 
     // The same where an `else` may stand: any other token ends the `if`.
     fn emit_else(&self, token: &Token, out: &mut Vec<Event>) -> Result<(), NoMemory>
-        ensures { OnOk result (out.new.items ≡ out.old.items ++ events_at Stage.Else [] self.now.blocks token.now) }
+        ensures added { OnOk result (out.new.items ≡ out.old.items ++ events_at Stage.Else [] self.now.blocks token.now) }
+        ensures kept { OnErr result (out.new.items ≡ out.old.items) }
     {
         if is_keyword(token, Keyword::Else) {
             return Ok(());
         }
         add(out, Event::If)?;
-        self.emit_statement(token, out)
+        if let Err(error) = self.emit_statement(token, out) {
+            out.pop();
+            return Err(error);
+        }
+        Ok(())
     }
 
     // Adds what ends ahead of a token, and counts it.
     fn emit_endings(&self, pull: u8, out: &mut Vec<Event>) -> Result<usize, NoMemory>
         ensures endings { OnOk result (out.new.items ≡ out.old.items ++ endings pull self.now.around) }
+        ensures grown { HasGrown out.old.items out.new.items }
         ensures left { IfOk result (λ depth. (s : Shape) → (settle pull self.now.around s).around ≡ drop depth self.now.around) }
     {
         let mut depth = 0;
@@ -215,7 +246,21 @@ impl Reader {
 
     // Behind an expression, or behind what of it was read.
     fn emit_behind(&self, base: Base, token: &Token, out: &mut Vec<Event>) -> Result<(), NoMemory>
-        ensures { OnOk result ((s : Shape) → out.new.items ≡ out.old.items ++ events_at (Stage.Behind base s) self.now.around [] token.now) }
+        ensures added { OnOk result ((s : Shape) → out.new.items ≡ out.old.items ++ events_at (Stage.Behind base s) self.now.around [] token.now) }
+        ensures kept { OnErr result (out.new.items ≡ out.old.items) }
+    {
+        let count = out.len();
+        if let Err(error) = self.emit_ended(base, token, out) {
+            out.truncate(count);
+            return Err(error);
+        }
+        Ok(())
+    }
+
+    // The same; where memory is wanting, a part may have been added.
+    fn emit_ended(&self, base: Base, token: &Token, out: &mut Vec<Event>) -> Result<(), NoMemory>
+        ensures added { OnOk result ((s : Shape) → out.new.items ≡ out.old.items ++ events_at (Stage.Behind base s) self.now.around [] token.now) }
+        ensures grown { OnErr result (HasGrown out.old.items out.new.items) }
     {
         let depth = self.emit_endings(pull(token), out)?;
         self.emit_part(base, depth, token, out)
@@ -229,7 +274,8 @@ impl Reader {
         token: &Token,
         out: &mut Vec<Event>,
     ) -> Result<(), NoMemory>
-        ensures { OnOk result (out.new.items ≡ out.old.items ++ behind_events base (drop depth self.now.around) token.now) }
+        ensures added { OnOk result (out.new.items ≡ out.old.items ++ behind_events base (drop depth self.now.around) token.now) }
+        ensures kept { OnErr result (out.new.items ≡ out.old.items) }
     {
         if is_keyword(token, Keyword::Is) {
             add(out, Event::Is)
@@ -252,7 +298,8 @@ impl Reader {
 
     // The closing parenthesis.
     fn emit_closing(&self, base: Base, depth: usize, out: &mut Vec<Event>) -> Result<(), NoMemory>
-        ensures { OnOk result (out.new.items ≡ out.old.items ++ closing base (drop depth self.now.around)) }
+        ensures added { OnOk result (out.new.items ≡ out.old.items ++ closing base (drop depth self.now.around)) }
+        ensures kept { OnErr result (out.new.items ≡ out.old.items) }
     {
         match self.around.below(depth) {
             Some(around) => add(out, ended(around)),

@@ -134,11 +134,20 @@ impl Reader {
         }
     }
 
-    /// Reads a token, where one like it may stand here.
-    ///
-    /// The answer is false where none may: then no text of a policy goes on with it, and what the
-    /// reader is from then on means nothing.
-    pub fn step(&mut self, token: &Token) -> Result<bool, NoMemory>
+    /// The reader behind a token, or `None` where no text of a policy goes on with it.
+    pub fn step(self, token: &Token) -> Result<Option<Reader>, NoMemory>
+        ensures { IfOk result (λ next. next ≡ step self token.now) }
+    {
+        let mut reader = self;
+        if reader.read(token)? {
+            Ok(Some(reader))
+        } else {
+            Ok(None)
+        }
+    }
+
+    // Reads a token, where one like it may stand here. Where none may, the reader is done with.
+    fn read(&mut self, token: &Token) -> Result<bool, NoMemory>
         ensures { IfOk result (λ read. Goes read self.new (step self.old token.now)) }
     {
         let read = match self.stage {

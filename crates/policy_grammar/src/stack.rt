@@ -1,5 +1,5 @@
 // A stack.
-ghost use Rattle.std.specs.Prelude.{◌≡◌, ◌<◌, ◌^◌, [], ◌∷◌, length, drop, OnOk};
+ghost use Rattle.std.specs.Prelude.{◌≡◌, ◌<◌, ◌^◌, [], ◌∷◌, length, drop, OnOk, OnErr};
 ghost use Rattle.policy_grammar.specs.Stacks.{Popped, top_of};
 
 use maple_base::NoMemory;
@@ -33,6 +33,7 @@ impl<T: Copy> Stack<T> {
     /// Lays a thing on top.
     pub fn push(&mut self, thing: T) -> Result<(), NoMemory>
         ensures pushed { OnOk result (self.new ≡ thing ∷ self.old) }
+        ensures err { OnErr result (self.new ≡ self.old) }
     {
         self.list.push(thing)?;
         Ok(())

@@ -412,7 +412,7 @@ counted_next ts s n es c t e o =
     ∙ ap (λ p. counted_onto p (token_counted s t c) (λ m. counted_from m (token_counted s t c) [])) e)
 
 -- and one more
-outlines_on : (ts : List Token) (s n : State) (es us : List Event) (c d : Counter) (t : Token) → Advances true t s n es us c d → Outlines ts s es c → Outlines (ts ++ t ∷ []) n us d
+outlines_on : (ts : List Token) (s n : State) (es us : List Event) (c d : Counter) (t : Token) → Advances (Some n) t s es us c d → Outlines ts s es c → Outlines (ts ++ t ∷ []) n us d
 outlines_on ts s n es us c d t r o =
     let more : length us ≡ length es + length (events s t) = ap length r.1 ∙ length-append es (events s t) in
     record {
@@ -428,7 +428,7 @@ next_token ps i p h e =
     take_more (plain ps) i p.token (omega (arith, h, length-map ps (λ q. q.token)))
     ∙ ap (λ t. take i (plain ps) ++ t ∷ []) (get_or-map (λ q. q.token) ps i p p.token h ∙ ap (λ q. q.token) (sym e))
 
-pub outlines_next : (ps : List PlacedToken) (i : ℕ) (p : PlacedToken) (s n : State) (es us : List Event) (c d : Counter) → i < length ps → p ≡ get_or ps i p → Advances true p.token s n es us c d
+pub outlines_next : (ps : List PlacedToken) (i : ℕ) (p : PlacedToken) (s n : State) (es us : List Event) (c d : Counter) → i < length ps → p ≡ get_or ps i p → Advances (Some n) p.token s es us c d
     → Outlines (take i (plain ps)) s es c → Outlines (take (i + 1) (plain ps)) n us d
 outlines_next ps i p s n es us c d h e r o = subst (λ ts. Outlines ts n us d) (sym (next_token ps i p h e)) (outlines_on (take i (plain ps)) s n es us c d p.token r o)
 

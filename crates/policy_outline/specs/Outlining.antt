@@ -1,5 +1,5 @@
 -- What is read and counted of tokens. It serves private contracts and proofs alone.
-use Rattle.std.specs.Prelude.{◌≡◌, ◌+◌, ◌≤◌, ◌++◌, Bool, true, false, List, Some, None}
+use Rattle.std.specs.Prelude.{◌≡◌, ◌+◌, ◌≤◌, ◌++◌, List, Option, Some, None}
 use Rattle.policy_tokens.specs.declared.token.Token.{Token}
 use Rattle.policy_grammar.specs.declared.event.Event.{Event}
 use Rattle.policy_grammar.specs.Automaton.{State, start, step}
@@ -16,9 +16,9 @@ abbrev pub counts_of : List Token → List Count
 counts_of ts = (counted_from start nothing_counted ts).counts
 
 -- one more token was read and counted, and what it adds was added; or none like it may stand there
-abbrev pub Advances : Bool → Token → State → State → List Event → List Event → Counter → Counter → Type 0
-Advances true t s n es us c d = (step s t ≡ Some n) × (us ≡ es ++ events s t) × (d ≡ token_counted s t c)
-Advances false t s n es us c d = step s t ≡ None
+abbrev pub Advances : Option State → Token → State → List Event → List Event → Counter → Counter → Type 0
+Advances (Some n) t s es us c d = (step s t ≡ Some n) × (us ≡ es ++ events s t) × (d ≡ token_counted s t c)
+Advances None t s es us c d = step s t ≡ None
 
 -- a machine can count so many
 pub record AreCountable (counts : List Count) : Type 0 where

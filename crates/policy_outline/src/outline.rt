@@ -1,5 +1,5 @@
 // Reads the outline of a policy.
-ghost use Rattle.std.specs.Prelude.{◌≡◌, ◌≤◌, false, None, length, map, OnOk, IfOk, IfErr};
+ghost use Rattle.std.specs.Prelude.{◌≡◌, ◌≤◌, None, length, map, OnOk, IfOk, IfErr};
 ghost use Rattle.maple_base.specs.PolicyLimits.{most_bytes};
 ghost use Rattle.policy_grammar.specs.Automaton.{start};
 ghost use Rattle.policy_grammar.specs.Events.{trace};
@@ -35,26 +35,26 @@ struct Reading {
     wrong: Option<usize>,
 }
 
-// Reads and counts a token, where one like it may stand here, and adds what it adds.
+// The reader behind a token, where one like it may stand here. What it adds is added and counted.
 fn read(
-    reader: &mut Reader,
+    reader: Reader,
     counter: &mut Counter,
     events: &mut Vec<Event>,
     token: &Token,
-) -> Result<bool, NoMemory>
+) -> Result<Option<Reader>, NoMemory>
     requires within { Within (length events.old.items) counter.old }
     requires few { length counter.old.counts ≤ most_bytes }
-    ensures read { IfOk result (λ found. Advances found token.now reader.old reader.new events.old.items events.new.items counter.old counter.new) }
-    ensures kept { IfOk result (λ found. found ≡ false → counter.new ≡ counter.old) }
+    ensures read { IfOk result (λ next. Advances next token.now reader events.old.items events.new.items counter.old counter.new) }
+    ensures kept { IfOk result (λ next. next ≡ None → counter.new ≡ counter.old) }
 {
     let from = events.len();
     reader.emit(token, events)?;
-    if !reader.step(token)? {
-        return Ok(false);
-    }
+    let Some(next) = reader.step(token)? else {
+        return Ok(None);
+    };
     counter.count_all(events, from)?;
     counter.pass()?;
-    Ok(true)
+    Ok(Some(next))
 }
 
 fn read_tokens(alloc: Global, tokens: &[PlacedToken]) -> Result<Reading, NoMemory>
@@ -69,13 +69,14 @@ fn read_tokens(alloc: Global, tokens: &[PlacedToken]) -> Result<Reading, NoMemor
     let mut counter = Counter::new(alloc);
     let mut events = Vec::new(alloc);
     for (index, placed) in tokens.iter().enumerate() {
-        if !read(&mut reader, &mut counter, &mut events, &placed.token)? {
+        let Some(next) = read(reader, &mut counter, &mut events, &placed.token)? else {
             return Ok(Reading {
                 events,
                 counts: counter.into_counts(),
                 wrong: Some(index),
             });
-        }
+        };
+        reader = next;
     }
     let wrong = if reader.is_at_end() {
         None

@@ -1,21 +1,29 @@
 -- What an item of a text asks for, whether the text ends at it, and what stands behind it.
-use Rattle.std.proofs.Common.{◌≡◌, ℕ, Bool, true, false, ◌||◌, List, [], ◌∷◌, ◌++◌, Option, Some, None, refl, sym, ap, ◌∙◌, subst}
+use Rattle.std.proofs.Common.{◌≡◌, ℕ, Bool, true, false, ◌&&◌, ◌||◌, List, [], ◌∷◌, ◌++◌, Option, Some, None, refl, sym, ap, ◌∙◌, subst}
 use Rattle.std.specs.Option.{option_to_list}
-use Rattle.std.specs.Prelude.{if◌then◌else◌, Result, Ok, Err}
-use Rattle.report_text.specs.declared.line.ScriptRefusal.TheVariants.{TooLong}
-use Rattle.script_text.specs.Orders.{Order, Halt}
+use Rattle.std.specs.Prelude.{if◌then◌else◌, length, nat_le, nat_lt, Result, Ok, Err}
+use Rattle.report_text.specs.declared.line.ScriptRefusal.TheVariants.{Switch, TooLong}
+use Rattle.script_text.specs.declared.command.Command.{Command}
+use Rattle.script_text.specs.declared.command.Command.TheVariants as commands
+use Rattle.script_text.specs.declared.step.Step.{Step}
+use Rattle.script_text.specs.declared.step.Step.TheVariants as steps
+use Rattle.script_text.specs.Frames.{frame}
+use Rattle.script_text.specs.Grammar.{most_bytes}
+use Rattle.script_text.specs.Orders.{Order, Halt, order_of, order_read}
 use Rattle.script_text.specs.Orders.Halt.{Ends, Refuses as RefusesLine}
-use Rattle.script_text.specs.Orders.Order.{Change, Rules}
+use Rattle.script_text.specs.Orders.Order.{Arrival, Change, Rules}
+use Rattle.script_text.specs.Reading.{line_command}
+use Rattle.script_text.specs.Steps.{Asks, has_frame_read, takes_memory}
 use Rattle.board_lines.specs.declared.control_item.ControlItem.{ControlItem}
 use Rattle.board_lines.specs.declared.control_item.ControlItem.TheVariants as items
 use Rattle.board_lines.specs.Laws.{given_by}
 use Rattle.board_lines.specs.Readings.{Reading, last_item}
-use Rattle.serve_steps.specs.Texts.{Ask, ahead_of_refused, asked_by, asked_by_order, asks_last, asks_more, asks_of, ends_by_order, first_refused, is_quit, quits, serve_order}
+use Rattle.serve_steps.specs.Texts.{Ask, ahead_of_refused, asked_by, asked_by_order, asks_last, asks_more, asks_of, ends_by_order, first_refused, is_quit, quits, serve_order, without_places}
 use Rattle.serve_steps.specs.Laws.{LastAsks, LinesGoOn}
 use Rattle.serve_steps.specs.Texts.Ask.{Changes, ReadsRules, Refuses, Renews}
 use Rattle.serve_channels.specs.declared.scripting.ScriptEnd.{ScriptEnd}
 use Rattle.serve_channels.specs.declared.scripting.ScriptEnd.TheVariants.{Quit, Refused, Whole}
-use Rattle.serve_channels.specs.Controlling.{IsReading, end_with, item_end}
+use Rattle.serve_channels.specs.Controlling.{IsReading, end_with, item_end, order_here}
 
 -- an item asks for nothing, is `quit`, or asks for one thing
 by_item : (P : List Ask → Bool → Type 0) → P [] false → P [] true → ((ask : Ask) → P (ask ∷ []) false) → (i : ControlItem) → P (asked_by i) (is_quit i)
@@ -29,6 +37,33 @@ by_item P none quit one (items.Line n line) = by_order (serve_order line)
     by_order (Err (RefusesLine kind)) = one (Refuses n kind)
 by_item P none quit one (items.TooLong n) = one (Refuses n TooLong)
 by_item P none quit one (items.Policy n text) = one (Renews text)
+
+-- ---- a line that isn't `quit`
+
+-- one that asks for a step
+pub step_goes_on : (line : List ℕ) (step : Step) → Asks (order_of 0 line) step → ends_by_order (serve_order line) ≡ false
+step_goes_on line step asks = ap (λ (order : Result Order Halt). ends_by_order (without_places order)) asks ∙ here step
+  where
+    here : (step : Step) → ends_by_order (order_here step) ≡ false
+    here steps.Settle = refl
+    here step = refl
+
+-- one by which a frame comes, whether its place is there or not
+arrival_goes_on : (c port : ℕ) (bytes : List ℕ) (there : Bool)
+    → ends_by_order (without_places (if there then Ok (Arrival c port bytes) else Err (RefusesLine Switch))) ≡ false
+arrival_goes_on c port bytes true = refl
+arrival_goes_on c port bytes false = refl
+
+-- one that takes memory
+frame_goes_on : (long : Bool) (command : Option Command) → has_frame_read command ≡ true
+    → ends_by_order (without_places (if long then Err (RefusesLine TooLong) else order_read 0 command)) ≡ false
+frame_goes_on true command has = refl
+frame_goes_on false (Some (commands.Packet c key)) has = arrival_goes_on c key.in_port (frame key) (nat_le 1 c && nat_le c 0)
+frame_goes_on false (Some (commands.Frame c port bytes)) has = arrival_goes_on c port bytes (nat_le 1 c && nat_le c 0)
+frame_goes_on false command has = absurd (cc)
+
+pub memory_goes_on : (line : List ℕ) → takes_memory line ≡ true → ends_by_order (serve_order line) ≡ false
+memory_goes_on line takes = frame_goes_on (nat_lt most_bytes (length line)) (line_command line) takes
 
 -- ---- an item alone
 

@@ -1,7 +1,7 @@
 -- What the control text and the start script ask for is done, byte by byte.
-use Rattle.std.proofs.Common.{◌≡◌, ℕ, ◌+◌, ◌<◌, ◌≤◌, Bool, false, ◌||◌, List, [], ◌∷◌, ◌++◌, length, drop, get_or, Option, refl, sym, ap, ◌∙◌, subst}
+use Rattle.std.proofs.Common.{◌≡◌, ℕ, ◌+◌, ◌<◌, ◌≤◌, Bool, false, ◌||◌, List, [], ◌∷◌, ◌++◌, length, drop, take, get_or, Option, refl, sym, ap, ◌∙◌, subst}
 use Rattle.std.specs.Option.{option_to_list}
-use Rattle.std.proofs.lemmas.List.{append-nil, append_assoc, drop_all, drop_more}
+use Rattle.std.proofs.lemmas.List.{append-nil, append_assoc, drop_all, drop_more, take-append-drop, take_all, take_more}
 use Rattle.std.proofs.lemmas.List.Folds.{list_any-append}
 use Rattle.board_lines.specs.declared.control_item.ControlItem.{ControlItem}
 use Rattle.board_lines.specs.Laws.{given_by, given_of, held_behind}
@@ -12,7 +12,7 @@ use Rattle.serve_steps.specs.Laws.{EndedIsGiven}
 use Rattle.serve_steps.proofs.Control.{given_on}
 use Rattle.serve_channels.specs.declared.scripting.ScriptEnd.TheVariants.{Whole}
 use Rattle.serve_channels.specs.declared.server.Server.{Server}
-use Rattle.serve_channels.specs.Controlling.{IsReading, IsReadTo}
+use Rattle.serve_channels.specs.Controlling.{IsReading, IsReadTo, ReadsOn, ReadsSome}
 use Rattle.serve_channels.specs.Servers.{IsSame, home}
 use Rattle.serve_channels.proofs.AskedFor.{AnswersBy, answers_none, answers_then}
 use Rattle.serve_channels.proofs.Items.{Splits, StandsFirst, control_first, list_end, script_does, script_first}
@@ -81,7 +81,7 @@ module _ (r q : Reading) (bytes : List ℕ) (i : ℕ) (given : Option ControlIte
   given_next : given_by r (drop i bytes) ≡ option_to_list given ++ given_by q rest
   given_next = rw (drop_more bytes i 0 lt, is, behind_is) refl
 
-  pub held_next : held_behind r (drop i bytes) ≡ held_behind q rest
+  held_next : held_behind r (drop i bytes) ≡ held_behind q rest
   held_next = rw (drop_more bytes i 0 lt, behind_is) refl
 
   pub control_next : StandsFirst asks_of quits false (option_to_list given) (given_by q rest) (given_by r (drop i bytes))
@@ -122,3 +122,27 @@ module _ (law : EndedIsGiven) (text bytes : List ℕ) (r : Reading) (reading : I
       goes_on = quits_are ∙ sym ended_is ∙ e;
     };
   }
+
+-- so many of these bytes were read
+abbrev pub ReadsFirst : ℕ → List ℕ → Reading → Reading → Type 0
+ReadsFirst i bytes old new = (text : List ℕ) → IsReading text old → IsReading (text ++ take i bytes) new
+
+pub none_read : (bytes : List ℕ) (r : Reading) → ReadsFirst 0 bytes r r
+none_read bytes r text reading = subst (λ t. IsReading t r) (sym (append-nil text)) reading
+
+-- one more, which ends no `quit`
+pub one_read : (law : EndedIsGiven) (old r new : Reading) (bytes : List ℕ) (i : ℕ) (given : Option ControlItem) → i < length bytes → given ≡ item_at r (get_or bytes i 0)
+    → new ≡ behind r (get_or bytes i 0) → quits (option_to_list given) ≡ false → ReadsFirst i bytes old r → ReadsFirst (i + 1) bytes old new
+one_read law old r new bytes i given lt is behind_is goes_on first text reading =
+    let b = get_or bytes i 0 in
+    let here = sym (ap quits (append-nil (option_to_list (item_at r b)) ∙ ap (λ (o : Option ControlItem). option_to_list o) (sym is)) ∙ goes_on) in
+    subst (λ t. IsReading t new) (append_assoc text (take i bytes) (b ∷ []) ∙ ap (λ xs. text ++ xs) (sym (take_more bytes i 0 lt)))
+    ((read_on law (text ++ take i bytes) (b ∷ []) r (first text reading) false new here (λ e. behind_is)).reading refl)
+
+pub some_read : (i : ℕ) (bytes : List ℕ) (old new : Reading) → ReadsFirst i bytes old new → ReadsSome bytes old new
+some_read i bytes old new first text reading = (take i bytes, (drop i bytes, take-append-drop i bytes), first text reading)
+
+pub all_read : (i : ℕ) (bytes : List ℕ) (old new : Reading) → length bytes ≤ i → ReadsFirst i bytes old new → ReadsOn bytes false old new
+all_read i bytes old new end first text reading =
+    let whole = subst (λ xs. IsReading (text ++ xs) new) (take_all i bytes end) (first text reading) in
+    record { ended_is = sym whole.goes_on; reading = λ e. whole }

@@ -4,6 +4,7 @@ use Rattle.report_text.specs.declared.line.ScriptRefusal.{ScriptRefusal}
 use Rattle.script_text.specs.declared.step.Step.{Step}
 use Rattle.script_text.specs.Orders.{Order, Halt}
 use Rattle.script_text.specs.Steps.{order_with}
+use Rattle.maple_io.specs.Fronts.{IsFront}
 use Rattle.board_lines.specs.declared.control_item.ControlItem.{ControlItem}
 use Rattle.board_lines.specs.Laws.{held_behind}
 use Rattle.board_lines.specs.Readings.{Reading, beginning}
@@ -37,6 +38,10 @@ pub record IsReadTo (text : List ℕ) (ended : Bool) (r : Reading) : Type 0 wher
 -- so it is behind these bytes
 abbrev pub ReadsOn : List ℕ → Bool → Reading → Reading → Type 0
 ReadsOn bytes ended old new = (text : List ℕ) → IsReading text old → IsReadTo (text ++ bytes) ended new
+
+-- some first bytes of these were read
+abbrev pub ReadsSome : List ℕ → Reading → Reading → Type 0
+ReadsSome bytes old new = (text : List ℕ) → IsReading text old → (ahead : List ℕ) × IsFront ahead bytes × IsReading (text ++ ahead) new
 
 -- ---- the start script
 

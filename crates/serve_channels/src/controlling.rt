@@ -1,11 +1,11 @@
 // The control text as it comes.
-ghost use Rattle.std.specs.Prelude.{◌≡◌, IfOk, List, OnOk};
+ghost use Rattle.std.specs.Prelude.{◌≡◌, IfOk, List, OnErr, OnOk, false};
 ghost use Rattle.std.specs.Option.{option_to_list};
 ghost use Rattle.maple_io.specs.declared.act.Act.{Act};
 ghost use Rattle.board_lines.specs.Laws.{given_by};
 ghost use Rattle.board_lines.specs.Readings.{beginning, last_item};
 ghost use Rattle.serve_steps.specs.Texts.{asks_of, quits};
-ghost use Rattle.serve_channels.specs.Controlling.{Answers, ReadsOn};
+ghost use Rattle.serve_channels.specs.Controlling.{Answers, ReadsOn, ReadsSome};
 ghost use Rattle.serve_channels.specs.Keeping.{Goes};
 ghost use Rattle.serve_channels.specs.Servers.{IsSame};
 
@@ -21,7 +21,7 @@ impl<'h> Server<'h> {
     ///
     /// # Errors
     ///
-    /// `Stopped`.
+    /// `Stopped`: the reader has read some first of these bytes.
     pub fn control<R: Wait>(
         &mut self,
         rt: &R,
@@ -30,6 +30,7 @@ impl<'h> Server<'h> {
     ) -> Result<bool, Stopped>
         ensures gives { OnOk result ((log : List Act) → Goes (Answers (asks_of (given_by reader.old bytes.now))) self.old log self.new log) }
         ensures reads { IfOk result (λ ended. ReadsOn bytes.now ended reader.old reader.new) }
+        ensures stopped { OnErr result (ReadsSome bytes.now reader.old reader.new) }
         ensures connections { self.new.connections ≡ self.old.connections }
         ensures same { IsSame self.old self.new }
     {
@@ -68,6 +69,7 @@ impl<'h> Server<'h> {
     fn obey_next<R: Wait>(&mut self, rt: &R, item: Option<ControlItem>) -> Result<bool, Stopped>
         ensures goes { OnOk result ((log : List Act) → Goes (Answers (asks_of (option_to_list item))) self.old log self.new log) }
         ensures quit { IfOk result (λ ended. ended ≡ quits (option_to_list item)) }
+        ensures stopped { OnErr result (quits (option_to_list item) ≡ false) }
         ensures connections { self.new.connections ≡ self.old.connections }
         ensures same { IsSame self.old self.new }
     {

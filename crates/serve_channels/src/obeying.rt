@@ -1,10 +1,10 @@
 // What a control text, or the start script, asks for.
-ghost use Rattle.std.specs.Prelude.{◌≡◌, ◌∷◌, [], Err, IfOk, List, OnOk};
+ghost use Rattle.std.specs.Prelude.{◌≡◌, ◌∷◌, [], Err, IfOk, List, OnErr, OnOk, false};
 ghost use Rattle.maple_io.specs.declared.act.Act.{Act};
 ghost use Rattle.machine_steps.specs.Admitting.{IsOperators};
 ghost use Rattle.script_text.specs.Orders.Halt.{Refuses as RefusesLine};
 ghost use Rattle.script_text.specs.Steps.{IsKept as IsKeptStep};
-ghost use Rattle.serve_steps.specs.Texts.{asked_by, asked_by_order, is_quit, serve_order, without_places};
+ghost use Rattle.serve_steps.specs.Texts.{asked_by, asked_by_order, ends_by_order, is_quit, serve_order, without_places};
 ghost use Rattle.serve_steps.specs.Texts.Ask.{Changes, ReadsRules, Refuses, Renews};
 ghost use Rattle.serve_channels.specs.Controlling.{Answers, AnswersAhead, item_end, order_end, order_here};
 ghost use Rattle.serve_channels.specs.Hearing.{Obeys};
@@ -29,6 +29,7 @@ impl<'h> Server<'h> {
     pub(crate) fn obey<R: Wait>(&mut self, rt: &R, item: &ControlItem) -> Result<bool, Stopped>
         ensures goes { OnOk result ((log : List Act) → Goes (Obeys item.now) self.old log self.new log) }
         ensures quit { IfOk result (λ ended. ended ≡ is_quit item.now) }
+        ensures stopped { OnErr result (is_quit item.now ≡ false) }
         ensures connections { self.new.connections ≡ self.old.connections }
         ensures same { IsSame self.old self.new }
     {
@@ -51,6 +52,7 @@ impl<'h> Server<'h> {
     ) -> Result<ScriptEnd, Stopped>
         ensures goes { OnOk result ((log : List Act) → Goes (AnswersAhead (asked_by item.now)) self.old log self.new log) }
         ensures end { IfOk result (λ end. end ≡ item_end item.now) }
+        ensures stopped { OnErr result (is_quit item.now ≡ false) }
         ensures connections { self.new.connections ≡ self.old.connections }
         ensures same { IsSame self.old self.new }
     {
@@ -75,6 +77,7 @@ impl<'h> Server<'h> {
     ) -> Result<ScriptEnd, Stopped>
         ensures goes { OnOk result ((log : List Act) → Goes (AnswersAhead (asked_by_order line (serve_order text.now))) self.old log self.new log) }
         ensures end { IfOk result (λ end. end ≡ order_end line (serve_order text.now)) }
+        ensures stopped { OnErr result (ends_by_order (serve_order text.now) ≡ false) }
         ensures connections { self.new.connections ≡ self.old.connections }
         ensures same { IsSame self.old self.new }
     {

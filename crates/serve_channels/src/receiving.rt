@@ -5,7 +5,7 @@ ghost use Rattle.maple_io.specs.Turns.{TurnsWithin};
 ghost use Rattle.serve_channels.specs.Delivering.{FailsBy, GivesOne, Receives, bytes_in};
 ghost use Rattle.serve_channels.specs.Feeding.{Feeds};
 ghost use Rattle.serve_channels.specs.Keeping.{IsServing};
-ghost use Rattle.serve_channels.specs.Servers.{IsSame};
+ghost use Rattle.serve_channels.specs.Servers.{IsSame, SameNumbers};
 
 use crate::Server;
 use machine_desk::Stopped;
@@ -25,6 +25,7 @@ impl<'h> Server<'h> {
         ensures within { IfOk result (λ t. TurnsWithin t (length into.old)) }
         ensures faults { IfOk result (λ t. FailsBy t (B.tells board.old) (B.tells board.new)) }
         ensures stopped { OnErr result (GivesOne (B.tells board.old).log (B.tells board.new).log × NoBoardFailed (B.tells board.old) (B.tells board.new)) }
+        ensures numbers { SameNumbers self.old self.new }
         ensures desk { self.new.desk ≡ self.old.desk }
         ensures same { IsSame self.old self.new }
     {
@@ -38,6 +39,7 @@ impl<'h> Server<'h> {
     // These bytes came on the connection of a number, if it is there.
     fn feed(&mut self, number: u32, bytes: &[u8]) -> Result<(), Stopped>
         ensures feeds { OnOk result (Feeds number bytes.now self.old self.new) }
+        ensures numbers { SameNumbers self.old self.new }
         ensures desk { self.new.desk ≡ self.old.desk }
         ensures same { IsSame self.old self.new }
     {

@@ -1,5 +1,5 @@
 // Sessions are opened, and end.
-ghost use Rattle.std.specs.Prelude.{◌≡◌, ◌<◌, ◌∷◌, [], false, length, List, OnOk};
+ghost use Rattle.std.specs.Prelude.{◌≡◌, ◌<◌, ◌∷◌, [], false, length, List, OnErr, OnOk};
 ghost use Rattle.maple_io.specs.declared.act.Act.{Act};
 ghost use Rattle.machine_steps.specs.declared.entry.Entry.TheVariants as entries;
 ghost use Rattle.machine_steps.specs.Machine.{was_opened as was_session};
@@ -19,11 +19,12 @@ impl<'h> Server<'h> {
     ///
     /// # Errors
     ///
-    /// `Stopped`.
+    /// `Stopped`: the connections are as before.
     pub fn open<R: Wait>(&mut self, rt: &R, number: u32) -> Result<(), Stopped>
         requires unknown { IsUnknown number self.old.connections.items }
         requires unused { was_session number self.old.desk.now ≡ false }
         ensures goes { OnOk result ((log : List Act) → GoesFrom (IsBegun number) (Are (entries.Open number ∷ [])) self.old log self.new log) }
+        ensures kept { OnErr result (self.new.connections.items ≡ self.old.connections.items) }
         ensures same { IsSame self.old self.new }
     {
         serving_laws();
@@ -48,9 +49,10 @@ impl<'h> Server<'h> {
     ///
     /// # Errors
     ///
-    /// `Stopped`.
+    /// `Stopped`: the same numbers are there.
     pub fn end<R: Wait>(&mut self, rt: &R, number: u32, fault: bool) -> Result<(), Stopped>
         ensures goes { OnOk result ((log : List Act) → Goes (Are (entries.Gone number fault ∷ [])) self.old log self.new log) }
+        ensures numbers { SameNumbers self.old self.new }
         ensures same { IsSame self.old self.new }
     {
         serving_laws();

@@ -6,7 +6,9 @@ use Rattle.std.proofs.lemmas.Option.{get_or_from_slice_get, slice_get_within}
 use Rattle.of10_codec.specs.declared.message.Message.{Message}
 use Rattle.device_port.specs.Devices.{Meaning}
 use Rattle.sim_steps.specs.Parts.{IsHeardOut}
-use Rattle.sim_steps.specs.Stretches.{Carried}
+use Rattle.machine_steps.specs.Histories.{Turn}
+use Rattle.sim_steps.specs.Stretches.{Beside, BreaksOff, Carried}
+use Rattle.sim_steps.proofs.Broken.{broken_behind}
 use Rattle.sim_steps.proofs.Joining.{carried_then}
 use Rattle.sim_steps.proofs.Others.{carried_beside}
 use Rattle.sim_channels.specs.declared.channel.Channel.{Channel}
@@ -113,7 +115,13 @@ module _ (laws : DrivingLaws) (old mid : Driver) (ds : List Meaning) (fits : Fit
     heard = λ n. tends_channel laws old mid fits.kept h.tends (λ k. IsHeardOut k.inbound.from.stream) n (rest.heard n);
   }
 
+  beside : Beside (bench old ds) (bench mid ds)
+  beside = tends_beside laws old mid fits.kept h.tends (λ solo. some (fits.kept.crew.none solo)) ds
+
+  pub awaited_broken : (past : List Turn) → BreaksOff (bench mid ds) past → BreaksOff (bench old ds) past
+  awaited_broken past broken = broken_behind (bench old ds) beside.events (bench mid ds) past beside.runs broken
+
   pub awaited_then : (new : Driver) (es : List Meaning) → Carried (bench mid ds) (bench new es) → Carried (bench old ds) (bench new es)
   awaited_then new es carried =
       carried_then (bench old ds) (bench mid ds) (bench new es)
-      (carried_beside (bench old ds) (bench mid ds) (tends_beside laws old mid fits.kept h.tends (λ solo. some (fits.kept.crew.none solo)) ds)) carried
+      (carried_beside (bench old ds) (bench mid ds) beside) carried

@@ -9,16 +9,22 @@ use Rattle.std.proofs.lemmas.Option.{same_Some, slice_get-get_or, slice_get-map}
 use Rattle.device_port.specs.Devices.{Meaning}
 use Rattle.device_port.specs.Devices.Call.{Offered}
 use Rattle.machine_desk.specs.Desks.{Enters}
+use Rattle.machine_desk.specs.Orders.{Stops}
+use Rattle.machine_desk.specs.declared.asking.DeskStop.{DeskStop}
+use Rattle.machine_desk.specs.declared.asking.DeskStop.TheVariants as stops
 use Rattle.machine_moves.specs.Sends.{CanBeOffered}
 use Rattle.machine_steps.specs.declared.entry.Entry.{Entry}
 use Rattle.machine_steps.specs.declared.entry.Entry.TheVariants as entries
 use Rattle.machine_steps.specs.declared.note.Note.TheVariants as notes
-use Rattle.machine_steps.specs.declared.reply.Reply.TheVariants.{Done}
+use Rattle.machine_steps.specs.declared.reply.Reply.{Reply}
+use Rattle.machine_steps.specs.declared.reply.Reply.TheVariants.{Done, NoMemory}
+use Rattle.world_steps.specs.Worlds.{lacks_memory}
 use Rattle.sim_steps.specs.Benches.{MovesAt, Slot, is_plugged}
 use Rattle.sim_steps.specs.Deeds.{CallsAt, CallsSlot}
-use Rattle.sim_steps.specs.Stretches.{Carried}
+use Rattle.sim_steps.specs.Stretches.{BreaksOff, Carried}
+use Rattle.sim_steps.proofs.Broken.{broken_behind, broken_by, broken_here}
 use Rattle.sim_steps.proofs.Joining.{carried_then}
-use Rattle.sim_steps.proofs.Moments.{carried_call, carried_failed}
+use Rattle.sim_steps.proofs.Moments.{called, carried_call, carried_failed}
 use Rattle.sim_channels.specs.declared.channel.Channel.{Channel}
 use Rattle.machine_desk.specs.declared.inbound.Inbound.{Inbound}
 use Rattle.machine_desk.specs.declared.inbound.Stage.TheVariants.{Live}
@@ -28,6 +34,7 @@ use Rattle.sim_channels.specs.Delivering.{CanOffer, GoesOn, Leaves, OffersAt, Of
 use Rattle.machine_desk.specs.Driving.{DrivingLaws}
 use Rattle.sim_channels.specs.Staging.{HasStage}
 use Rattle.sim_channels.specs.Waiting.{IsTaken}
+use Rattle.sim_channels.proofs.Broken.{worn_past}
 use Rattle.sim_channels.proofs.Keeping.{messages_same, session_same}
 use Rattle.sim_channels.proofs.Kept.{ChannelAt, all_left, is_as_long, is_there, kept_channel, not_fresh, now_there, plugged_at, spares, spares_then, waiting_but, while_there}
 use Rattle.sim_channels.proofs.Others.{ahead, enters_next, kept_ahead, others_ahead, others_beside, others_carried, others_taken, same_by, spares_others}
@@ -66,7 +73,7 @@ pub record IsTold (at : ℕ) (old mid : Driver) (ds es : List Meaning) (failed :
 
 module _ (laws : DrivingLaws) (at : ℕ) (old mid : Driver) (k l : Channel) (d e : Meaning) (ds es : List Meaning) (fits : Fits old ds) (s : Stands at Live old k)
     (same : IsSame old mid) (channels : mid.channels.items ≡ set old.channels.items at l) (g : DeviceAt at d e ds es) (failed : Bool) (o : OffersFirst failed k d l e)
-    (enters : Enters old.desk (entries.Note (notes.Offered (at + 1) failed)) Done mid.desk) where
+    (reply : Reply) (enters : Enters old.desk (entries.Note (notes.Offered (at + 1) failed)) reply mid.desk) where
   abbrev telling : Entry
   telling = entries.Note (notes.Offered (at + 1) failed)
 
@@ -75,16 +82,16 @@ module _ (laws : DrivingLaws) (at : ℕ) (old mid : Driver) (k l : Channel) (d e
 
   -- behind what others did
   abbrev next : Driver
-  next = ahead old telling Done mid.desk fits.kept enters
+  next = ahead old telling reply mid.desk fits.kept enters
 
   others : OthersDid old next
-  others = others_ahead old telling Done mid.desk fits.kept enters
+  others = others_ahead old telling reply mid.desk fits.kept enters
 
   kept : IsKept next
-  kept = kept_ahead laws old telling Done mid.desk fits.kept enters
+  kept = kept_ahead laws old telling reply mid.desk fits.kept enters
 
-  told_next : EntersNext telling Done next.desk mid.desk
-  told_next = enters_next old telling Done mid.desk fits.kept enters
+  told_next : EntersNext telling reply next.desk mid.desk
+  told_next = enters_next old telling reply mid.desk fits.kept enters
 
   h : ChannelAt at k l next mid
   h = record { there = s.there; channels = channels; same = record { footing = same.footing; crew = same.crew } }
@@ -103,12 +110,12 @@ module _ (laws : DrivingLaws) (at : ℕ) (old mid : Driver) (k l : Channel) (d e
 
   mid_kept : IsKept mid
   mid_kept =
-      kept_channel laws next mid telling Done kept tt told_next.made.steps (λ c. refl) at k l h (ap (λ (i : Inbound). i.connection) o.inbound, ap (λ (i : Inbound). i.stage) o.inbound) (not_fresh l is_live)
+      kept_channel laws next mid telling reply kept tt told_next.made.steps (λ c. refl) at k l h (ap (λ (i : Inbound). i.connection) o.inbound, ap (λ (i : Inbound). i.stage) o.inbound) (not_fresh l is_live)
 
   mid_spares : Spares at old mid
   mid_spares =
       spares_others laws old next fits.kept others at mid
-      (spares laws next mid telling Done kept told_next.made.steps refl at k l h (λ c other. refl) (ap (λ (i : Inbound). i.from.stream) o.inbound) (λ f. s.is))
+      (spares laws next mid telling reply kept told_next.made.steps refl at k l h (λ c other. refl) (ap (λ (i : Inbound). i.from.stream) o.inbound) (λ f. s.is))
 
   slots : MovesAt (at + 1) deals (bench next ds).slots (bench mid es).slots
   slots =
@@ -118,12 +125,12 @@ module _ (laws : DrivingLaws) (at : ℕ) (old mid : Driver) (k l : Channel) (d e
 
   -- by whether it failed
   calls_by : (b : Bool) → MovesAt (at + 1) (CallsSlot (Offered o.bytes (took_by b))) (bench next ds).slots (bench mid es).slots
-      → EntersNext (entries.Note (notes.Offered (at + 1) b)) Done next.desk mid.desk → CallsAt (at + 1) (Offered o.bytes (took_by b)) Done (bench next ds) (bench mid es)
+      → EntersNext (entries.Note (notes.Offered (at + 1) b)) reply next.desk mid.desk → CallsAt (at + 1) (Offered o.bytes (took_by b)) reply (bench next ds) (bench mid es)
   calls_by true m t = record { plugged = is_open; slots = m; noted = t.made.steps; past = t.past }
   calls_by false m t = record { plugged = is_open; slots = m; noted = t.made.steps; past = t.past }
 
-  calls : (b : Bool) → failed ≡ b → CallsAt (at + 1) (Offered o.bytes (took_by b)) Done (bench next ds) (bench mid es)
-  calls b is = subst (λ f. CallsAt (at + 1) (Offered o.bytes (took_by f)) Done (bench next ds) (bench mid es)) is (calls_by failed slots told_next)
+  calls : (b : Bool) → failed ≡ b → CallsAt (at + 1) (Offered o.bytes (took_by b)) reply (bench next ds) (bench mid es)
+  calls b is = subst (λ f. CallsAt (at + 1) (Offered o.bytes (took_by f)) reply (bench next ds) (bench mid es)) is (calls_by failed slots told_next)
 
   mid_waiting : (x : Channel) (y : Meaning) → slice_get mid.channels.items at ≡ Some x → slice_get es at ≡ Some y → x.waiting ≡ length y.pending
   mid_waiting x y there is =
@@ -144,16 +151,23 @@ module _ (laws : DrivingLaws) (at : ℕ) (old mid : Driver) (k l : Channel) (d e
   taken_still : IsTaken at next → IsTaken at mid
   taken_still taken x there stage =
       messages_same laws (at + 1) next.desk.now mid.desk.now kept.reached mid_kept.reached is_open
-      (session_same laws next.desk.now telling Done mid.desk.now kept.reached told_next.made.steps refl (at + 1) refl)
+      (session_same laws next.desk.now telling reply mid.desk.now kept.reached told_next.made.steps refl (at + 1) refl)
       ∙ taken k s.there s.is
 
-  pub is_told : IsTold at old mid ds es failed
-  is_told = record {
+  -- the device did so, whatever the machine replied
+  pub is_broken : BreaksOff (bench old ds) mid.desk.past
+  is_broken =
+      let did = others_beside laws old next fits.kept others ds in
+      broken_behind (bench old ds) did.events (bench next ds) mid.desk.past did.runs
+      (broken_by (called (at + 1) (Offered o.bytes (took_by failed)) reply (bench next ds) (bench mid es)) (calls failed refl))
+
+  pub is_told : lacks_memory reply ≡ false → IsTold at old mid ds es failed
+  is_told memory = record {
     kept = mid_kept;
     plugged = record { channel = l; there = is_there at k l next mid h; is = is_live };
     taken = λ whole. record {
       fits = mid_fits;
-      carried = carried mid (carried_call (at + 1) (Offered o.bytes (took_by false)) Done (bench next ds) (bench mid es) refl refl refl (calls false whole));
+      carried = carried mid (carried_call (at + 1) (Offered o.bytes (took_by false)) reply (bench next ds) (bench mid es) refl refl memory (calls false whole));
       spares = mid_spares;
       taken = λ quiet taken. taken_still (others_taken laws old next fits.kept others quiet at taken);
     };
@@ -170,18 +184,34 @@ module _ (laws : DrivingLaws) (at : ℕ) (old mid : Driver) (k l : Channel) (d e
             (λ x y there is. leaves.waiting l x (is_there at k l next mid h) there ∙ mid_waiting l y (is_there at k l next mid h) is);
       };
       carried = carried new
-          (carried_failed (at + 1) (Offered o.bytes (took_by true)) Done (bench next ds) (bench mid es) leaves.reply (bench leaves.ahead es) (bench new es)
-          (others_beside laws mid leaves.ahead mid_kept leaves.others es) refl refl refl leaves.memory (calls true fails) (leaves.enters es (sym mid_fits.places)));
+          (carried_failed (at + 1) (Offered o.bytes (took_by true)) reply (bench next ds) (bench mid es) leaves.reply (bench leaves.ahead es) (bench new es)
+          (others_beside laws mid leaves.ahead mid_kept leaves.others es) refl refl memory leaves.memory (calls true fails) (leaves.enters es (sym mid_fits.places)));
       spares = spares_then at old mid new mid_spares leaves.spares;
       taken = λ quiet taken. all_left _ at new leaves.left;
     };
   }
 
-pub told : DrivingLaws → {B : Type 0} (f : B → Meaning) (xs : List B) (at : ℕ) (x y : B) (old mid : Driver) (k l : Channel) (failed : Bool) (c : ℕ) → Fits old (map f xs)
-    → Stands at Live old k → at < length xs → OffersFirst failed k (f (get_or xs at x)) l (f y) → mid ≡ record old { desk = mid.desk; channels = with_item old.channels at l }
-    → mid.desk.footing ≡ old.desk.footing → c ≡ at + 1 → Enters old.desk (entries.Note (notes.Offered c failed)) Done mid.desk → IsTold at old mid (map f xs) (map f (set xs at y)) failed
-told laws f xs at x y old mid k l failed c fits s within o rest footing is enters =
-    is_told laws at old mid k l (f (get_or xs at x)) (f y) (map f xs) (map f (set xs at y)) fits s
-    (same_by old mid (ap (λ (m : Driver). m.crew) rest) footing) (ap (λ (m : Driver). m.channels.items) rest)
-    (record { there = device_there f xs at x within; devices = map-set f xs at y }) failed o
-    (subst (λ n. Enters old.desk (entries.Note (notes.Offered n failed)) Done mid.desk) is enters)
+module _ (laws : DrivingLaws) {B : Type 0} (f : B → Meaning) (xs : List B) (at : ℕ) (x y : B) (old mid : Driver) (k l : Channel) (failed : Bool) (c : ℕ) (fits : Fits old (map f xs))
+    (s : Stands at Live old k) (within : at < length xs) (o : OffersFirst failed k (f (get_or xs at x)) l (f y))
+    (rest : mid ≡ record old { desk = mid.desk; channels = with_item old.channels at l }) (footing : mid.desk.footing ≡ old.desk.footing) (is : c ≡ at + 1) where
+  same : IsSame old mid
+  same = same_by old mid (ap (λ (m : Driver). m.crew) rest) footing
+
+  device : DeviceAt at (f (get_or xs at x)) (f y) (map f xs) (map f (set xs at y))
+  device = record { there = device_there f xs at x within; devices = map-set f xs at y }
+
+  told_so : (reply : Reply) → Enters old.desk (entries.Note (notes.Offered c failed)) reply mid.desk → Enters old.desk (entries.Note (notes.Offered (at + 1) failed)) reply mid.desk
+  told_so reply enters = subst (λ n. Enters old.desk (entries.Note (notes.Offered n failed)) reply mid.desk) is enters
+
+  pub told : Enters old.desk (entries.Note (notes.Offered c failed)) Done mid.desk → IsTold at old mid (map f xs) (map f (set xs at y)) failed
+  told enters =
+      is_told laws at old mid k l (f (get_or xs at x)) (f y) (map f xs) (map f (set xs at y)) fits s same (ap (λ (m : Driver). m.channels.items) rest) device failed o Done (told_so Done enters) refl
+
+  pub told_broken : (reply : Reply) → Enters old.desk (entries.Note (notes.Offered c failed)) reply mid.desk → BreaksOff (bench old (map f xs)) mid.desk.past
+  told_broken reply enters =
+      is_broken laws at old mid k l (f (get_or xs at x)) (f y) (map f xs) (map f (set xs at y)) fits s same (ap (λ (m : Driver). m.channels.items) rest) device failed o reply (told_so reply enters)
+
+  -- the machine couldn't be told
+  pub told_stop : (stop : DeskStop) → Stops stop (entries.Note (notes.Offered c failed)) old.desk mid.desk → BreaksOff (bench old (map f xs)) mid.desk.past
+  told_stop stops.NoMemory h = told_broken NoMemory h
+  told_stop stops.Worn h = broken_here (bench old (map f xs)) mid.desk.past (worn_past old.desk mid.desk h)

@@ -12,6 +12,9 @@ use Rattle.of10_stream.specs.declared.reassembly.Next.TheVariants.{More}
 use Rattle.of10_stream.specs.Steps.{AnswersBehind, Held, Stream, Tells}
 use Rattle.device_port.specs.Devices.{Meaning}
 use Rattle.machine_desk.specs.Desks.{DeskView, Enters as DeskEnters, calls_of}
+use Rattle.machine_desk.specs.Laws.{Meanwhile}
+use Rattle.machine_desk.specs.Orders.{Stops}
+use Rattle.machine_desk.specs.declared.asking.DeskStop.{DeskStop}
 use Rattle.machine_desk.specs.Hearing.{Comes, ComesAt as ComesBy, came_of, heard_by, stage_heard, told_as}
 use Rattle.machine_desk.specs.declared.hearing.Heard.{Heard}
 use Rattle.machine_desk.specs.declared.hearing.Heard.TheVariants as heards
@@ -34,6 +37,7 @@ use Rattle.sim_steps.specs.Benches.{MovesAt, is_plugged, slot_at}
 use Rattle.sim_steps.specs.Deeds.{EntersAt, HearsNext as HearsSlot, NextIs, UnlessLacking}
 use Rattle.sim_steps.specs.Parts.{IsHeardOut}
 use Rattle.sim_steps.specs.Stretches.{Carried}
+use Rattle.sim_steps.proofs.Broken.{broken_carried}
 use Rattle.sim_steps.proofs.Moments.{carried_heard}
 use Rattle.sim_steps.proofs.Silent.{carried_along}
 use Rattle.sim_channels.specs.declared.channel.Channel.{Channel}
@@ -41,20 +45,21 @@ use Rattle.sim_channels.specs.declared.driver.Driver.{Driver}
 use Rattle.machine_desk.specs.declared.hearing.Came.{Came}
 use Rattle.machine_desk.specs.declared.hearing.Came.TheVariants.{Nothing}
 use Rattle.machine_desk.specs.declared.stopped.Stopped.{Stopped}
-use Rattle.sim_channels.specs.Channels.{CarriedOver, EntersNext, IsFresh, IsKept, IsSame, OthersDid, Tends, WorksAlone, bench, slot_by, slots_of, with_inbound}
+use Rattle.sim_channels.specs.Channels.{BreaksOffOver, CarriedOver, EntersNext, IsFresh, IsKept, IsSame, OthersDid, Tends, WorksAlone, bench, slot_by, slots_of, with_inbound}
 use Rattle.machine_desk.specs.Driving.{DrivingLaws}
-use Rattle.sim_channels.specs.Passes.{ComesAt, Follows, HasHeard, HearsInput, HearsNext, MakesRoom, MakesRoomFor, Passed, rest_at}
+use Rattle.sim_channels.specs.Passes.{ComesAt, Follows, HasHeard, HearsAt, HearsInput, HearsNext, MakesRoom, MakesRoomFor, Passed, rest_at}
 use Rattle.sim_channels.specs.Waiting.{IsOffered, NoneWaits}
 use Rattle.sim_channels.proofs.Answering.{AllBy, Answers, answers_by, others_along}
+use Rattle.sim_channels.proofs.Broken.{broken_meanwhile, broken_stop}
 use Rattle.sim_channels.proofs.Bytes.{gets_shorter}
 use Rattle.sim_channels.proofs.Keeping.{elsewhere, reached_sound}
 use Rattle.sim_channels.proofs.Kept.{ChannelAt, is_as_long, is_beside, is_there, kept_but, plugged_at, staged_as, waits_as, while_there}
 use Rattle.sim_channels.proofs.Making.{had_memory}
-use Rattle.sim_channels.proofs.Others.{ahead, alone_back, alone_on, channel_stays, enters_next, items_stay, others_ahead, same_but, same_then, tends_channel, tends_kept, tends_learning, tends_none, tends_of}
+use Rattle.sim_channels.proofs.Others.{ahead, alone_back, alone_on, channel_stays, enters_next, items_stay, others_ahead, others_carried, same_but, same_then, tends_channel, tends_kept, tends_learning, tends_none, tends_of}
 use Rattle.sim_channels.proofs.Places.{there_too}
 use Rattle.sim_channels.proofs.Resting.{hears_in_order}
 use Rattle.sim_channels.proofs.Slots.{set_there, slot_next, slots_alike, slots_channel, slots_get}
-use Rattle.sim_channels.proofs.Tended.{by_crew, carried_tends, over_none, over_then, passed_ahead, tends_still}
+use Rattle.sim_channels.proofs.Tended.{as_long, by_crew, carried_tends, over_ahead, over_none, over_then, passed_ahead, tends_still}
 
 -- ---- what is carried
 
@@ -315,26 +320,24 @@ hears_next here came old new h = subst (λ x. HearsInput here x old new → Hear
     told heards.State so = so
     told heard so = so
 
-module _ (laws : DrivingLaws) (here : ℕ) (old new : Driver) (came : Came) (h : HearsInput here came old new) (can : CanBeHeard h.input) (kept : IsKept old) (now_kept : IsKept h.hearing)
-    (same : IsSame h.room h.hearing) (jobs : WorksAlone old → NoneWaits old.desk) (offered : IsOffered here old) where
+-- what came next, and that room was made for it
+module _ (laws : DrivingLaws) (here : ℕ) (old : Driver) (input : Input) (next : Driver) (comes : ComesAt here (Some input) old next) (place : Driver) (makes : MakesRoomFor input next place)
+    (kept : IsKept old) where
   abbrev k : Channel
-  k = h.comes.connection
+  k = comes.connection
 
   abbrev took : Channel
-  took = with_inbound h.comes.behind k
-
-  abbrev reply : Reply
-  reply = h.hears.does.reply
+  took = with_inbound comes.behind k
 
   -- room was made, as if the channel was as before
   abbrev first : Driver
-  first = record old { channels = h.next.channels }
+  first = record old { channels = next.channels }
 
   abbrev roomy : Driver
-  roomy = record old { desk = h.room.desk; crew = h.room.crew }
+  roomy = record old { desk = place.desk; crew = place.crew }
 
-  room : MakesRoomFor h.input first h.room
-  room = subst (λ x. MakesRoomFor h.input x h.room) h.comes.rest h.makes
+  room : MakesRoomFor input first place
+  room = subst (λ x. MakesRoomFor input x place) comes.rest makes
 
   made : Tends old roomy
   made = record { meanwhile = room.tends.meanwhile; rest = refl; same = record { footing = room.tends.same.footing; crew = room.tends.same.crew } }
@@ -342,59 +345,92 @@ module _ (laws : DrivingLaws) (here : ℕ) (old new : Driver) (came : Came) (h :
   kept_roomy : IsKept roomy
   kept_roomy = tends_kept laws old roomy kept made
 
-  items : h.room.channels.items ≡ set old.channels.items here took
-  items = ap (λ (x : Driver). x.channels.items) room.tends.rest ∙ h.comes.all
+  still_alone : WorksAlone old → roomy ≡ old
+  still_alone alone = ap (λ (d : Driver). record old { desk = d.desk; crew = d.crew }) (room.alone alone)
 
-  was : h.hears.connection ≡ took
-  was = same_Some h.hears.connection took (sym h.hears.there ∙ ap (λ ks. slice_get ks here) items ∙ set_there old.channels.items here k took h.comes.there)
+  over_roomy : CarriedOver old roomy
+  over_roomy = over_ahead laws old roomy kept made still_alone here old
 
-  live : (k.inbound.stage ≡ Live) × NextIs h.input k.inbound.from.stream h.comes.behind.from.stream
-  live = some_came h.input k.inbound h.comes.behind h.comes.does
+  items : place.channels.items ≡ set old.channels.items here took
+  items = ap (λ (x : Driver). x.channels.items) room.tends.rest ∙ comes.all
 
-  -- it was heard behind what others did
-  entered : DeskEnters h.room.desk (entries.Heard (here + 1) h.input) reply h.hearing.desk
-  entered =
-      subst (λ n. DeskEnters h.room.desk (entries.Heard n h.input) reply h.hearing.desk)
-      (ap (λ (x : Channel). x.inbound.connection) was ∙ h.comes.does.1.0 ∙ kept.names here k h.comes.there) h.hears.does.asks.enters
+  live : (k.inbound.stage ≡ Live) × NextIs input k.inbound.from.stream comes.behind.from.stream
+  live = some_came input k.inbound comes.behind comes.does
 
-  abbrev before : Driver
-  before = ahead roomy (entries.Heard (here + 1) h.input) reply h.hearing.desk kept_roomy entered
+  -- memory didn't suffice for it, or the hall is worn
+  pub broken_hearing : (new : Driver) (stop : DeskStop) → Stops stop (entries.Heard (here + 1) input) place.desk new.desk → BreaksOffOver old new
+  broken_hearing new stop stops ds long =
+      let d = there_too ds old.channels.items here k long comes.there in
+      broken_carried (bench old ds) (bench roomy ds) new.desk.past (over_roomy ds long)
+      (broken_stop laws roomy kept_roomy ds (entries.Heard (here + 1) input) new.desk stop stops (λ mid did kept_mid same.
+      (let there = ap (λ (ks : List Channel). slice_get ks here) same ∙ comes.there in (
+        plugged_at mid here k kept_mid there live.0,
+        (slot_by k d.0, comes.behind.from.stream, slot_next here (slots_of mid.channels.items ds) ∙ slots_get mid.channels.items ds here k d.0 there d.1, live.1),
+      ))))
 
-  others : OthersDid roomy before
-  others = others_ahead roomy (entries.Heard (here + 1) h.input) reply h.hearing.desk kept_roomy entered
+  -- and it was heard
+  module _ (heard : Heard) (hearing : Driver) (hears : HearsAt here input heard place hearing) (can : CanBeHeard input) (now_kept : IsKept hearing) (same : IsSame place hearing)
+      (jobs : WorksAlone old → NoneWaits old.desk) (offered : IsOffered here old) where
+    abbrev reply : Reply
+    reply = hears.does.reply
 
-  abbrev did : Tends roomy before
-  did = tends_of roomy before others
+    was : hears.connection ≡ took
+    was = same_Some hears.connection took (sym hears.there ∙ ap (λ ks. slice_get ks here) items ∙ set_there old.channels.items here k took comes.there)
 
-  replied : Replied here before h.hearing reply
-  replied = record {
-    laws = laws;
-    kept = tends_kept laws roomy before kept_roomy did;
-    now_kept = now_kept;
-    none = λ alone. tends_none laws roomy before kept_roomy did (tends_none laws old roomy kept made (jobs (alone_back old roomy made.same alone)));
-    offered = offered;
-    input = h.input;
-    k = k;
-    i = h.hears.behind;
-    live = live.0;
-    stage = ap (λ (i : Inbound). i.stage) h.hears.does.stage ∙ ap (λ (x : Channel). stage_heard h.heard x.inbound.stage) was ∙ ap (stage_heard h.heard) (h.comes.does.1.1 ∙ live.0)
-        ∙ ap (λ x. stage_heard x Live) h.hears.does.heard_is;
-    next = subst (NextIs h.input k.inbound.from.stream) (sym (ap (λ (i : Inbound). i.from.stream) h.hears.does.stage ∙ ap (λ (x : Channel). x.inbound.from.stream) was)) live.1;
-    can = can;
-    at = record {
-      there = h.comes.there;
-      channels = h.hears.all ∙ ap (λ xs. set xs here (with_inbound h.hears.behind h.hears.connection)) items
-          ∙ set-set old.channels.items here took (with_inbound h.hears.behind h.hears.connection) ∙ ap (λ x. set old.channels.items here (with_inbound h.hears.behind x)) was;
-      same = record { footing = same.footing; crew = same.crew };
-    };
-    entered = enters_next roomy (entries.Heard (here + 1) h.input) reply h.hearing.desk kept_roomy entered;
-    few = h.hears.does.asks.enters.room;
-    memory = had_memory reply h.hears.does.asks.memory;
-  }
+    -- it was heard behind what others did
+    entered : DeskEnters place.desk (entries.Heard (here + 1) input) reply hearing.desk
+    entered =
+        subst (λ n. DeskEnters place.desk (entries.Heard n input) reply hearing.desk)
+        (ap (λ (x : Channel). x.inbound.connection) was ∙ comes.does.1.0 ∙ kept.names here k comes.there) hears.does.asks.enters
 
-  pub passed_by : Passed here old new came
-  passed_by =
-      subst (Passed here old new) (sym (h.told ∙ ap came_of h.hears.does.heard_is))
-      (passed_ahead laws old roomy kept made (λ alone. ap (λ (d : Driver). record old { desk = d.desk; crew = d.crew }) (room.alone alone)) here new (heard_by reply)
-      (passed_ahead laws roomy before kept_roomy did others.alone here new (heard_by reply)
-      (follows here before h.hearing reply replied new (subst (λ x. Follows x h.hearing new) h.hears.does.heard_is h.follows))))
+    abbrev before : Driver
+    before = ahead roomy (entries.Heard (here + 1) input) reply hearing.desk kept_roomy entered
+
+    others : OthersDid roomy before
+    others = others_ahead roomy (entries.Heard (here + 1) input) reply hearing.desk kept_roomy entered
+
+    abbrev did : Tends roomy before
+    did = tends_of roomy before others
+
+    replied : Replied here before hearing reply
+    replied = record {
+      laws = laws;
+      kept = tends_kept laws roomy before kept_roomy did;
+      now_kept = now_kept;
+      none = λ alone. tends_none laws roomy before kept_roomy did (tends_none laws old roomy kept made (jobs (alone_back old roomy made.same alone)));
+      offered = offered;
+      input = input;
+      k = k;
+      i = hears.behind;
+      live = live.0;
+      stage = ap (λ (i : Inbound). i.stage) hears.does.stage ∙ ap (λ (x : Channel). stage_heard heard x.inbound.stage) was ∙ ap (stage_heard heard) (comes.does.1.1 ∙ live.0)
+          ∙ ap (λ x. stage_heard x Live) hears.does.heard_is;
+      next = subst (NextIs input k.inbound.from.stream) (sym (ap (λ (i : Inbound). i.from.stream) hears.does.stage ∙ ap (λ (x : Channel). x.inbound.from.stream) was)) live.1;
+      can = can;
+      at = record {
+        there = comes.there;
+        channels = hears.all ∙ ap (λ xs. set xs here (with_inbound hears.behind hears.connection)) items
+            ∙ set-set old.channels.items here took (with_inbound hears.behind hears.connection) ∙ ap (λ x. set old.channels.items here (with_inbound hears.behind x)) was;
+        same = record { footing = same.footing; crew = same.crew };
+      };
+      entered = enters_next roomy (entries.Heard (here + 1) input) reply hearing.desk kept_roomy entered;
+      few = hears.does.asks.enters.room;
+      memory = had_memory reply hears.does.asks.memory;
+    }
+
+    over_hearing : CarriedOver old hearing
+    over_hearing =
+        over_then old roomy hearing (as_long laws old roomy kept made) over_roomy
+        (over_then roomy before hearing (as_long laws roomy before kept_roomy did) (others_carried laws roomy before kept_roomy others) (over here before hearing reply replied))
+
+    -- what was to be done about it was broken off
+    pub broken_behind_it : (new : Driver) → Meanwhile hearing.desk new.desk → BreaksOffOver old new
+    broken_behind_it new meanwhile ds long =
+        broken_carried (bench old ds) (bench hearing ds) new.desk.past (over_hearing ds long) (broken_meanwhile hearing new.desk meanwhile ds)
+
+    pub passed_by : (new : Driver) (came : Came) → came ≡ came_of heard → Follows heard hearing new → Passed here old new came
+    passed_by new came told follows_so =
+        subst (Passed here old new) (sym (told ∙ ap came_of hears.does.heard_is))
+        (passed_ahead laws old roomy kept made still_alone here new (heard_by reply)
+        (passed_ahead laws roomy before kept_roomy did others.alone here new (heard_by reply)
+        (follows here before hearing reply replied new (subst (λ x. Follows x hearing new) hears.does.heard_is follows_so))))

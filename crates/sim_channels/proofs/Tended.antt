@@ -132,7 +132,7 @@ pub over_then : (a b c : Driver) → length b.channels.items ≡ length a.channe
 over_then a b c long h k = λ ds e. carried_then (bench a ds) (bench b ds) (bench c ds) (h ds e) (k ds (e ∙ sym long))
 
 module _ (laws : DrivingLaws) (a b : Driver) (kept : IsKept a) (t : Tends a b) where
-  as_long : length b.channels.items ≡ length a.channels.items
+  pub as_long : length b.channels.items ≡ length a.channels.items
   as_long = ap length (items_stay laws a b kept t)
 
   stays : (at : ℕ) → slice_get b.channels.items at ≡ slice_get a.channels.items at
@@ -143,7 +143,7 @@ module _ (laws : DrivingLaws) (a b : Driver) (kept : IsKept a) (t : Tends a b) w
 
   -- ahead
   module _ (alone : WorksAlone a → b ≡ a) (here : ℕ) (new : Driver) where
-    over_ahead : CarriedOver a b
+    pub over_ahead : CarriedOver a b
     over_ahead ds long =
         by_crew a (λ none. subst (λ (d : Driver). Carried (bench a ds) (bench d ds)) (sym (alone none)) (carried_none (bench a ds)))
         (λ beside. carried_tends beside ds long)

@@ -14,7 +14,7 @@ use Rattle.machine_steps.specs.Histories.{Leads, Turn}
 use Rattle.machine_steps.specs.Machine.{State, opening}
 use Rattle.machine_steps.specs.Sound.{AreInRange}
 use Rattle.sim_steps.specs.Benches.{Slot, Bench, opening_bench}
-use Rattle.sim_steps.specs.Stretches.{Carried}
+use Rattle.sim_steps.specs.Stretches.{BreaksOff, Carried}
 use Rattle.sim_channels.specs.declared.channel.Channel.{Channel}
 use Rattle.machine_desk.specs.declared.inbound.Inbound.{Inbound}
 use Rattle.machine_desk.specs.declared.inbound.Stage.TheVariants.{Unopened}
@@ -73,7 +73,7 @@ with_inbound i k = record k { inbound = i }
 abbrev pub WorksAlone : Driver → Type 0
 WorksAlone driver = IsAlone home driver
 
--- what no call of the driver but `mark` changes: its footing, and who works beside it
+-- what no call of the driver changes: its footing, and who works beside it
 abbrev pub IsSame : Driver → Driver → Type 0
 IsSame old new = IsSameAt home old new
 
@@ -122,3 +122,7 @@ Tends old new = IsTended home old new
 -- whatever the devices are, deeds lead from one to the other, of which none was asked for
 abbrev pub CarriedOver : Driver → Driver → Type 0
 CarriedOver old new = (devices : List Meaning) → length devices ≡ length old.channels.items → Carried (bench old devices) (bench new devices)
+
+-- whatever they are, deeds were done, up to the machine's history as it is known then
+abbrev pub BreaksOffOver : Driver → Driver → Type 0
+BreaksOffOver old new = (devices : List Meaning) → length devices ≡ length old.channels.items → BreaksOff (bench old devices) new.desk.past

@@ -1,7 +1,7 @@
 -- Which devices have a message to deal with, and what a turn of one leaves of its channel.
 use Rattle.std.specs.Prelude.{◌≡◌, ℕ, ◌+◌, ◌<◌, Bool, nat_lt, ◌&&◌, List, set, Some}
 use Rattle.std.specs.List.{slice_get}
-use Rattle.machine_desk.specs.Hearing.{Feeds, is_live}
+use Rattle.machine_desk.specs.Hearing.{Feeds, IsSameSession, is_live}
 use Rattle.sim_channels.specs.declared.channel.Channel.{Channel}
 use Rattle.machine_desk.specs.declared.inbound.Stage.TheVariants.{Live}
 use Rattle.sim_channels.specs.declared.driver.Driver.{Driver}
@@ -38,3 +38,10 @@ pub record Appends (bytes : List ℕ) (k l : Channel) : Type 0 where
   pub feeds : Feeds bytes k.inbound l.inbound
   pub to : l.to ≡ k.to
   pub waiting : k.waiting ≡ l.waiting + 1
+
+-- of a channel only where its bytes are stored changes
+pub record Stands (k l : Channel) : Type 0 where
+  pub stream : l.inbound.from.stream ≡ k.inbound.from.stream
+  pub session : IsSameSession k.inbound l.inbound
+  pub to : l.to ≡ k.to
+  pub waiting : l.waiting ≡ k.waiting

@@ -1,10 +1,11 @@
 // A frame comes to a device.
-ghost use Rattle.std.specs.Prelude.{◌≡◌, ◌<◌, ◌≤◌, false, map, length, IfOk, Ok};
+ghost use Rattle.std.specs.Prelude.{◌≡◌, ◌<◌, ◌≤◌, false, map, length, IfOk, Ok, OnErr};
 ghost use Rattle.of10_stream.specs.Steps.{fed};
 ghost use Rattle.machine_desk.specs.Hearing.{IsSameSession};
 ghost use Rattle.machine_desk.specs.declared.inbound.Stage.TheVariants.{Live};
 ghost use Rattle.script_text.specs.Grammar.{most_bytes};
-ghost use Rattle.sim_channels.specs.Channels.{Fits, IsSame};
+ghost use Rattle.sim_steps.specs.Stretches.{BreaksOff};
+ghost use Rattle.sim_channels.specs.Channels.{Fits, IsSame, bench};
 ghost use Rattle.sim_channels.specs.Looking.{IsAnswered, LooksUpBy, is_failed, is_failure};
 ghost use Rattle.sim_channels.specs.Staging.{HasStage};
 ghost use Rattle.sim_channels.specs.Waiting.{IsAtRest};
@@ -50,6 +51,7 @@ impl<'h> Driver<'h> {
         requires short { length frame ≤ most_bytes }
         ensures called { IfOk result (λ answer. IsAnswered at port frame answer self.old (map D.meaning devices.old) self.new (map D.meaning devices.new)) }
         ensures silent { result ≡ Ok Answer.Silent → IsAtRest self.new }
+        ensures broken { OnErr result (BreaksOff (bench self.old (map D.meaning devices.old)) self.new.desk.past) }
         ensures same { IsSame self.old self.new }
     {
         driving_laws();

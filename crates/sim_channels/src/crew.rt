@@ -1,6 +1,7 @@
 // Who works beside the driver.
-ghost use Rattle.std.specs.Prelude.{◌≡◌, not, OnOk, is_some};
+ghost use Rattle.std.specs.Prelude.{◌≡◌, not, OnErr, OnOk, is_some};
 ghost use Rattle.sim_channels.specs.Channels.{IsKept, IsSame};
+ghost use Rattle.machine_desk.specs.Laws.{Meanwhile};
 ghost use Rattle.sim_channels.specs.Passes.{Attends, AwaitsAll, MakesRoom};
 
 use crate::{Driver, Stopped};
@@ -22,6 +23,7 @@ impl<'h> Driver<'h> {
     pub(crate) fn make_room<R: Wait, G: Gate>(&mut self, rt: &R, gate: &G) -> Result<(), Stopped>
         requires kept { IsKept self.old }
         ensures room { OnOk result (MakesRoom self.old self.new) }
+        ensures meanwhile { OnErr result (Meanwhile self.old.desk self.new.desk) }
         ensures same { IsSame self.old self.new }
     {
         driving_laws();
@@ -37,6 +39,7 @@ impl<'h> Driver<'h> {
     pub(crate) fn await_all<R: Wait, G: Gate>(&mut self, rt: &R, gate: &G) -> Result<(), Stopped>
         requires kept { IsKept self.old }
         ensures awaits { OnOk result (AwaitsAll self.old self.new) }
+        ensures meanwhile { OnErr result (Meanwhile self.old.desk self.new.desk) }
         ensures same { IsSame self.old self.new }
     {
         driving_laws();
@@ -57,6 +60,7 @@ impl<'h> Driver<'h> {
     ) -> Result<(), Stopped>
         requires kept { IsKept self.old }
         ensures attends { OnOk result (Attends item self.old self.new) }
+        ensures meanwhile { OnErr result (Meanwhile self.old.desk self.new.desk) }
         ensures same { IsSame self.old self.new }
     {
         tending_laws();

@@ -1,7 +1,7 @@
 // What the machine has for devices is taken out and offered to them.
-ghost use Rattle.std.specs.Prelude.{◌≡◌, ◌<◌, map, length, OnOk};
+ghost use Rattle.std.specs.Prelude.{◌≡◌, ◌<◌, map, length, OnErr, OnOk};
 ghost use Rattle.machine_desk.specs.declared.inbound.Stage.TheVariants.{Live};
-ghost use Rattle.sim_steps.specs.Stretches.{Carried};
+ghost use Rattle.sim_steps.specs.Stretches.{BreaksOff, Carried};
 ghost use Rattle.sim_channels.specs.Channels.{Fits, IsSame, bench};
 ghost use Rattle.sim_channels.specs.Delivering.{Delivers};
 ghost use Rattle.sim_channels.specs.Staging.{HasStage};
@@ -36,6 +36,7 @@ impl<'h> Driver<'h> {
         ensures heard { OnOk result (IsHeard at self.old → IsHeard at self.new) }
         ensures others { OnOk result (StaysBut (IsQuiet self.old) at self.old self.new) }
         ensures jobs { OnOk result (NoneWaits self.old.desk → NoneWaits self.new.desk) }
+        ensures broken { OnErr result (BreaksOff (bench self.old (map D.meaning devices.old)) self.new.desk.past) }
         ensures same { IsSame self.old self.new }
     {
         match self.channels[at].inbound.stage() {
@@ -60,6 +61,7 @@ impl<'h> Driver<'h> {
         ensures carried { OnOk result (Carried (bench self.old (map D.meaning devices.old)) (bench self.new (map D.meaning devices.new))) }
         ensures rest { OnOk result (IsAtRest self.new) }
         ensures done { OnOk result (NoneWaits self.old.desk → IsDone self.new) }
+        ensures broken { OnErr result (BreaksOff (bench self.old (map D.meaning devices.old)) self.new.desk.past) }
         ensures same { IsSame self.old self.new }
     {
         driving_laws();
@@ -86,6 +88,7 @@ impl<'h> Driver<'h> {
         ensures carried { OnOk result (Carried (bench self.old (map D.meaning devices.old)) (bench self.new (map D.meaning devices.new))) }
         ensures rest { OnOk result (IsAtRest self.new) }
         ensures done { OnOk result (IsDone self.new) }
+        ensures broken { OnErr result (BreaksOff (bench self.old (map D.meaning devices.old)) self.new.desk.past) }
         ensures same { IsSame self.old self.new }
     {
         driving_laws();
@@ -109,6 +112,7 @@ impl<'h> Driver<'h> {
         requires offered { IsOffered at self.old }
         ensures done { OnOk result (Delivers at self.old (map D.meaning devices.old) self.new (map D.meaning devices.new)) }
         ensures offered { OnOk result (IsOffered at self.new) }
+        ensures broken { OnErr result (BreaksOff (bench self.old (map D.meaning devices.old)) self.new.desk.past) }
         ensures same { IsSame self.old self.new }
     {
         self.take_out(rt, at)?;

@@ -51,13 +51,6 @@ impl<'h> Driver<'h> {
         self.desk.law();
     }
 
-    /// The turns so far are marked.
-    pub fn mark(&mut self)
-        ensures { self.new ≡ record self.old { desk = record self.old.desk { footing = record self.old.desk.footing { marked = self.old.desk.past } } } }
-    {
-        self.desk.mark();
-    }
-
     /// Changes what is known of the network, as the desk does.
     ///
     /// # Errors
@@ -80,7 +73,7 @@ impl<'h> Driver<'h> {
     /// As the desk's.
     pub fn renew<R: Wait>(&mut self, rt: &R, text: &[u8]) -> Result<bool, DeskStop>
         ensures renews { IfOk result (λ accepted. Renews accepted text.now self.old.desk self.new.desk) }
-        ensures stops { IfErr result (λ stop. StopsRenewing stop self.old.desk self.new.desk) }
+        ensures stops { IfErr result (λ stop. StopsRenewing stop text.now self.old.desk self.new.desk) }
         ensures rest { self.new ≡ record self.old { desk = self.new.desk } }
         ensures footing { self.new.desk.footing ≡ self.old.desk.footing }
     {

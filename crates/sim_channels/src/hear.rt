@@ -1,9 +1,13 @@
 // What a device appended is heard.
-ghost use Rattle.std.specs.Prelude.{◌<◌, length, OnOk, IfOk, IfSome};
+ghost use Rattle.std.specs.Prelude.{◌≡◌, ◌+◌, ◌<◌, length, OnErr, OnOk, IfOk, IfSome};
 ghost use Rattle.machine_desk.specs.Arriving.{TakesIn};
 ghost use Rattle.machine_steps.specs.Admitting.{IsHeard};
 ghost use Rattle.machine_desk.specs.Homes.{LeavesNone};
-ghost use Rattle.sim_channels.specs.Channels.{IsKept, IsSame, home};
+ghost use Rattle.machine_desk.specs.Laws.{Meanwhile};
+ghost use Rattle.machine_desk.specs.Orders.{Stops};
+ghost use Rattle.machine_desk.specs.declared.asking.DeskStop.{DeskStop};
+ghost use Rattle.machine_steps.specs.declared.entry.Entry.TheVariants as entries;
+ghost use Rattle.sim_channels.specs.Channels.{BreaksOffOver, IsKept, IsSame, home};
 ghost use Rattle.sim_channels.specs.Waiting.{IsOffered};
 ghost use Rattle.sim_channels.specs.Passes.{ComesAt, Follows, HearsAt, HearsNext, MakesRoomFor, Passed};
 
@@ -32,6 +36,7 @@ impl<'h> Driver<'h> {
         requires offered { IsOffered at self.old }
         ensures next { IfOk result (λ came. HearsNext at came self.old self.new) }
         ensures passed { IfOk result (λ came. Passed at self.old self.new came) }
+        ensures broken { OnErr result (BreaksOffOver self.old self.new) }
         ensures same { IsSame self.old self.new }
     {
         driving_laws();
@@ -53,6 +58,7 @@ impl<'h> Driver<'h> {
         ensures comes { IfOk result (λ found. ComesAt at found self.old self.new) }
         ensures heard { IfOk result (λ found. IfSome found IsHeard) }
         ensures kept { OnOk result (IsKept self.new) }
+        ensures desk { self.new.desk ≡ self.old.desk }
         ensures same { IsSame self.old self.new }
     {
         Ok(self.channels[at].inbound.next()?)
@@ -67,6 +73,7 @@ impl<'h> Driver<'h> {
     ) -> Result<(), Stopped>
         requires kept { IsKept self.old }
         ensures room { OnOk result (MakesRoomFor input.now self.old self.new) }
+        ensures meanwhile { OnErr result (Meanwhile self.old.desk self.new.desk) }
         ensures same { IsSame self.old self.new }
     {
         if !is_packet(input) {
@@ -82,6 +89,7 @@ impl<'h> Driver<'h> {
         requires heard { IsHeard input }
         requires room { TakesIn input self.old.desk.now }
         ensures hears { IfOk result (λ heard. HearsAt at input heard self.old self.new) }
+        ensures stops { OnErr result ((stop : DeskStop) × Stops stop (entries.Heard (at + 1) input) self.old.desk self.new.desk) }
         ensures kept { OnOk result (IsKept self.new) }
         ensures same { IsSame self.old self.new }
     {
@@ -93,6 +101,7 @@ impl<'h> Driver<'h> {
     fn follow<R: Wait, G: Gate>(&mut self, rt: &R, gate: &G, heard: Heard) -> Result<(), Stopped>
         requires kept { IsKept self.old }
         ensures follows { OnOk result (Follows heard self.old self.new) }
+        ensures meanwhile { OnErr result (Meanwhile self.old.desk self.new.desk) }
         ensures same { IsSame self.old self.new }
     {
         match heard {

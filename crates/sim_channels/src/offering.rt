@@ -1,8 +1,9 @@
 // A message that was taken out is offered to its device.
-ghost use Rattle.std.specs.Prelude.{◌≡◌, ◌<◌, IfOk, OnOk, length, map};
+ghost use Rattle.std.specs.Prelude.{◌≡◌, ◌<◌, IfOk, OnErr, OnOk, length, map};
 ghost use Rattle.std.specs.List.{AllByRecursion};
 ghost use Rattle.machine_moves.specs.Sends.{CanBeOffered};
-ghost use Rattle.sim_channels.specs.Channels.{Fits, IsSame};
+ghost use Rattle.sim_steps.specs.Stretches.{BreaksOff};
+ghost use Rattle.sim_channels.specs.Channels.{Fits, IsSame, bench};
 ghost use Rattle.machine_desk.specs.declared.inbound.Stage.TheVariants.{Live};
 ghost use Rattle.sim_channels.specs.Delivering.{CanOffer, GoesOn, OffersAt, OffersFirst, offers_left};
 ghost use Rattle.sim_channels.specs.Staging.{HasStage};
@@ -31,6 +32,7 @@ impl<'h> Driver<'h> {
         requires some { 0 < offers_left at self.old }
         ensures done { OnOk result (OffersAt at self.old (map D.meaning devices.old) self.new (map D.meaning devices.new)) }
         ensures goes_on { IfOk result (λ took. GoesOn took at self.old self.new) }
+        ensures broken { OnErr result (BreaksOff (bench self.old (map D.meaning devices.old)) self.new.desk.past) }
         ensures same { IsSame self.old self.new }
     {
         driving_laws();

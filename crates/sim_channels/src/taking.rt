@@ -1,7 +1,9 @@
 // The messages for a device are taken out of the machine.
-ghost use Rattle.std.specs.Prelude.{◌≡◌, IfOk, OnOk};
+ghost use Rattle.std.specs.Prelude.{◌≡◌, IfErr, IfOk, OnErr, OnOk};
 ghost use Rattle.machine_desk.specs.declared.inbound.Stage.TheVariants.{Live};
-ghost use Rattle.sim_channels.specs.Channels.{IsKept, IsSame};
+ghost use Rattle.machine_desk.specs.Orders.{Stops};
+ghost use Rattle.machine_steps.specs.declared.entry.Entry.TheVariants as entries;
+ghost use Rattle.sim_channels.specs.Channels.{BreaksOffOver, IsKept, IsSame};
 ghost use Rattle.sim_channels.specs.Delivering.{TakesMessages, TakesOut};
 ghost use Rattle.sim_channels.specs.Staging.{HasStage};
 ghost use Rattle.sim_channels.specs.Waiting.{IsOffered};
@@ -21,6 +23,7 @@ impl<'h> Driver<'h> {
         requires plugged { HasStage at Live self.old }
         requires offered { IsOffered at self.old }
         ensures takes { OnOk result (TakesOut at self.old self.new) }
+        ensures broken { OnErr result (BreaksOffOver self.old self.new) }
         ensures same { IsSame self.old self.new }
     {
         driving_laws();
@@ -37,6 +40,7 @@ fn take_messages<R: Wait>(
     connection: u32,
 ) -> Result<(Bytes, Messages), DeskStop>
     ensures takes { IfOk result (λ taken. TakesMessages connection taken.0 taken.1.value desk.old desk.new) }
+    ensures stops { IfErr result (λ stop. Stops stop (entries.TakeOut connection) desk.old desk.new) }
     ensures footing { desk.new.footing ≡ desk.old.footing }
 {
     match desk.ask(rt, Entry::TakeOut(connection))? {

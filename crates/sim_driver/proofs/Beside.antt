@@ -7,7 +7,6 @@ use Rattle.maple_io.specs.Views.{NoWriteFailed, SinkView}
 use Rattle.report_text.specs.declared.line.ScriptRefusal.{ScriptRefusal}
 use Rattle.device_port.specs.Devices.{Meaning}
 use Rattle.history_lock.specs.Histories.{AreAllowed, AreAllPositions, HasSeenLegal, IsAllowedSince, Replays, state_behind}
-use Rattle.history_lock.proofs.Lists.{starts_trans}
 use Rattle.history_lock.proofs.States.{replays_cut}
 use Rattle.maple_base.specs.declared.decision.Settings.{Settings}
 use Rattle.machine_steps.specs.Histories.{Leads as Steady, Turn}
@@ -76,13 +75,12 @@ pub short_of : (g : Given) (after : List Meaning) (history : List Turn) (text : 
 short_of g after history text h = record {
   done = orders g;
   events = h.events;
-  last = h.last;
+  between = h.last;
   are = record { run = h.run; later = []; orders_are = sym (append-nil (orders g)); follows = h.follows };
-  goes_on = record {
-    last = h.last.machine;
-    leads = subst (λ (ts : List Turn). Steady (opening g.policy g.settings) ts h.last.machine) (sym h.history_is) h.run.history;
-    begins = ([], h.history_is ∙ sym (append-nil (turns_of h.events)));
-  };
+  begun = [];
+  last = h.last;
+  run = subst (λ (es : List Event). IsRunOf g es h.last) (sym (append-nil h.events)) h.run;
+  history_is = h.history_is ∙ ap turns_of (sym (append-nil h.events));
   text_is = h.text_is;
 }
 
@@ -156,20 +154,6 @@ module _ (calls : CallsAreTurns) (nothing : NothingChanges) (stays : MostStays) 
 
   now_is : now ≡ was ++ later
   now_is = turns_append start seen rest
-
-  broken_on : (text : List ℕ) → IsBrokenOff g was text → IsBrokenOff g now text
-  broken_on text h = record {
-    done = h.done;
-    events = h.events;
-    last = h.last;
-    are = h.are;
-    goes_on = record {
-      last = m;
-      leads = subst (λ (s : State). Steady s now m) is (calls start (seen ++ rest) m all).leads;
-      begins = starts_trans now was (turns_of h.events) (later, now_is) h.goes_on.begins;
-    };
-    text_is = h.text_is;
-  }
 
   module _ (es : List Event) (last : Bench) (run : IsRunOf g es last) (told : was ≡ turns_of es) where
     ends_at : last.machine ≡ mid
@@ -252,6 +236,24 @@ module _ (calls : CallsAreTurns) (nothing : NothingChanges) (stays : MostStays) 
           ∙ ap (λ (bs : List ℕ). bs ++ untaken m)
           (sym (report_then es more ∙ ap (λ (bs : List ℕ). taken_report es ++ bs) carried.text_is ∙ append-nil (taken_report es)))
           ∙ sym (known.laws.report (es ++ more) g.policy g.settings next.machine (known.laws.history g.policy g.settings g.devices (es ++ more) next runs_on))
+
+  broken_on : (text : List ℕ) → IsBrokenOff g was text → IsBrokenOff g now text
+  broken_on text h =
+      let es = h.events ++ h.begun in
+      let k = carried es h.last h.run h.history_is in
+      let to = next es h.last h.run h.history_is in
+      let apart = append_assoc h.events h.begun k.events in
+      record {
+        done = h.done;
+        events = h.events;
+        between = h.between;
+        are = h.are;
+        begun = h.begun ++ k.events;
+        last = to;
+        run = subst (λ (xs : List Event). IsRunOf g xs to) apart (run_on es h.last h.run h.history_is);
+        history_is = told_on es h.last h.run h.history_is ∙ ap turns_of apart;
+        text_is = h.text_is;
+      }
 
   followed_on : (after : List Meaning) (text : List ℕ) → IsFollowed g after was text → IsFollowed g after now text
   followed_on after text h =

@@ -6,7 +6,8 @@ use Rattle.sim_steps.specs.Benches.{is_plugged}
 use Rattle.sim_steps.specs.Deeds.{Event}
 use Rattle.script_text.specs.Orders.Order.{Arrival}
 use Rattle.sim_steps.specs.Parts.{IsDrained, JustLooks}
-use Rattle.sim_steps.specs.Stretches.{Carried, Obeyed, Stretch}
+use Rattle.sim_steps.specs.Stretches.{BreaksOff, Carried, Obeyed, Stretch}
+use Rattle.sim_steps.proofs.Broken.{broken_behind, broken_by}
 use Rattle.sim_steps.proofs.Joining.{carried_ahead, carried_behind, obeyed}
 use Rattle.sim_steps.proofs.Moments.{called, stretch_call, stretch_failed}
 use Rattle.sim_channels.specs.declared.driver.Driver.{Driver}
@@ -29,6 +30,12 @@ module _ (laws : DrivingLaws) (resting : RestingLaws) (d : Driver) (before : Lis
     (h : IsCalled at port frame failed d before m mid) where
   abbrev event : Event
   event = called (at + 1) (Looking port frame h.called.seen h.called.bytes) h.called.reply (bench h.ahead before) (bench m mid)
+
+  -- up to there
+  pub called_broken : BreaksOff (bench d before) m.desk.past
+  called_broken =
+      let did = others_beside laws d h.ahead fits.kept h.others before in
+      broken_behind (bench d before) did.events (bench h.ahead before) m.desk.past did.runs (broken_by event h.called.calls)
 
   drained : IsDrained event
   drained by =

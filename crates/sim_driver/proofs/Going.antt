@@ -12,7 +12,7 @@ use Rattle.report_text.specs.Report.{spelled}
 use Rattle.device_port.specs.Devices.{Meaning}
 use Rattle.machine_desk.specs.declared.report.ReportStop.{ReportStop}
 use Rattle.machine_desk.specs.declared.report.ReportStop.TheVariants.{Failed, NoMemory, Worn}
-use Rattle.machine_desk.specs.Desks.{DeskLaw, DeskView, Footing, SameHall}
+use Rattle.machine_desk.specs.Desks.{DeskLaw, Footing, SameHall}
 use Rattle.maple_base.specs.declared.decision.Settings.{Settings}
 use Rattle.machine_steps.specs.Histories.{Leads as Steady, Turn, report_of, said}
 use Rattle.machine_steps.specs.Machine.{State, opening}
@@ -27,14 +27,16 @@ use Rattle.sim_steps.specs.Deeds.{Event, Runs, turn_of, turns_of}
 use Rattle.sim_steps.specs.Ends.{IsSmooth}
 use Rattle.sim_steps.specs.Parts.{Follows, IsCalm}
 use Rattle.sim_steps.specs.Showing.{AllIdle}
+use Rattle.sim_steps.specs.Stretches.{BreaksOff}
+use Rattle.sim_steps.proofs.Broken.{broken_here}
 use Rattle.sim_steps.proofs.Joining.{report_then, runs_then}
 use Rattle.sim_channels.specs.declared.driver.Driver.{Driver}
 use Rattle.sim_channels.specs.Channels.{bench}
 use Rattle.sim_driver.specs.declared.drive.SimEnd.{SimEnd}
 use Rattle.sim_driver.specs.declared.drive.SimEnd.TheVariants as ends
-use Rattle.sim_driver.specs.Passes.{Breaks, DeedLaws, EndsAt, Finished, IsFinished, IsMarked, IsReady, IsReported, IsUnreported, Passed, end_of}
+use Rattle.sim_driver.specs.Passes.{Breaks, DeedLaws, EndsAt, Finished, IsFinished, IsReady, IsReported, IsUnreported, Passed, end_of}
 use Rattle.sim_driver.specs.Passes.{untaken}
-use Rattle.sim_driver.specs.Runs.{Ends, EndsOver, EndsWith, Given, GoesOnFrom, IsBrokenOff, IsFollowed, IsRunOf, IsUnwritten, is_whole, just}
+use Rattle.sim_driver.specs.Runs.{Ends, EndsOver, EndsWith, Given, IsBrokenOff, IsFollowed, IsRunOf, IsUnwritten, is_whole, just}
 use Rattle.sim_driver.specs.Runs.{of_part, opened, orders, report}
 use Rattle.sim_driver.proofs.Parting.{Parts, Stands, part_follows, parts_follow, parts_run, parts_then}
 use Rattle.sim_driver.proofs.Taking.{bench_devices}
@@ -80,13 +82,13 @@ went_none g places old driver devices known n e = record {
   none_waits = ap (λ (b : Bench). b.machine.lines) e;
 }
 
--- a desk that was marked is in the same hall
-pub marked_hall : (f : Footing) (a b : DeskView) → SameHall f a.footing → IsMarked a b → SameHall f b.footing
-marked_hall f a b same marked = record {
-  place = ap (λ (x : Footing). x.place) marked ∙ same.place;
-  name = ap (λ (x : Footing). x.name) marked ∙ same.name;
-  start = ap (λ (x : Footing). x.start) marked ∙ same.start;
-  parts = ap (λ (x : Footing). x.parts) marked ∙ same.parts;
+-- with the same footing it is the same hall
+pub same_hall : (f g : Footing) → g ≡ f → SameHall f g
+same_hall f g same = record {
+  place = ap (λ (x : Footing). x.place) same;
+  name = ap (λ (x : Footing). x.name) same;
+  start = ap (λ (x : Footing). x.start) same;
+  parts = ap (λ (x : Footing). x.parts) same;
 }
 
 -- ---- one order more
@@ -163,37 +165,29 @@ module _ {g : Given} {places : ℕ} {old now : SinkView} {driver : Driver} {devi
   written : Wrote old now text_so_far
   written = subst (Wrote old now) (sym whole) h.wrote
 
-  -- the desk knows of no other turns
-  past_is : driver.desk.past ≡ turns_of h.events
-  past_is = h.known.laws.past (opened g) h.events (bench driver devices) runs
-
   -- memory ran out ahead of an order, or in it, or the hall was found worn
-  broken : (history : List Turn) → GoesOnFrom g h.events history → IsBrokenOff g history text_so_far
-  broken history goes_on = record {
-    done = h.done;
-    events = h.events;
-    last = bench driver devices;
-    are = record {
-      run = run_of g h.known h.events (bench driver devices) runs;
-      later = orders_of places left;
-      orders_are = h.orders_are;
-      follows = parts_follow h.done (opened g) h.events (bench driver devices) h.parts h.stands;
-    };
-    goes_on = goes_on;
-    text_is = refl;
-  }
-
-  so_far : GoesOnFrom g h.events driver.desk.past
-  so_far = record {
-    last = driver.desk.now;
-    leads =
-        subst (λ (ts : List Turn). Steady (opening g.policy g.settings) ts driver.desk.now) (sym past_is)
-        (h.known.laws.history g.policy g.settings g.devices h.events (bench driver devices) runs);
-    begins = ([], past_is ∙ sym (append-nil (turns_of h.events)));
-  }
+  broken : (history : List Turn) → BreaksOff (bench driver devices) history → IsBrokenOff g history text_so_far
+  broken history k =
+      let all_run = runs_then (opened g) h.events (bench driver devices) k.events k.last runs k.runs in
+      record {
+        done = h.done;
+        events = h.events;
+        between = bench driver devices;
+        are = record {
+          run = run_of g h.known h.events (bench driver devices) runs;
+          later = orders_of places left;
+          orders_are = h.orders_are;
+          follows = parts_follow h.done (opened g) h.events (bench driver devices) h.parts h.stands;
+        };
+        begun = k.events;
+        last = k.last;
+        run = run_of g h.known (h.events ++ k.events) k.last all_run;
+        history_is = sym k.past_is ∙ h.known.laws.past (opened g) (h.events ++ k.events) k.last all_run;
+        text_is = refl;
+      }
 
   pub broken_off : (text : List ℕ) × (IsBrokenOff g driver.desk.past text ⊎ IsUnwritten g devices driver.desk.past text) × Wrote old now text
-  broken_off = (text_so_far, inl (broken driver.desk.past so_far), written)
+  broken_off = (text_so_far, inl (broken driver.desk.past (broken_here (bench driver devices) driver.desk.past refl)), written)
 
   -- all lines were followed, and what is done behind them too
   module _ (next : Driver) (after : List Meaning) (new : SinkView) (k : IsFinished (bench driver devices) next after now new)
@@ -304,59 +298,49 @@ module _ {g : Given} {places : ℕ} {old now : SinkView} {driver : Driver} {devi
       unwritten = (text_so_far ++ u.front, cut, wrote_then old now new text_so_far u.front written u.wrote)
 
     -- a write failed, memory ran out, or the hall was found worn
-    module _ (next : Driver) (law : DeskLaw next.desk) (marked : IsMarked driver.desk next.desk)
-        (start : driver.desk.footing.start ≡ opening g.policy g.settings) where
-      goes_on : GoesOnFrom g h.events next.desk.past
-      goes_on = record {
-        last = next.desk.now;
-        leads =
-            subst (λ (m : State). Steady m next.desk.past next.desk.now) (ap (λ (f : Footing). f.start) marked ∙ start) law.legal;
-        begins = (law.begins.0, law.begins.1 ∙ ap (λ (ts : List Turn). ts ++ law.begins.0) (ap (λ (f : Footing). f.marked) marked ∙ past_is));
-      }
-
+    module _ (next : Driver) (law : DeskLaw next.desk) where
       unchanged : (new : SinkView) → new ≡ now → Wrote old new text_so_far
       unchanged new same = subst (λ (s : SinkView). Wrote old s text_so_far) (sym same) written
 
       pub stopped : (new : SinkView) (after : List Meaning) (stop : ReportStop) → Breaks stop (of_part order) (bench driver devices) next after now new
           → EndsAt (end_of stop) g next.desk after old new
       stopped new after Failed u = unwritten u
-      stopped new after NoMemory (inl e) = (text_so_far, inl (broken next.desk.past goes_on), unchanged new e)
+      stopped new after NoMemory (inl e) = (text_so_far, inl (broken next.desk.past e.broken), unchanged new e.unwritten)
       stopped new after NoMemory (inr u) = let (text, cut, wrote) = unwritten u in (text, inr cut, wrote)
-      stopped new after Worn (e, worn) = (text_so_far, (broken next.desk.past goes_on, law.full worn), unchanged new e)
+      stopped new after Worn (e, worn) = (text_so_far, (broken next.desk.past e.broken, law.full worn), unchanged new e.unwritten)
 
   -- in a step
-  pub stopped_in : (next : Driver) (law : DeskLaw next.desk) (marked : IsMarked driver.desk next.desk)
-      (start : driver.desk.footing.start ≡ opening g.policy g.settings)
-      (new : SinkView) (after : List Meaning) (step : Step) (text : List ℕ) (passed : ℕ) (behind : List (List ℕ)) (stop : ReportStop)
+  pub stopped_in : (next : Driver) (law : DeskLaw next.desk) (new : SinkView) (after : List Meaning) (step : Step) (text : List ℕ) (passed : ℕ) (behind : List (List ℕ)) (stop : ReportStop)
       → Passed (Err stop) step text driver devices next after now new → Leads places left (order_with step text) passed behind
       → EndsAt (end_of stop) g next.desk after old new
-  stopped_in next law marked start new after step text passed behind stop breaks leads =
+  stopped_in next law new after step text passed behind stop breaks leads =
       let o = order_with step text in
       let are = orders_on g places left behind h.done o passed h.orders_are leads in
-      stopped (Some o) (orders_of places behind) are (λ none. absurd (cc)) (λ none. absurd (cc)) next law marked start new after stop breaks
+      stopped (Some o) (orders_of places behind) are (λ none. absurd (cc)) (λ none. absurd (cc)) next law new after stop breaks
 
   -- behind all lines
-  pub stopped_behind : (next : Driver) (law : DeskLaw next.desk) (marked : IsMarked driver.desk next.desk)
-      (start : driver.desk.footing.start ≡ opening g.policy g.settings)
-      (new : SinkView) (after : List Meaning) (stop : ReportStop) → orders_of places left ≡ [] → Finished (Err stop) driver devices next after now new
+  pub stopped_behind : (next : Driver) (law : DeskLaw next.desk) (new : SinkView) (after : List Meaning) (stop : ReportStop) → orders_of places left ≡ [] → Finished (Err stop) driver devices next after now new
       → EndsAt (end_of stop) g next.desk after old new
-  stopped_behind next law marked start new after stop none (beside, breaks) =
+  stopped_behind next law new after stop none (beside, breaks) =
       let all = h.orders_are ∙ ap (λ (os : List Order). os ++ orders_of places left) (sym (append-nil h.done)) in
-      stopped None (orders_of places left) all (λ is. none) (λ is. beside) next law marked start new after stop breaks
+      stopped None (orders_of places left) all (λ is. none) (λ is. beside) next law new after stop breaks
 
 -- memory ran out ahead of the machine
 never : (g : Given) → Known g → IsBrokenOff g [] []
 never g known = record {
   done = [];
   events = [];
-  last = opened g;
+  between = opened g;
   are = record {
     run = run_of g known [] (opened g) refl;
     later = orders g;
     orders_are = refl;
     follows = parts_follow [] (opened g) [] (opened g) (refl, refl) (opened_stands g);
   };
-  goes_on = record { last = opening g.policy g.settings; leads = refl; begins = ([], refl) };
+  begun = [];
+  last = opened g;
+  run = run_of g known [] (opened g) refl;
+  history_is = refl;
   text_is = refl;
 }
 

@@ -21,7 +21,8 @@ use Rattle.sim_steps.specs.Agreeing.{taken_report}
 use Rattle.sim_steps.specs.Benches.{Bench, IsSolo}
 use Rattle.sim_steps.specs.Deeds.{Event}
 use Rattle.sim_steps.specs.Parts.{IsPart}
-use Rattle.sim_steps.specs.Stretches.{Carried, Obeyed, Stretch}
+use Rattle.sim_steps.specs.Stretches.{BreaksOff, Carried, Obeyed, Stretch}
+use Rattle.sim_steps.proofs.Broken.{broken_behind, broken_here}
 use Rattle.sim_steps.proofs.Joining.{report_then}
 use Rattle.machine_desk.specs.declared.crew.Crew.{Crew}
 use Rattle.sim_channels.specs.declared.driver.Driver.{Driver}
@@ -29,6 +30,8 @@ use Rattle.sim_channels.specs.Channels.{EntersNext, Fits, IsKept, WorksAlone, be
 use Rattle.machine_desk.specs.Driving.{DrivingLaws}
 use Rattle.sim_channels.specs.Resting.{RestingLaws}
 use Rattle.sim_channels.specs.Waiting.{IsAtRest}
+use Rattle.machine_desk.specs.declared.asking.DeskStop.TheVariants as stops
+use Rattle.sim_channels.proofs.Broken.{broken_stop, worn_past}
 use Rattle.sim_channels.proofs.Others.{ahead, enters_next, others_ahead}
 use Rattle.sim_driver.specs.Passes.{Breaks, Finished, IsCaughtUp, IsFinished, IsReady, IsReported, IsStopped, IsUnreported, Passed, ReadyAfter, TakesReport, untaken}
 use Rattle.sim_driver.specs.Passes.{waiting}
@@ -125,11 +128,15 @@ module _ (laws : DrivingLaws) (resting : RestingLaws) (d next : Driver) (ds : Li
         let (taken, is) = takes w.text w.enters in
         reported laws resting o a d next taken ds fits rest h old new (subst (Wrote old new) is w.wrote)
 
+    behind : BreaksOff (bench d ds) next.desk.past → BreaksOff a next.desk.past
+    behind broken = broken_behind a h.events (bench d ds) next.desk.past h.part.runs broken
+
     breaks_by : (stop : ReportStop) → EndsReport stop d.desk next.desk old new → Breaks stop o a next ds old new
     breaks_by Failed (w, failed) = in_part w
-    breaks_by NoMemory (inl (enters, same)) = inl same
+    breaks_by NoMemory (inl (enters, same)) = inl (record { broken = behind (broken_stop laws d fits.kept ds TakeReport next.desk stops.NoMemory enters (λ m did kept still. tt)); unwritten = same })
     breaks_by NoMemory (inr w) = inr (in_part w)
-    breaks_by Worn (wears, same) = (same, ap (λ (v : DeskView). v.worn) wears.same)
+    breaks_by Worn (wears, same) =
+        (record { broken = behind (broken_here (bench d ds) next.desk.past (worn_past d.desk next.desk wears)); unwritten = same }, ap (λ (v : DeskView). v.worn) wears.same)
 
   pub follows_by : (r : Result (Unit {0}) ReportStop) (step : Step) (bytes : List ℕ) (was : Driver) (before : List Meaning) (old new : SinkView)
       → Obeyed (order_with step bytes) (bench was before) (bench d ds) → ReportsBy r d.desk next.desk old new → Passed r step bytes was before next ds old new
@@ -143,14 +150,14 @@ ready_after laws resting d next (Ok u) old new same w = λ ds fits rest. ready_b
 ready_after laws resting d next (Err stop) old new same w = tt
 
 -- an order wasn't followed, and nothing written
-breaks_short : (stop : ReportStop) (o : Order) (a : Bench) (d : Driver) (ds : List Meaning) (to : SinkView) → IsStopped stop d → Breaks stop o a d ds to to
-breaks_short Failed o a d ds to stopped = absurd stopped
-breaks_short NoMemory o a d ds to stopped = inl refl
-breaks_short Worn o a d ds to stopped = (refl, stopped)
+breaks_short : (stop : ReportStop) (o : Order) (a : Bench) (d : Driver) (ds : List Meaning) (to : SinkView) → BreaksOff a d.desk.past → IsStopped stop d → Breaks stop o a d ds to to
+breaks_short Failed o a d ds to broken stopped = absurd stopped
+breaks_short NoMemory o a d ds to broken stopped = inl (record { broken = broken; unwritten = refl })
+breaks_short Worn o a d ds to broken stopped = (record { broken = broken; unwritten = refl }, stopped)
 
 pub passed_short : (stop : ReportStop) (step : Step) (bytes : List ℕ) (was : Driver) (before : List Meaning) (d : Driver) (ds : List Meaning) (to : SinkView)
-    → IsStopped stop d → Passed (Err stop) step bytes was before d ds to to
-passed_short stop step bytes was before d ds to stopped = breaks_short stop (order_with step bytes) (bench was before) d ds to stopped
+    → BreaksOff (bench was before) d.desk.past → IsStopped stop d → Passed (Err stop) step bytes was before d ds to to
+passed_short stop step bytes was before d ds to broken stopped = breaks_short stop (order_with step bytes) (bench was before) d ds to broken stopped
 
 -- ---- behind all lines
 
@@ -179,9 +186,9 @@ not_solo d kept some solo = let no : false ≡ true = sym (kept.crew.none solo) 
 
 -- who stopped ahead of the report
 pub finished_short : (was : Driver) (before : List Meaning) (d : Driver) (ds : List Meaning) (to : SinkView) (stop : ReportStop) → IsReady was before
-    → is_some was.crew ≡ true → IsStopped stop d → Finished (Err stop) was before d ds to to
-finished_short was before d ds to stop ready some stopped =
-    (not_solo was ready.fits.kept some, breaks_short stop Nothing (bench was before) d ds to stopped)
+    → is_some was.crew ≡ true → BreaksOff (bench was before) d.desk.past → IsStopped stop d → Finished (Err stop) was before d ds to to
+finished_short was before d ds to stop ready some broken stopped =
+    (not_solo was ready.fits.kept some, breaks_short stop Nothing (bench was before) d ds to broken stopped)
 
 -- who caught up
 pub finished_by : DrivingLaws → RestingLaws → (was : Driver) (before : List Meaning) (d next : Driver) (ds : List Meaning) (r : Result (Unit {0}) ReportStop)
@@ -206,37 +213,3 @@ finished_by laws resting was before d next ds r old new ready some caught same r
         }
     by (Err stop) w =
         (not_solo was ready.fits.kept some, breaks_by laws resting d next ds same caught.fits caught.rest Nothing a old new h stop w)
-
--- ---- the mark
-
--- a marked desk is at the same point
-module _ (d : Driver) where
-  abbrev pub marked : Driver
-  marked = record d { desk = record d.desk { footing = record d.desk.footing { marked = d.desk.past } } }
-
-  pub marked_fits : (ds : List Meaning) → Fits d ds → Fits marked ds
-  marked_fits ds h = record {
-    kept = record {
-      crew = h.kept.crew;
-      reached = h.kept.reached;
-      numbers = h.kept.numbers;
-      names = h.kept.names;
-      sessions = h.kept.sessions;
-      fresh = h.kept.fresh;
-    };
-    places = h.places;
-    waiting = h.waiting;
-  }
-
-  pub marked_rests : IsAtRest d → IsAtRest marked
-  marked_rests h = record { done = λ alone. (let done = h.done alone in record { jobs = done.jobs; taken = done.taken }); offered = h.offered; heard = h.heard }
-
-  pub marked_ready : (ds : List Meaning) → IsReady d ds → IsReady marked ds
-  marked_ready ds h = record { fits = marked_fits ds h.fits; rest = marked_rests h.rest; none_waits = h.none_waits }
-
--- whose run ends so once it is marked
-pub finished_marked : (d m : Driver) (ds : List Meaning) (r : Result (Unit {0}) ReportStop) (next : Driver) (after : List Meaning) (old new : SinkView)
-    → m ≡ marked d
-    → Finished r m ds next after old new → Finished r d ds next after old new
-finished_marked d m ds (Ok u) next after old new same h = subst (λ (x : Driver). Finished (Ok u) x ds next after old new) same h
-finished_marked d m ds (Err stop) next after old new same h = subst (λ (x : Driver). Finished (Err stop) x ds next after old new) same h

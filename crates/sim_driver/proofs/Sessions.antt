@@ -1,6 +1,11 @@
 -- A session is opened or ends, and no other place changes.
-use Rattle.std.proofs.Common.{◌≡◌, ℕ, ◌+◌, Bool, true, false, List, refl, sym, ap, ◌∙◌, inl}
-use Rattle.std.specs.Prelude.{Option, is_some}
+use Rattle.std.proofs.Common.{◌≡◌, ℕ, ◌+◌, Bool, true, false, List, length, refl, sym, ap, ◌∙◌, subst, inl}
+use Rattle.std.specs.Prelude.{[], Option, Some, is_some}
+use Rattle.std.specs.List.{slice_get}
+use Rattle.std.proofs.lemmas.Option.{same_Some}
+use Rattle.of10_stream.specs.Cut.IsOpen.{NoHeader}
+use Rattle.sim_steps.specs.Parts.{IsHeardOut}
+use Rattle.sim_channels.specs.declared.channel.Channel.{Channel}
 use Rattle.device_port.specs.Devices.{Meaning}
 use Rattle.machine_steps.specs.declared.entry.Entry.{Entry}
 use Rattle.machine_steps.specs.declared.entry.Entry.TheVariants as entries
@@ -11,21 +16,26 @@ use Rattle.sim_steps.specs.Benches.{Slot}
 use Rattle.sim_steps.specs.Deeds.{MayEnter}
 use Rattle.sim_steps.specs.Deeds.Deed.{Enters}
 use Rattle.sim_steps.specs.Parts.{asks, tells_settling}
+use Rattle.sim_steps.specs.Stretches.{BreaksOff}
+use Rattle.sim_turns.proofs.Broken.{asked_stop}
+use Rattle.machine_desk.specs.Desks.{DeskView}
+use Rattle.machine_desk.specs.Orders.{Stops}
+use Rattle.machine_desk.specs.declared.asking.DeskStop.{DeskStop}
 use Rattle.machine_desk.specs.Hearing.{stage_opened, was_begun}
 use Rattle.machine_desk.specs.declared.inbound.Stage.{Stage}
 use Rattle.machine_desk.specs.declared.inbound.Stage.TheVariants.{Over, Live, Unopened}
 use Rattle.sim_channels.specs.declared.driver.Driver.{Driver}
-use Rattle.sim_channels.specs.Channels.{Fits, IsKept, IsSame, OthersDid, bench, slots_of}
+use Rattle.sim_channels.specs.Channels.{Fits, IsFresh, IsKept, IsSame, OthersDid, bench, slots_of}
 use Rattle.machine_desk.specs.Driving.{DrivingLaws}
 use Rattle.sim_channels.specs.Resting.{DoesAt, RestingLaws}
 use Rattle.sim_channels.specs.Staging.{ClosesAt, HasStage, OpensAt}
-use Rattle.sim_channels.specs.Waiting.{IsAtRest, IsDone, IsLeft}
+use Rattle.sim_channels.specs.Waiting.{IsAtRest, IsDone, IsHeard, IsLeft, IsOffered}
 use Rattle.sim_channels.proofs.Keeping.{elsewhere, session_same}
 use Rattle.sim_channels.proofs.Kept.{ChannelAt, is_as_long, is_beside, now_there, plugged_at, waits_as}
 use Rattle.sim_channels.proofs.Making.{may_make}
 use Rattle.sim_channels.proofs.Others.{ahead, kept_ahead, others_ahead, others_quiet, tends_none, tends_of}
 use Rattle.sim_channels.proofs.Places.{EntersAndStages, staged_slots, there_too, with_stage}
-use Rattle.sim_channels.proofs.Slots.{slot_next, slots_get}
+use Rattle.sim_channels.proofs.Slots.{set_there, slot_next, slots_get}
 use Rattle.sim_channels.proofs.Staged.{closed_so, opened_so}
 use Rattle.sim_driver.specs.Commands.{AsksFor, IsChanged}
 use Rattle.sim_driver.proofs.Asking.{asks_for}
@@ -33,17 +43,22 @@ use Rattle.sim_driver.proofs.Doing.{begun_at}
 
 -- when an entry is made
 
-may_open : (d : Driver) (at : ℕ) → HasStage at Unopened d → (devices : List Meaning) → Fits d devices → MayEnter (entries.Open (at + 1)) (bench d devices)
-may_open d at un devices fits =
-    let device = there_too devices d.channels.items at un.channel (sym fits.places) un.there in
+may_open : (d : Driver) (at : ℕ) → HasStage at Unopened d → IsKept d → (devices : List Meaning) → length devices ≡ length d.channels.items → MayEnter (entries.Open (at + 1)) (bench d devices)
+may_open d at un kept devices long =
+    let device = there_too devices d.channels.items at un.channel long un.there in
     let ks = d.channels.items in (
       ap (λ (o : Option Slot). is_some o) (slot_next at (slots_of ks devices) ∙ slots_get ks devices at un.channel device.0 un.there device.1),
-      begun_at d at un.channel fits.kept un.there ∙ ap was_begun un.is,
+      begun_at d at un.channel kept un.there ∙ ap was_begun un.is,
     )
 
 may_close : (d : Driver) (at : ℕ) (fault : Bool) → HasStage at Live d → (devices : List Meaning) → Fits d devices
     → MayEnter (entries.Gone (at + 1) fault) (bench d devices)
 may_close d at fault live devices fits = plugged_at d at live.channel fits.kept live.there live.is
+
+-- memory didn't suffice for it, or the hall is worn
+pub broken_open : DrivingLaws → (d : Driver) (at : ℕ) → IsKept d → HasStage at Unopened d → (b : DeskView) (stop : DeskStop) → Stops stop (entries.Open (at + 1)) d.desk b
+    → (devices : List Meaning) → length devices ≡ length d.channels.items → BreaksOff (bench d devices) b.past
+broken_open laws d at kept un b stop stops devices long = asked_stop laws (entries.Open (at + 1)) d b kept devices stop stops refl (may_open d at un kept devices long)
 
 -- the machine was given an entry, and then a channel has another stage
 module _ (laws : DrivingLaws) (resting : RestingLaws) (d e : Driver) (at : ℕ) (kept : IsKept d) (also : IsKept e) (same : IsSame d e) (entry : Entry) (reply : Reply) (stage : Stage)
@@ -100,9 +115,26 @@ module _ (laws : DrivingLaws) (resting : RestingLaws) (d e : Driver) (at : ℕ) 
     pub opened : IsChanged at d e
     opened = changed laws resting d e at kept also same (entries.Open (at + 1)) opened_as.0 stage_now opened_as.1 refl refl (elsewhere at)
 
+    -- nothing was taken out for the device, and nothing came from it
+    fresh : HasStage at Unopened d → IsFresh opened_as.1.channel
+    fresh un = kept.fresh at opened_as.1.channel opened_as.1.there (ap (λ (x : Channel). x.inbound.stage) (same_Some opened_as.1.channel un.channel (sym opened_as.1.there ∙ un.there)) ∙ un.is)
+
+    there_now : (k : Channel) → slice_get e.channels.items at ≡ Some k → with_stage stage_now opened_as.1.channel ≡ k
+    there_now k there =
+        let h = opened_as.1 in
+        same_Some (with_stage stage_now h.channel) k (sym (ap (λ ks. slice_get ks at) h.channels ∙ set_there d.channels.items at h.channel (with_stage stage_now h.channel) h.there) ∙ there)
+
+    pub offered_opened : HasStage at Unopened d → IsOffered at e
+    offered_opened un k there live = subst (λ (x : Channel). x.to ≡ []) (there_now k there) (fresh un).to
+
+    pub heard_opened : HasStage at Unopened d → IsHeard at e
+    heard_opened un k there live =
+        subst (λ (x : Channel). IsHeardOut x.inbound.from.stream) (there_now k there)
+        (subst IsHeardOut (sym (fresh un).from) (record { unbroken = refl; open_end = NoHeader refl }))
+
     pub asked_opened : HasStage at Unopened d → IsAtRest d → AsksFor (entries.Open (at + 1)) d e
     asked_opened un rest =
-        asked_staged laws resting d e at kept also same (entries.Open (at + 1)) opened_as.0 stage_now opened_as.1 rest refl (λ is. absurd (cc)) (may_open d at un)
+        asked_staged laws resting d e at kept also same (entries.Open (at + 1)) opened_as.0 stage_now opened_as.1 rest refl (λ is. absurd (cc)) (λ devices fits. may_open d at un kept devices (sym fits.places))
 
   module _ (fault : Bool) (closes : ClosesAt at fault d e) where
     closed_as : (reply : Reply) × EntersAndStages at (entries.Gone (at + 1) fault) reply Over d e

@@ -1,9 +1,13 @@
 -- At the desk an entry was asked for, behind what others did, that is of no place.
-use Rattle.std.proofs.Common.{◌≡◌, ℕ, ◌+◌, Bool, true, false, List, refl, sym, ap, ◌∙◌, inl, inr}
+use Rattle.std.proofs.Common.{◌≡◌, ℕ, ◌+◌, Bool, true, false, List, refl, sym, ap, ◌∙◌, subst, inl, inr}
 use Rattle.std.specs.List.{slice_get}
 use Rattle.env_cells.specs.declared.updates.Update.{Update}
 use Rattle.env_cells.specs.declared.updates.Update.TheVariants.{Host, NoHost, Link, NoLink, Set, Unset}
-use Rattle.machine_desk.specs.Orders.{Asked, Asks, Changes, Renews, refusal}
+use Rattle.device_port.specs.Devices.{Meaning}
+use Rattle.machine_desk.specs.Desks.{DeskView}
+use Rattle.machine_desk.specs.Orders.{Asked, Asks, Changes, Renews, Stops, StopsRenewing, refusal}
+use Rattle.machine_desk.specs.declared.asking.DeskStop.{DeskStop}
+use Rattle.machine_desk.specs.declared.asking.DeskStop.TheVariants as stops
 use Rattle.machine_steps.specs.declared.entry.Entry.{Entry}
 use Rattle.machine_steps.specs.declared.entry.Entry.TheVariants as entries
 use Rattle.machine_steps.specs.declared.note.Note.{Note}
@@ -18,17 +22,21 @@ use Rattle.sim_steps.specs.Benches.{Bench}
 use Rattle.sim_steps.specs.Deeds.{MayEnter}
 use Rattle.sim_steps.specs.Deeds.Deed.{Enters}
 use Rattle.sim_steps.specs.Parts.{asks, tells_settling}
+use Rattle.sim_steps.specs.Stretches.{BreaksOff}
+use Rattle.sim_steps.proofs.Broken.{broken_here}
 use Rattle.sim_channels.specs.declared.driver.Driver.{Driver}
 use Rattle.sim_channels.specs.Channels.{IsKept, WorksAlone, bench}
 use Rattle.machine_desk.specs.Driving.{DrivingLaws}
 use Rattle.sim_channels.specs.Resting.{RestingLaws}
 use Rattle.sim_channels.specs.Waiting.{IsAtRest, IsDone, IsHeardThrough}
+use Rattle.sim_channels.proofs.Broken.{worn_past}
 use Rattle.sim_channels.proofs.Making.{had_memory}
 use Rattle.sim_channels.proofs.Keeping.{bears_on}
 use Rattle.sim_channels.proofs.Kept.{kept_entry}
 use Rattle.sim_channels.proofs.Others.{ahead, alone_back, kept_ahead, others_ahead, same_desk}
 use Rattle.sim_channels.proofs.Places.{fits_same}
 use Rattle.sim_turns.specs.Turning.{FitsStill}
+use Rattle.sim_turns.proofs.Broken.{asked_stop}
 use Rattle.sim_driver.specs.Commands.{AsksFor, AsksToRenew}
 use Rattle.sim_driver.proofs.Asking.{asks_for}
 
@@ -156,3 +164,13 @@ module _ (laws : DrivingLaws) (resting : RestingLaws) (d e : Driver) (kept : IsK
       let entry = entries.ReadRules switch in
       stands entry h.reply h.asks refl (λ is. absurd (cc)) refl false (kept_behind entry h.reply h.asks (λ c. refl)) (λ b. tt)
       (λ vain. listed h.asks.enters.between switch h.reply e.desk.now (steps entry h.reply h.asks))
+
+-- ---- a policy's text wasn't put in force
+
+pub renew_stops : DrivingLaws → (d : Driver) (b : DeskView) → IsKept d → (ds : List Meaning) (text : List ℕ) (stop : DeskStop) → StopsRenewing stop text d.desk b → BreaksOff (bench d ds) b.past
+renew_stops laws d b kept ds text stops.NoMemory (inl same) = broken_here (bench d ds) b.past (ap (λ (v : DeskView). v.past) (sym same))
+renew_stops laws d b kept ds text stops.NoMemory (inr (entry, inl (policy, is, e), enters)) =
+    asked_stop laws (entries.NewPolicy policy) d b kept ds stops.NoMemory (subst (λ (x : Entry). Stops stops.NoMemory x d.desk b) e enters) refl tt
+renew_stops laws d b kept ds text stops.NoMemory (inr (entry, inr (line, column, kind, is, e), enters)) =
+    asked_stop laws (refusal line column kind) d b kept ds stops.NoMemory (subst (λ (x : Entry). Stops stops.NoMemory x d.desk b) e enters) refl tt
+renew_stops laws d b kept ds text stops.Worn h = broken_here (bench d ds) b.past (worn_past d.desk b h)

@@ -16,7 +16,7 @@ use Rattle.sim_steps.specs.Ends.{IsFaultOf}
 pub use Rattle.sim_steps.specs.Ends.{untaken}
 use Rattle.sim_steps.specs.Parts.{IsPart, IsStill}
 use Rattle.sim_steps.specs.Showing.{AllIdle}
-use Rattle.sim_steps.specs.Stretches.{Carried}
+use Rattle.sim_steps.specs.Stretches.{BreaksOff, Carried}
 use Rattle.sim_laws.specs.Laws.{AgreeLaw, HistoryLaw, PastLaw, ReportLaw, WorldLaw}
 use Rattle.sim_channels.specs.declared.driver.Driver.{Driver}
 use Rattle.sim_channels.specs.Channels.{EntersNext, Fits, OthersDid, bench}
@@ -37,7 +37,7 @@ use Rattle.sim_driver.specs.declared.drive.SimEnd.{SimEnd}
 use Rattle.sim_driver.specs.declared.drive.SimEnd.TheVariants as ends
 use Rattle.sim_driver.specs.declared.drive.SimEnd.TheVariants.{Done, WriteFault}
 use Rattle.worker_crew.specs.Tasks.{Worked}
-use Rattle.sim_driver.specs.Runs.{EndsOver, Given, IsAtRefused, devices_of, given, is_whole}
+use Rattle.sim_driver.specs.Runs.{Ends, EndsOver, Given, IsAtRefused, devices_of, given, is_whole, refused_line}
 
 -- what holds of all deeds
 pub record DeedLaws : Type 0 where
@@ -57,10 +57,6 @@ pub record TakesReport (old new : Driver) : Type 0 where
   pub others : OthersDid old ahead
   pub enters : EntersNext TakeReport (Lines (waiting ahead)) ahead.desk new.desk
   pub footing : new.desk.footing ≡ old.desk.footing
-
--- it was marked, and then its footing stayed
-abbrev pub IsMarked : DeskView → DeskView → Type 0
-IsMarked old new = new.footing ≡ record old.footing { marked = old.past }
 
 -- the driver has nothing left to do, and no line of the report waits
 pub record IsReady (driver : Driver) (devices : List Meaning) : Type 0 where
@@ -120,6 +116,15 @@ abbrev pub DroveBy : SimEnd → Given → Option (ℕ × ScriptRefusal) → Stat
 DroveBy end g refused start after k old new =
     ByPass (λ (number : ℕ) (history : List Turn) (own : List ℕ). Drove end g refused after number history own old new) start k
 
+-- how a run ends over a machine that is so at first, and these devices
+abbrev pub EndsFrom : SimEnd → State → List Meaning → List ℕ → ℕ → List Meaning → SinkView → SinkView → Type 0
+EndsFrom end start devices script first after old new = Ends end (given_by start devices script first) after old new
+
+-- and what is known of it by who drove it, where there are so many devices
+abbrev pub DroveFrom : SimEnd → State → List Meaning → ℕ → List ℕ → ℕ → List Meaning → PassView → SinkView → SinkView → Type 0
+DroveFrom end start devices places script first after k old new =
+    DroveBy end (given_by start devices script first) (refused_line places first script) start after k old new
+
 -- how a run may end, for who gave up
 abbrev pub sim_ends : EndsOf SimEnd
 sim_ends = record { write_fault = ends.WriteFault; no_memory = ends.NoMemory; worn = ends.Worn; is_whole = is_whole }
@@ -153,12 +158,17 @@ pub record IsUnreported (o : Order) (a b : Bench) (after : List Meaning) (old ne
   pub is_front : IsFront front (taken_report events)
   pub wrote : Wrote old new front
 
+-- the order was begun, and nothing was written
+pub record IsBegun (a : Bench) (driver : Driver) (old new : SinkView) : Type 0 where
+  pub broken : BreaksOff a driver.desk.past
+  pub unwritten : new ≡ old
+
 -- how it ends that an order isn't followed to its end: a front of the report was written; or nothing was, as memory ran out or the hall was found worn. Memory
 -- may run out for the writing too
 abbrev pub Breaks : ReportStop → Order → Bench → Driver → List Meaning → SinkView → SinkView → Type 0
 Breaks Failed o a driver after old new = IsUnreported o a (bench driver after) after old new
-Breaks NoMemory o a driver after old new = (new ≡ old) ⊎ IsUnreported o a (bench driver after) after old new
-Breaks Worn o a driver after old new = (new ≡ old) × (driver.desk.worn ≡ true)
+Breaks NoMemory o a driver after old new = IsBegun a driver old new ⊎ IsUnreported o a (bench driver after) after old new
+Breaks Worn o a driver after old new = IsBegun a driver old new × (driver.desk.worn ≡ true)
 
 -- how it ends that a step is followed, with this text behind its line
 abbrev pub Passed : Result (Unit {0}) ReportStop → Step → List ℕ → Driver → List Meaning → Driver → List Meaning → SinkView → SinkView → Type 0

@@ -6,9 +6,8 @@ use Rattle.maple_io.specs.Views.{SinkView}
 use Rattle.policy_lang.specs.declared.Policy.{Policy}
 use Rattle.report_text.specs.declared.line.ScriptRefusal.{ScriptRefusal}
 use Rattle.device_port.specs.Devices.{Meaning}
-use Rattle.history_lock.specs.Histories.{StartsWith}
 use Rattle.machine_steps.specs.Histories.{Leads, Turn}
-use Rattle.machine_steps.specs.Machine.{State, opening}
+use Rattle.machine_steps.specs.Machine.{opening}
 use Rattle.script_text.specs.Lines.{ended_lines}
 use Rattle.script_text.specs.Orders.{Order, orders_of, refused_from}
 use Rattle.script_text.specs.Orders.Order.{Nothing}
@@ -97,19 +96,16 @@ pub record AreDone (g : Given) (done : List Order) (es : List Event) (b : Bench)
   pub orders_are : orders g ≡ done ++ later
   pub follows : Follows done (opened g) es b
 
--- a legal history begins with the turns of these deeds
-pub record GoesOnFrom (g : Given) (es : List Event) (history : List Turn) : Type 0 where
-  pub last : State
-  pub leads : Leads (opening g.policy g.settings) history last
-  pub begins : StartsWith history (turns_of es)
-
--- some first orders were followed, and the text is their whole report. Of what was begun behind them only the machine's history is told
+-- some first orders were followed, and the text is their whole report. What was begun behind them are deeds too, and the history is that of all
 pub record IsBrokenOff (g : Given) (history : List Turn) (text : List ℕ) : Type 0 where
   pub done : List Order
   pub events : List Event
+  pub between : Bench
+  pub are : AreDone g done events between
+  pub begun : List Event
   pub last : Bench
-  pub are : AreDone g done events last
-  pub goes_on : GoesOnFrom g events history
+  pub run : IsRunOf g (events ++ begun) last
+  pub history_is : history ≡ turns_of (events ++ begun)
   pub text_is : text ≡ report events
 
 -- the order of a part: one of the script's, or none behind all of them

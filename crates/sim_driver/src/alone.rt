@@ -2,8 +2,8 @@
 ghost use Rattle.std.specs.Prelude.{◌≡◌, ◌≢◌, ◌+◌, ◌^◌, ◌<◌, None, map, length};
 ghost use Rattle.maple_io.specs.Views.{NoWriteFailed, WriteFailed};
 ghost use Rattle.history_lock.specs.Passes.{IsPassOf, known, parts};
-ghost use Rattle.sim_driver.specs.Passes.{DroveBy, IsOpeningOver, given_by};
-ghost use Rattle.sim_driver.specs.Runs.{Ends, IsAtRefused, refused_line};
+ghost use Rattle.sim_driver.specs.Passes.{DroveFrom, EndsFrom, IsOpeningOver};
+ghost use Rattle.sim_driver.specs.Runs.{IsAtRefused, refused_line};
 
 use crate::drive::SimEnd;
 use crate::lines::at_desk;
@@ -33,7 +33,8 @@ pub(crate) fn alone<R: Wait, D: Device, O: Sink, G: Gate>(
     requires opened { IsOpeningOver (known pass) opening (map D.meaning devices.old) }
     requires all { parts pass ≡ 1024 }
     requires numbers { first + length script.now < 2 ^ 32 }
-    ensures ends { Ends result (given_by opening.start.value (map D.meaning devices.old) script.now first) (map D.meaning devices.new) (O.tells to.old) (O.tells to.new) }
+    ensures ends { EndsFrom result opening.start.value (map D.meaning devices.old) script.now first (map D.meaning devices.new)
+        (O.tells to.old) (O.tells to.new) }
     ensures done { result ≡ SimEnd.Done → refused_line (length devices.old) first script.now ≡ None }
     ensures script { IsAtRefused result (refused_line (length devices.old) first script.now) }
     ensures fault { result ≡ SimEnd.WriteFault → WriteFailed (O.tells to.old) (O.tells to.new) }
@@ -83,8 +84,8 @@ fn at_pass<'p, R: Wait, D: Device, O: Sink, G: Gate>(
     requires numbers { first + length script.now < 2 ^ 32 }
     ensures same_reference { result.pass.ghost_name ≡ pass.entry.ghost_name }
     ensures hall { IsPassOf hall.now result.pass.now × (parts result.pass.now ≡ parts pass.old) }
-    ensures drove { DroveBy result.end (given_by opening.start.value (map D.meaning devices.old) script.now first) (refused_line (length devices.old) first script.now)
-        opening.start.value (map D.meaning devices.new) (known result.pass.now) (O.tells to.old) (O.tells to.new) }
+    ensures drove { DroveFrom result.end opening.start.value (map D.meaning devices.old) (length devices.old) script.now first
+        (map D.meaning devices.new) (known result.pass.now) (O.tells to.old) (O.tells to.new) }
 {
     let desk = Desk::new(hall, pass, opening);
     let (desk, _, end) = at_desk(rt, alloc, desk, None, script, first, devices, gate, to);

@@ -1,9 +1,10 @@
 // A frame comes to a device.
-ghost use Rattle.std.specs.Prelude.{◌≡◌, ◌+◌, ◌<◌, ◌≤◌, false, map, length, Ok, OnOk};
+ghost use Rattle.std.specs.Prelude.{◌≡◌, ◌+◌, ◌<◌, ◌≤◌, false, map, length, Ok, OnErr, OnOk};
 ghost use Rattle.machine_desk.specs.declared.inbound.Stage.TheVariants.{Live};
 ghost use Rattle.script_text.specs.Orders.{Order};
 ghost use Rattle.script_text.specs.Steps.{IsAmong};
 ghost use Rattle.script_text.specs.Grammar.{most_bytes};
+ghost use Rattle.sim_steps.specs.Stretches.{BreaksOff};
 ghost use Rattle.sim_channels.specs.Channels.{Fits, IsSame, bench};
 ghost use Rattle.sim_channels.specs.Staging.{HasStage};
 ghost use Rattle.sim_channels.specs.Waiting.{IsAtRest, IsAtRestBut};
@@ -42,6 +43,7 @@ pub(crate) fn arrive<R: Wait, G: Gate, D: Device>(
     ensures fits { OnOk result (Fits driver.new (map D.meaning devices.new)) }
     ensures rest { OnOk result (IsAtRest driver.new) }
     ensures obeyed { OnOk result (ObeyedBy (Order.Arrival place port frame) driver.old (map D.meaning devices.old) driver.new (map D.meaning devices.new)) }
+    ensures broken { OnErr result (BreaksOff (bench driver.old (map D.meaning devices.old)) driver.new.desk.past) }
     ensures same { IsSame driver.old driver.new }
 {
     resting_laws();
@@ -76,6 +78,7 @@ fn look<R: Wait, D: Device>(
     ensures rest { OnOk result (IsAtRestBut at driver.new) }
     ensures silent { result ≡ Ok false → IsAtRest driver.new }
     ensures looked { OnOk result (Looked (at + 1) port frame (bench driver.old (map D.meaning devices.old)) (bench driver.new (map D.meaning devices.new))) }
+    ensures broken { OnErr result (BreaksOff (bench driver.old (map D.meaning devices.old)) driver.new.desk.past) }
     ensures same { IsSame driver.old driver.new }
 {
     driving_laws();

@@ -1,9 +1,10 @@
 // The network changes, another policy is put in force, rules are listed.
-ghost use Rattle.std.specs.Prelude.{◌≡◌, false, map, Ok, OnOk};
+ghost use Rattle.std.specs.Prelude.{◌≡◌, false, map, Ok, OnErr, OnOk};
 ghost use Rattle.machine_steps.specs.declared.entry.Entry.TheVariants as entries;
 ghost use Rattle.script_text.specs.Orders.{Order};
 ghost use Rattle.script_text.specs.Steps.{IsOfLine};
-ghost use Rattle.sim_channels.specs.Channels.{Fits, IsKept, IsSame};
+ghost use Rattle.sim_steps.specs.Stretches.{BreaksOff};
+ghost use Rattle.sim_channels.specs.Channels.{BreaksOffOver, Fits, IsKept, IsSame, bench};
 ghost use Rattle.sim_channels.specs.Waiting.{IsAtRest, IsHeardThrough};
 ghost use Rattle.sim_turns.specs.Turning.{FitsStill};
 ghost use Rattle.sim_driver.specs.Commands.{AsksFor, AsksToRenew, ObeyedBy, ObeyedOver};
@@ -30,6 +31,7 @@ pub(crate) fn change<R: Wait, D: Device>(
     ensures fits { OnOk result (Fits driver.new (map D.meaning devices.new)) }
     ensures rest { OnOk result (IsAtRest driver.new) }
     ensures obeyed { OnOk result (ObeyedBy (Order.Change update) driver.old (map D.meaning devices.old) driver.new (map D.meaning devices.new)) }
+    ensures broken { OnErr result (BreaksOff (bench driver.old (map D.meaning devices.old)) driver.new.desk.past) }
     ensures same { IsSame driver.old driver.new }
 {
     resting_laws();
@@ -49,6 +51,7 @@ fn update_network<R: Wait>(rt: &R, driver: &mut Driver<'_>, update: Update) -> R
     ensures through { OnOk result (IsHeardThrough driver.new) }
     ensures rest { result ≡ Ok false → IsAtRest driver.new }
     ensures asked { OnOk result (AsksFor (entries.Change update) driver.old driver.new) }
+    ensures broken { OnErr result (BreaksOffOver driver.old driver.new) }
     ensures same { IsSame driver.old driver.new }
 {
     driving_laws();
@@ -73,6 +76,7 @@ pub(crate) fn renew<R: Wait, D: Device>(
     ensures fits { OnOk result (Fits driver.new (map D.meaning devices.new)) }
     ensures rest { OnOk result (IsAtRest driver.new) }
     ensures obeyed { OnOk result (ObeyedBy (Order.NewPolicy text.now) driver.old (map D.meaning devices.old) driver.new (map D.meaning devices.new)) }
+    ensures broken { OnErr result (BreaksOff (bench driver.old (map D.meaning devices.old)) driver.new.desk.past) }
     ensures same { IsSame driver.old driver.new }
 {
     resting_laws();
@@ -91,6 +95,7 @@ fn renew_policy<R: Wait>(rt: &R, driver: &mut Driver<'_>, text: &[u8]) -> Result
     ensures through { OnOk result (IsHeardThrough driver.new) }
     ensures rest { result ≡ Ok false → IsAtRest driver.new }
     ensures asked { OnOk result (AsksToRenew text.now driver.old driver.new) }
+    ensures broken { OnErr result (BreaksOffOver driver.old driver.new) }
     ensures same { IsSame driver.old driver.new }
 {
     driving_laws();
@@ -113,6 +118,7 @@ pub(crate) fn list_rules<R: Wait>(
     ensures fits { OnOk result (FitsStill driver.old driver.new) }
     ensures rest { OnOk result (IsAtRest driver.new) }
     ensures obeyed { OnOk result (ObeyedOver (Order.Rules switch) driver.old driver.new) }
+    ensures broken { OnErr result (BreaksOffOver driver.old driver.new) }
     ensures same { IsSame driver.old driver.new }
 {
     driving_laws();

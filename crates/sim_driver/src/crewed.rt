@@ -5,9 +5,9 @@ ghost use Rattle.history_lock.specs.Passes.{IsPassOf, known, leads, opening as o
 ghost use Rattle.sim_steps.specs.Benches.{IsSolo};
 ghost use Rattle.worker_crew.specs.Takers.{IsTakerOf, shares};
 ghost use Rattle.sim_driver.specs.Crewing.{IsBegun};
-ghost use Rattle.sim_driver.specs.Passes.{DroveBy, IsOpeningOver, given_by, joined};
+ghost use Rattle.sim_driver.specs.Passes.{DroveFrom, EndsFrom, IsOpeningOver, joined};
 ghost use Rattle.machine_desk.specs.Crews.{most_workers};
-ghost use Rattle.sim_driver.specs.Runs.{Ends, IsAtRefused, refused_line};
+ghost use Rattle.sim_driver.specs.Runs.{IsAtRefused, refused_line};
 
 use crate::drive::SimEnd;
 use crate::lines::{at_desk, deed_laws};
@@ -68,7 +68,7 @@ pub(crate) fn crewed<'d, R: Threads + Wait + Sync, D: Device, O: Sink, G: Gate +
     requires numbers { first + length script.now < 2 ^ 32 }
     ensures same_devices { result.devices.ghost_name ≡ devices.entry.ghost_name }
     ensures same_sink { result.to.ghost_name ≡ to.entry.ghost_name }
-    ensures ends { Ends result.end (given_by opening.start.value (map D.meaning devices.old) script.now first) (map D.meaning result.devices.now)
+    ensures ends { EndsFrom result.end opening.start.value (map D.meaning devices.old) script.now first (map D.meaning result.devices.now)
         (O.tells to.old) (O.tells result.to.now) }
     ensures done { result.end ≡ SimEnd.Done → refused_line (length devices.old) first script.now ≡ None }
     ensures script { IsAtRefused result.end (refused_line (length devices.old) first script.now) }
@@ -144,8 +144,8 @@ impl<'d, D: Device, O: Sink, G: Gate> Drives<Core, JobItem> for Run<'d, D, O, G>
 
     ghost drives = { λ d e k a l b.
         (e.devices.ghost_name ≡ d.devices.ghost_name) × (e.to.ghost_name ≡ d.to.ghost_name)
-        × IfSome d.opening (λ o. DroveBy e.end (given_by o.start.value (map D.meaning d.devices.now) d.script.now d.first)
-        (refused_line (length d.devices.now) d.first d.script.now) o.start.value (map D.meaning e.devices.now) l (O.tells d.to.now) (O.tells e.to.now)) };
+        × IfSome d.opening (λ o. DroveFrom e.end o.start.value (map D.meaning d.devices.now) (length d.devices.now) d.script.now d.first
+        (map D.meaning e.devices.now) l (O.tells d.to.now) (O.tells e.to.now)) };
 
     fn drive<R: Wait>(
         &mut self,
@@ -227,8 +227,8 @@ fn at_passes<'p, R: Wait, D: Device, O: Sink, G: Gate>(
     ensures hall { IsPassOf hall.now result.pass.now × (opening_of result.pass.now ≡ opening_of pass.old) × (parts result.pass.now ≡ parts pass.old) }
     ensures leads { leads result.pass.now ≡ leads pass.old }
     ensures taker { IsTakerOf jobs.now result.taker.now × (shares result.taker.now ≡ shares taker.old) }
-    ensures drove { DroveBy result.end (given_by opening.start.value (map D.meaning devices.old) script.now first) (refused_line (length devices.old) first script.now)
-        opening.start.value (map D.meaning devices.new) (known result.pass.now) (O.tells to.old) (O.tells to.new) }
+    ensures drove { DroveFrom result.end opening.start.value (map D.meaning devices.old) (length devices.old) script.now first
+        (map D.meaning devices.new) (known result.pass.now) (O.tells to.old) (O.tells to.new) }
 {
     let desk = Desk::new(hall, pass, opening);
     let crew = Crew::new(jobs, taker, lobby);

@@ -1,10 +1,10 @@
 // Behind all lines what is left to do is done, and the last of the report is written.
-ghost use Rattle.std.specs.Prelude.{◌≡◌, ◌≢◌, true, map, Err, IfErr, OnOk, is_some};
+ghost use Rattle.std.specs.Prelude.{◌≡◌, ◌≢◌, true, map, Err, IfErr, OnErr, OnOk, is_some};
 ghost use Rattle.maple_io.specs.Views.{NoWriteFailed, WriteFailed};
 ghost use Rattle.machine_desk.specs.declared.report.ReportStop.TheVariants as stops;
-ghost use Rattle.machine_desk.specs.Crews.{SameCrew};
-ghost use Rattle.sim_channels.specs.Channels.{IsSame};
-ghost use Rattle.sim_driver.specs.Passes.{Finished, IsCaughtUp, IsMarked, IsReady, IsStopped};
+ghost use Rattle.sim_steps.specs.Stretches.{BreaksOff};
+ghost use Rattle.sim_channels.specs.Channels.{IsSame, bench};
+ghost use Rattle.sim_driver.specs.Passes.{Finished, IsCaughtUp, IsReady, IsStopped};
 
 use crate::following::{report, stopped};
 use device_port::Device;
@@ -14,8 +14,7 @@ use packet_workers::Gate;
 use sim_channels::{Driver, driving_laws, resting_laws};
 use std::sync::Wait;
 
-/// Behind all lines: beside workers waits until no packet waits, delivers, and writes the lines that the report gained. The
-/// turns so far are marked ahead of it.
+/// Behind all lines: beside workers waits until no packet waits, delivers, and writes the lines that the report gained.
 pub(crate) fn finish<R: Wait, G: Gate, D: Device, O: Sink>(
     rt: &R,
     gate: &G,
@@ -25,13 +24,11 @@ pub(crate) fn finish<R: Wait, G: Gate, D: Device, O: Sink>(
 ) -> Result<(), ReportStop>
     requires ready { IsReady driver.old (map D.meaning all.old) }
     ensures finished { Finished result driver.old (map D.meaning all.old) driver.new (map D.meaning all.new) (O.tells to.old) (O.tells to.new) }
-    ensures marked { IsMarked driver.old.desk driver.new.desk }
-    ensures crew { SameCrew driver.old.crew driver.new.crew }
+    ensures same { IsSame driver.old driver.new }
     ensures cause { result ≡ Err stops.Failed → WriteFailed (O.tells to.old) (O.tells to.new) }
     ensures spared { result ≢ Err stops.Failed → NoWriteFailed (O.tells to.old) (O.tells to.new) }
 {
     resting_laws();
-    driver.mark();
     if driver.works_alone() {
         return Ok(());
     }
@@ -69,6 +66,7 @@ fn catch_up<R: Wait, G: Gate, D: Device>(
 ) -> Result<(), ReportStop>
     requires ready { IsReady driver.old (map D.meaning all.old) }
     ensures caught { OnOk result (IsCaughtUp driver.old (map D.meaning all.old) driver.new (map D.meaning all.new)) }
+    ensures broken { OnErr result (BreaksOff (bench driver.old (map D.meaning all.old)) driver.new.desk.past) }
     ensures stopped { IfErr result (λ stop. IsStopped stop driver.new) }
     ensures failed { result ≢ Err stops.Failed }
     ensures same { IsSame driver.old driver.new }

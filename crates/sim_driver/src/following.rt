@@ -3,10 +3,9 @@ ghost use Rattle.std.specs.Prelude.{◌≡◌, ◌≢◌, map, length, Err, OnOk
 ghost use Rattle.maple_io.specs.Views.{NoWriteFailed, WriteFailed};
 ghost use Rattle.script_text.specs.Steps.{IsKept as IsKeptStep};
 ghost use Rattle.machine_desk.specs.declared.report.ReportStop.TheVariants as stops;
-ghost use Rattle.machine_desk.specs.Crews.{SameCrew};
 ghost use Rattle.sim_channels.specs.Channels.{IsSame};
 ghost use Rattle.machine_desk.specs.Reports.{ReportsBy};
-ghost use Rattle.sim_driver.specs.Passes.{IsMarked, IsReady, IsStopped, Passed, ReadyAfter};
+ghost use Rattle.sim_driver.specs.Passes.{IsReady, IsStopped, Passed, ReadyAfter};
 
 use crate::obeying::obey;
 use device_port::Device;
@@ -17,9 +16,7 @@ use script_text::Step;
 use sim_channels::{Driver, driving_laws, resting_laws};
 use std::sync::Wait;
 
-// Does what a step of a script asks for, over all devices, and writes the lines that the report gains. The turns so far are
-// marked ahead of it.
-#[tactic(auto, using(crate::proofs::Reporting::passed_short))]
+// Does what a step of a script asks for, over all devices, and writes the lines that the report gains.
 pub(crate) fn follow<R: Wait, G: Gate, D: Device, O: Sink>(
     rt: &R,
     gate: &G,
@@ -33,14 +30,12 @@ pub(crate) fn follow<R: Wait, G: Gate, D: Device, O: Sink>(
     requires step { IsKeptStep (length all.old) step }
     ensures ready { OnOk result (IsReady driver.new (map D.meaning all.new)) }
     ensures follows { Passed result step text.now driver.old (map D.meaning all.old) driver.new (map D.meaning all.new) (O.tells to.old) (O.tells to.new) }
-    ensures marked { IsMarked driver.old.desk driver.new.desk }
-    ensures crew { SameCrew driver.old.crew driver.new.crew }
+    ensures same { IsSame driver.old driver.new }
     ensures cause { result ≡ Err stops.Failed → WriteFailed (O.tells to.old) (O.tells to.new) }
     ensures spared { result ≢ Err stops.Failed → NoWriteFailed (O.tells to.old) (O.tells to.new) }
 {
     driving_laws();
     resting_laws();
-    driver.mark();
     let Ok(()) = obey(rt, gate, driver, all, step, text) else {
         return Err(stopped(driver));
     };

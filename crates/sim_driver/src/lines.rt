@@ -3,6 +3,7 @@ ghost use Rattle.std.specs.Prelude.{◌≡◌, ◌≢◌, ◌+◌, ◌^◌, ◌<
 ghost use Rattle.maple_io.specs.Views.{NoWriteFailed, WriteFailed};
 ghost use Rattle.machine_desk.specs.Desks.{SameHall};
 ghost use Rattle.machine_desk.specs.Crews.{MayHave, SameCrew};
+ghost use Rattle.sim_channels.specs.Channels.{IsSame};
 ghost use Rattle.sim_driver.specs.Passes.{DeedLaws, DroveAt, EndsAt, IsOpened, IsOpenedOver, end_of, given_by, with_memory};
 ghost use Rattle.sim_driver.specs.Runs.{IsAtRefused, refused_line};
 
@@ -76,8 +77,7 @@ fn run_lines<R: Wait, G: Gate, D: Device, O: Sink>(
 ) -> SimEnd
     requires opened { IsOpened driver.old (map D.meaning devices.old) }
     requires numbers { first + length script.now < 2 ^ 32 }
-    ensures same { SameHall driver.old.desk.footing driver.new.desk.footing }
-    ensures crew { SameCrew driver.old.crew driver.new.crew }
+    ensures same { IsSame driver.old driver.new }
     ensures ends { EndsAt result (given_by driver.old.desk.now (map D.meaning devices.old) script.now first) driver.new.desk
         (map D.meaning devices.new) (O.tells to.old) (O.tells to.new) }
     ensures done { result ≡ SimEnd.Done → refused_line (length devices.old) first script.now ≡ None }

@@ -1,7 +1,8 @@
 // An order of a script is obeyed.
-ghost use Rattle.std.specs.Prelude.{◌≡◌, map, length, OnOk};
+ghost use Rattle.std.specs.Prelude.{◌≡◌, map, length, OnErr, OnOk};
 ghost use Rattle.script_text.specs.Steps.{IsKept as IsKeptStep, order_with};
-ghost use Rattle.sim_channels.specs.Channels.{Fits, IsSame};
+ghost use Rattle.sim_steps.specs.Stretches.{BreaksOff};
+ghost use Rattle.sim_channels.specs.Channels.{Fits, IsSame, bench};
 ghost use Rattle.sim_channels.specs.Waiting.{IsAtRest};
 ghost use Rattle.sim_driver.specs.Commands.{ObeyedBy};
 
@@ -35,6 +36,7 @@ pub(crate) fn obey<R: Wait, G: Gate, D: Device>(
     ensures fits { OnOk result (Fits driver.new (map D.meaning devices.new)) }
     ensures rest { OnOk result (IsAtRest driver.new) }
     ensures obeyed { OnOk result (ObeyedBy (order_with step text.now) driver.old (map D.meaning devices.old) driver.new (map D.meaning devices.new)) }
+    ensures broken { OnErr result (BreaksOff (bench driver.old (map D.meaning devices.old)) driver.new.desk.past) }
     ensures same { IsSame driver.old driver.new }
 {
     resting_laws();

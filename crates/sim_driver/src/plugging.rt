@@ -1,10 +1,11 @@
 // Devices are plugged in and taken out.
-ghost use Rattle.std.specs.Prelude.{◌≡◌, ◌+◌, false, map, length, OnOk};
+ghost use Rattle.std.specs.Prelude.{◌≡◌, ◌+◌, false, map, length, OnErr, OnOk};
 ghost use Rattle.machine_desk.specs.declared.inbound.Stage.TheVariants.{Live, Unopened};
 ghost use Rattle.machine_steps.specs.declared.entry.Entry.TheVariants as entries;
 ghost use Rattle.script_text.specs.Orders.{Order};
 ghost use Rattle.script_text.specs.Steps.{IsAmong};
-ghost use Rattle.sim_channels.specs.Channels.{Fits, IsKept, IsSame};
+ghost use Rattle.sim_steps.specs.Stretches.{BreaksOff};
+ghost use Rattle.sim_channels.specs.Channels.{BreaksOffOver, Fits, IsKept, IsSame, bench};
 ghost use Rattle.sim_channels.specs.Staging.{HasStage};
 ghost use Rattle.sim_channels.specs.Waiting.{IsAtRest, IsHeard, IsOffered};
 ghost use Rattle.sim_turns.specs.Turning.{FitsStill};
@@ -36,6 +37,7 @@ pub(crate) fn plug<R: Wait, D: Device>(
     ensures fits { OnOk result (Fits driver.new (map D.meaning devices.new)) }
     ensures rest { OnOk result (IsAtRest driver.new) }
     ensures obeyed { OnOk result (ObeyedBy (Order.Plug place) driver.old (map D.meaning devices.old) driver.new (map D.meaning devices.new)) }
+    ensures broken { OnErr result (BreaksOff (bench driver.old (map D.meaning devices.old)) driver.new.desk.past) }
     ensures same { IsSame driver.old driver.new }
 {
     resting_laws();
@@ -62,6 +64,7 @@ pub(crate) fn unplug<R: Wait>(rt: &R, driver: &mut Driver<'_>, place: u32) -> Re
     ensures fits { OnOk result (FitsStill driver.old driver.new) }
     ensures rest { OnOk result (IsAtRest driver.new) }
     ensures obeyed { OnOk result (ObeyedOver (Order.Unplug place) driver.old driver.new) }
+    ensures broken { OnErr result (BreaksOffOver driver.old driver.new) }
     ensures same { IsSame driver.old driver.new }
 {
     resting_laws();
@@ -81,6 +84,7 @@ fn open<R: Wait>(rt: &R, driver: &mut Driver<'_>, at: usize) -> Result<(), Stopp
     ensures asked { OnOk result (AsksFor (entries.Open (at + 1)) driver.old driver.new) }
     ensures offered { OnOk result (IsOffered at driver.new) }
     ensures heard { OnOk result (IsHeard at driver.new) }
+    ensures broken { OnErr result (BreaksOffOver driver.old driver.new) }
     ensures same { IsSame driver.old driver.new }
 {
     driving_laws();
@@ -96,6 +100,7 @@ fn close<R: Wait>(rt: &R, driver: &mut Driver<'_>, at: usize) -> Result<(), Stop
     ensures changes { OnOk result (IsChanged at driver.old driver.new) }
     ensures asked { OnOk result (AsksFor (entries.Gone (at + 1) false) driver.old driver.new) }
     ensures rest { OnOk result (IsAtRest driver.new) }
+    ensures broken { OnErr result (BreaksOffOver driver.old driver.new) }
     ensures same { IsSame driver.old driver.new }
 {
     driving_laws();

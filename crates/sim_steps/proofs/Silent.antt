@@ -18,7 +18,8 @@ use Rattle.world_steps.specs.Worlds.{lacks_memory}
 use Rattle.sim_steps.specs.Benches.{Bench, IsSolo}
 use Rattle.sim_steps.specs.Deeds.{EntersAt}
 use Rattle.sim_steps.specs.Parts.{asks}
-use Rattle.sim_steps.specs.Stretches.{Beside, Carried}
+use Rattle.sim_steps.specs.Stretches.{Beside, BreaksOff, Carried}
+use Rattle.sim_steps.proofs.Broken.{broken_here}
 use Rattle.sim_steps.proofs.Joining.{carried_none, carried_then, stretch_between}
 use Rattle.sim_steps.proofs.Moments.{carried_entry, entered, is_plain}
 use Rattle.sim_steps.proofs.Others.{allows_shared, beside_none, beside_then, lacks_in_run}
@@ -109,3 +110,20 @@ beside_along a (t ∷ ts) m beside (same, turn, rest) allowed =
     let still : IsSolo t.behind → ⊥ = λ solo. beside (ap (λ (n : State). n.settings.workers) (sym same) ∙ ap (λ (s : Settings). s.workers) (sym settings) ∙ solo) in
     subst (λ (x : Bench). Beside a x) (ap (λ (us : List Turn). record a { past = us; machine = m }) (append_assoc a.past (t ∷ []) ts))
     (beside_then a next (with_turns ts m next) (beside_one a t same turn beside allowed.0) (beside_along next ts m still rest later))
+
+-- ---- whatever came of it
+
+-- such turns are deeds, though memory ran out in them
+pub broken_along : (a : Bench) (turns : List Turn) (m : State) → Leads a.machine turns m → AreAllowed Allows (calls_in a.past) (calls_in turns) → BreaksOff a (a.past ++ turns)
+broken_along a [] m leads allowed = broken_here a (a.past ++ []) (sym (append-nil a.past))
+broken_along a (t ∷ ts) m (same, turn, rest) allowed =
+    let next = with_turns (t ∷ []) t.behind a in
+    let later = subst (λ (log : List Call). AreAllowed Allows log (calls_in ts)) (sym (map-append call_of a.past (t ∷ []))) allowed.1 in
+    let w = ways t.entry t.reply (ahead a t same turn) t.behind allowed.0 turn.admitted turn.steps in
+    let h = broken_along next ts m rest later in
+    record {
+      events = entered t.entry t.reply (ahead a t same turn) next ∷ h.events;
+      last = h.last;
+      runs = (is_at a t same turn, w.enters, h.runs);
+      past_is = h.past_is ∙ append_assoc a.past (t ∷ []) ts;
+    }

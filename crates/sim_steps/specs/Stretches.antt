@@ -3,6 +3,7 @@ use Rattle.std.specs.Prelude.{◌≡◌, ℕ, List, [], ◌∷◌, None}
 use Rattle.std.specs.List.{AllByRecursion}
 use Rattle.machine_steps.specs.declared.entry.Entry.{Entry}
 use Rattle.machine_steps.specs.declared.reply.Reply.{Reply}
+use Rattle.machine_steps.specs.Histories.{Turn}
 use Rattle.script_text.specs.Orders.{Order}
 use Rattle.sim_steps.specs.Agreeing.{taken_report}
 use Rattle.sim_steps.specs.Benches.{Bench}
@@ -44,3 +45,12 @@ pub record Beside (a b : Bench) : Type 0 where
   pub runs : Runs a events b
   pub all : AllByRecursion IsBeside events
   pub memory : AllByRecursion HadMemory events
+
+-- ---- what was broken off
+
+-- deeds were done from this bench on, and the machine's history behind them is this. They are neither a whole part, nor had all of them memory
+pub record BreaksOff (a : Bench) (past : List Turn) : Type 0 where
+  pub events : List Event
+  pub last : Bench
+  pub runs : Runs a events last
+  pub past_is : last.past ≡ past

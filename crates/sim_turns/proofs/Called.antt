@@ -8,7 +8,7 @@ use Rattle.device_port.specs.Devices.Call.{Turning}
 use Rattle.machine_desk.specs.Desks.{DeskView}
 use Rattle.machine_steps.specs.declared.entry.Entry.TheVariants as entries
 use Rattle.machine_steps.specs.declared.note.Note.TheVariants as notes
-use Rattle.machine_steps.specs.declared.reply.Reply.TheVariants.{Done}
+use Rattle.machine_steps.specs.declared.reply.Reply.{Reply}
 use Rattle.sim_steps.specs.Benches.{Bench, Slot}
 use Rattle.sim_steps.specs.Deeds.{CallsAt, CallsSlot, TakesTurn, appends, has_failed}
 use Rattle.sim_steps.specs.Parts.{has_dealt}
@@ -80,10 +80,10 @@ module _ (at : ℕ) (turned : Turned) (bytes : List ℕ) (old : Driver) (before 
   abbrev pub turned_bench : DeskView → Channel → Bench
   turned_bench desk l = record { past = desk.past; machine = desk.now; slots = slots_of (set old.channels.items at l) (set before at turns.behind) }
 
-  pub calls_at : (desk : DeskView) (l : Channel) → l.to ≡ waits.channel.to → l.inbound.from.stream ≡ fed bytes waits.channel.inbound.from.stream
-      → EntersNext (entries.Note (notes.Turned (at + 1) turned)) Done old.desk desk
-      → CallsAt (at + 1) (Turning turned bytes) Done (bench old before) (turned_bench desk l)
-  calls_at desk l to from enters = record {
+  pub calls_at : (reply : Reply) (desk : DeskView) (l : Channel) → l.to ≡ waits.channel.to → l.inbound.from.stream ≡ fed bytes waits.channel.inbound.from.stream
+      → EntersNext (entries.Note (notes.Turned (at + 1) turned)) reply old.desk desk
+      → CallsAt (at + 1) (Turning turned bytes) reply (bench old before) (turned_bench desk l)
+  calls_at reply desk l to from enters = record {
     plugged = staged_at old at waits.channel fits.kept waits.there ∙ ap is_live waits.plugged;
     slots = slots_move old.channels.items before at waits.channel l turns.before turns.behind (CallsSlot (Turning turned bytes)) waits.there turns.there
         (takes_turn turned bytes (slot_by waits.channel turns.before) (slot_by l turns.behind) turns.behind taken turns.turns

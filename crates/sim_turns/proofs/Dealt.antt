@@ -141,7 +141,7 @@ module _ (laws : DrivingLaws) (resting : RestingLaws) (at : ℕ) (turned : Turne
     one =
         let b = turned_bench at turned bytes old before behind fits turns waits taken new.desk L in
         let event = called (at + 1) (Turning turned bytes) Done (bench old before) b in
-        let calls = calls_at at turned bytes old before behind fits turns waits taken new.desk L changes.to changes.feeds.0 noted in
+        let calls = calls_at at turned bytes old before behind fits turns waits taken Done new.desk L changes.to changes.feeds.0 noted in
         let whole = (is_dealt turned bytes turns.before turns.behind taken other turns.turns).whole in
         record {
           event = event;

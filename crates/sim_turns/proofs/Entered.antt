@@ -32,7 +32,7 @@ asked_slots m (entries.TakeOut c) reply old new asked e = absurd (cc)
 asked_slots m entry reply old new asked e = e
 
 -- it may be made where sessions and places are as they were
-asked_may : (entry : Entry) (a b : Bench) → asks entry ≡ true → b.slots ≡ a.slots → ((c : ℕ) → is_plugged c b.machine ≡ is_plugged c a.machine)
+pub asked_may : (entry : Entry) (a b : Bench) → asks entry ≡ true → b.slots ≡ a.slots → ((c : ℕ) → is_plugged c b.machine ≡ is_plugged c a.machine)
     → ((c : ℕ) → was_opened c b.machine ≡ was_opened c a.machine) → MayEnter entry a → MayEnter entry b
 asked_may (entries.Open c) a b asked slots plugged opened may = (ap (λ (ss : List Slot). is_some (slot_at c ss)) slots ∙ may.0, opened c ∙ may.1)
 asked_may (entries.Gone c fault) a b asked slots plugged opened may = plugged c ∙ may

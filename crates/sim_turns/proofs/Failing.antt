@@ -130,7 +130,7 @@ module _ (laws : DrivingLaws) (resting : RestingLaws) (at : ℕ) (turned : Turne
     calls : CallsAt (at + 1) (Turning turned bytes) Done (bench old before) (bench mid behind)
     calls =
         subst (λ (x : Bench). CallsAt (at + 1) (Turning turned bytes) Done (bench old before) x) bench_is
-        (calls_at at turned bytes old before behind fits turns waits taken mid.desk K refl nothing_fed enters)
+        (calls_at at turned bytes old before behind fits turns waits taken Done mid.desk K refl nothing_fed enters)
 
     one : TakesOne (at + 1) turned (bench old before) (bench new behind)
     one = record {

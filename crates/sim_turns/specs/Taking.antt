@@ -7,7 +7,7 @@ use Rattle.device_port.specs.Devices.{Meaning, Turns}
 use Rattle.sim_steps.specs.Benches.{Bench}
 use Rattle.sim_steps.specs.Deeds.{Event}
 use Rattle.sim_steps.specs.Parts.{IsTurnAt, has_dealt, turns_taken}
-use Rattle.sim_steps.specs.Stretches.{Stretch}
+use Rattle.sim_steps.specs.Stretches.{BreaksOff, Stretch}
 use Rattle.machine_desk.specs.Hearing.{is_live}
 use Rattle.sim_channels.specs.Channels.{Fits, bench}
 use Rattle.sim_channels.specs.declared.channel.Channel.{Channel}
@@ -62,6 +62,11 @@ pub record IsTold (at : ℕ) (turned : Turned) (old new : Driver) (before behind
 abbrev pub ToldOver : ℕ → Turned → List ℕ → Driver → Driver → Type 0
 ToldOver at turned bytes old new =
     (before behind : List Meaning) → Fits old before → TurnsAt at turned bytes before behind → IsTold at turned old new before behind
+
+-- a turn was taken, and how far it was told
+abbrev pub BrokenOver : ℕ → Turned → List ℕ → Driver → Driver → Type 0
+BrokenOver at turned bytes old new =
+    (before behind : List Meaning) → Fits old before → TurnsAt at turned bytes before behind → BreaksOff (bench old before) new.desk.past
 
 -- ---- several turns
 

@@ -1,6 +1,6 @@
 // A device is attended to.
-ghost use Rattle.std.specs.Prelude.{◌≡◌, ◌<◌, length, map, OnOk};
-ghost use Rattle.sim_steps.specs.Stretches.{Carried};
+ghost use Rattle.std.specs.Prelude.{◌≡◌, ◌<◌, length, map, OnErr, OnOk};
+ghost use Rattle.sim_steps.specs.Stretches.{BreaksOff, Carried};
 ghost use Rattle.sim_channels.specs.Channels.{Fits, IsSame, bench};
 ghost use Rattle.sim_channels.specs.Waiting.{IsAtRest, IsAtRestBut};
 
@@ -29,6 +29,7 @@ pub fn attend<R: Wait, G: Gate, D: Device>(
     ensures fits { OnOk result (Fits driver.new (map D.meaning devices.new)) }
     ensures carried { OnOk result (Carried (bench driver.old (map D.meaning devices.old)) (bench driver.new (map D.meaning devices.new))) }
     ensures rest { OnOk result (IsAtRest driver.new) }
+    ensures broken { OnErr result (BreaksOff (bench driver.old (map D.meaning devices.old)) driver.new.desk.past) }
     ensures same { IsSame driver.old driver.new }
 {
     resting_laws();

@@ -1,7 +1,7 @@
 // What a device appended is heard.
-ghost use Rattle.std.specs.Prelude.{◌≡◌, ◌≢◌, ◌<◌, false, length, Ok, OnOk};
+ghost use Rattle.std.specs.Prelude.{◌≡◌, ◌≢◌, ◌<◌, false, length, Ok, OnErr, OnOk};
 ghost use Rattle.machine_desk.specs.Homes.{LeavesNone};
-ghost use Rattle.sim_channels.specs.Channels.{CarriedOver, IsKept, IsSame, WorksAlone, home};
+ghost use Rattle.sim_channels.specs.Channels.{BreaksOffOver, CarriedOver, IsKept, IsSame, WorksAlone, home};
 ghost use Rattle.sim_channels.specs.Waiting.{IsHeard, IsOffered, NoneWaits, StaysBut};
 ghost use Rattle.sim_channels.specs.Hearing.{KeepsChannels};
 ghost use Rattle.sim_turns.specs.declared.hear.Reach.TheVariants.{Anybody, Itself, Nobody};
@@ -45,6 +45,7 @@ pub(crate) fn hear_all<R: Wait, G: Gate>(
     ensures channels { OnOk result (KeepsChannels at driver.old driver.new) }
     ensures nobody { result ≡ Ok Nobody → driver.new.desk ≡ driver.old.desk }
     ensures itself { result ≡ Ok Itself → StaysBut (WorksAlone driver.old) at driver.old driver.new }
+    ensures broken { OnErr result (BreaksOffOver driver.old driver.new) }
     ensures same { IsSame driver.old driver.new }
 {
     // A packet teaches where a host is without its reply telling that this made a state.

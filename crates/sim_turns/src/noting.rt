@@ -1,8 +1,8 @@
 // What was done is told to the machine, where it is no call of a device.
-ghost use Rattle.std.specs.Prelude.{◌≡◌, true, OnOk};
+ghost use Rattle.std.specs.Prelude.{◌≡◌, true, OnErr, OnOk};
 ghost use Rattle.sim_steps.specs.Deeds.{MayNote};
 ghost use Rattle.sim_steps.specs.Parts.{tells_settling};
-ghost use Rattle.sim_channels.specs.Channels.{IsKept, IsSame};
+ghost use Rattle.sim_channels.specs.Channels.{BreaksOffOver, IsKept, IsSame};
 ghost use Rattle.sim_channels.specs.Waiting.{IsAtRest, IsDone};
 ghost use Rattle.sim_turns.specs.Turning.{FitsStill, ToldSo, noting};
 
@@ -24,6 +24,7 @@ pub fn note<R: Wait>(rt: &R, driver: &mut Driver<'_>, note: Note) -> Result<(), 
     ensures fits { OnOk result (FitsStill driver.old driver.new) }
     ensures rest { OnOk result (IsAtRest driver.new) }
     ensures told { OnOk result (ToldSo note driver.old driver.new) }
+    ensures broken { OnErr result (BreaksOffOver driver.old driver.new) }
     ensures same { IsSame driver.old driver.new }
     ensures desk { driver.new ≡ record driver.old { desk = driver.new.desk } }
 {

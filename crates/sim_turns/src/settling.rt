@@ -1,7 +1,7 @@
 // Devices take turns till no message waits.
-ghost use Rattle.std.specs.Prelude.{◌≡◌, map, OnOk};
+ghost use Rattle.std.specs.Prelude.{◌≡◌, map, OnErr, OnOk};
 ghost use Rattle.script_text.specs.Orders.Order.{Settle};
-ghost use Rattle.sim_steps.specs.Stretches.{Obeyed};
+ghost use Rattle.sim_steps.specs.Stretches.{BreaksOff, Obeyed};
 ghost use Rattle.sim_channels.specs.Channels.{Fits, IsSame, bench};
 ghost use Rattle.sim_channels.specs.Waiting.{IsAtRest};
 
@@ -33,6 +33,7 @@ pub fn settle<R: Wait, G: Gate, D: Device>(
     ensures fits { OnOk result (Fits driver.new (map D.meaning devices.new)) }
     ensures rest { OnOk result (IsAtRest driver.new) }
     ensures obeyed { OnOk result (Obeyed Settle (bench driver.old (map D.meaning devices.old)) (bench driver.new (map D.meaning devices.new))) }
+    ensures broken { OnErr result (BreaksOff (bench driver.old (map D.meaning devices.old)) driver.new.desk.past) }
     ensures same { IsSame driver.old driver.new }
 {
     driving_laws();

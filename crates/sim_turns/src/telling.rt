@@ -1,9 +1,9 @@
 // What a turn of a device did is told.
-ghost use Rattle.std.specs.Prelude.{OnOk};
+ghost use Rattle.std.specs.Prelude.{OnErr, OnOk};
 ghost use Rattle.sim_channels.specs.Channels.{IsKept, IsSame};
 ghost use Rattle.sim_channels.specs.Waiting.{IsAtRest, IsAtRestBut};
 ghost use Rattle.sim_channels.specs.Turns.{Waits};
-ghost use Rattle.sim_turns.specs.Taking.{IsTaken, Tires, ToldOver};
+ghost use Rattle.sim_turns.specs.Taking.{BrokenOver, IsTaken, Tires, ToldOver};
 
 use core_machine::Note;
 use maple_base::Turned;
@@ -30,6 +30,7 @@ pub(crate) fn tell_turn<R: Wait>(
     ensures rest { OnOk result (IsAtRestBut at driver.new) }
     ensures told { OnOk result (ToldOver at turned bytes.now driver.old driver.new) }
     ensures tires { OnOk result (Tires turned driver.old driver.new) }
+    ensures broken { OnErr result (BrokenOver at turned bytes.now driver.old driver.new) }
     ensures same { IsSame driver.old driver.new }
 {
     driving_laws();

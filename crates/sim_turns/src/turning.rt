@@ -1,9 +1,9 @@
 // A device takes turns.
-ghost use Rattle.std.specs.Prelude.{◌≡◌, ◌≤◌, ◌<◌, ◌+◌, map, length, IfOk, OnOk};
+ghost use Rattle.std.specs.Prelude.{◌≡◌, ◌≤◌, ◌<◌, ◌+◌, map, length, IfOk, OnErr, OnOk};
 ghost use Rattle.script_text.specs.Orders.Order.{Turn};
 ghost use Rattle.script_text.specs.Steps.{IsAmong};
 ghost use Rattle.sim_steps.specs.Parts.{has_dealt};
-ghost use Rattle.sim_steps.specs.Stretches.{Obeyed};
+ghost use Rattle.sim_steps.specs.Stretches.{BreaksOff, Obeyed};
 ghost use Rattle.sim_channels.specs.Channels.{Fits, IsSame, bench};
 ghost use Rattle.sim_channels.specs.Waiting.{IsAtRest, IsAtRestBut};
 ghost use Rattle.sim_channels.specs.Turns.{Waits};
@@ -39,6 +39,7 @@ pub(crate) fn take_turn<R: Wait, G: Gate, D: Device>(
     ensures rest { OnOk result (IsAtRest driver.new) }
     ensures taken { IfOk result (λ turned. TakesOneBy at turned driver.old (map D.meaning devices.old) driver.new (map D.meaning devices.new)) }
     ensures tires { IfOk result (λ turned. Tires turned driver.old driver.new) }
+    ensures broken { OnErr result (BreaksOff (bench driver.old (map D.meaning devices.old)) driver.new.desk.past) }
     ensures same { IsSame driver.old driver.new }
 {
     driving_laws();
@@ -65,6 +66,7 @@ fn turn_told<R: Wait, D: Device>(
     ensures told { IfOk result (λ turned. IsTold at turned driver.old driver.new (map D.meaning devices.old) (map D.meaning devices.new)) }
     ensures rest { OnOk result (IsAtRestBut at driver.new) }
     ensures tires { IfOk result (λ turned. Tires turned driver.old driver.new) }
+    ensures broken { OnErr result (BreaksOff (bench driver.old (map D.meaning devices.old)) driver.new.desk.past) }
     ensures same { IsSame driver.old driver.new }
 {
     let mut bytes = Vec::new(driver.alloc());
@@ -119,6 +121,7 @@ pub fn turn<R: Wait, G: Gate, D: Device>(
     ensures fits { OnOk result (Fits driver.new (map D.meaning devices.new)) }
     ensures rest { OnOk result (IsAtRest driver.new) }
     ensures obeyed { OnOk result (Obeyed (Turn place count) (bench driver.old (map D.meaning devices.old)) (bench driver.new (map D.meaning devices.new))) }
+    ensures broken { OnErr result (BreaksOff (bench driver.old (map D.meaning devices.old)) driver.new.desk.past) }
     ensures same { IsSame driver.old driver.new }
 {
     resting_laws();
@@ -159,6 +162,7 @@ fn take_turns<R: Wait, G: Gate, D: Device>(
     ensures taken { IfOk result (λ taken. TakesTurnsBy at taken driver.old (map D.meaning devices.old) driver.new (map D.meaning devices.new)) }
     ensures most { IfOk result (λ taken. taken ≤ most) }
     ensures fewer { IfOk result (λ taken. taken < most → Waits at driver.new → ⊥) }
+    ensures broken { OnErr result (BreaksOff (bench driver.old (map D.meaning devices.old)) driver.new.desk.past) }
     ensures same { IsSame driver.old driver.new }
 {
     let mut taken = 0;

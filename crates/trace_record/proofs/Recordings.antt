@@ -21,28 +21,27 @@ use Rattle.trace_record.specs.declared.recorder.Notes.{Notes}
 use Rattle.trace_record.specs.Recorded.{answers_of, Records, IsRecorded}
 
 -- what holds of the notes and of what the view gave, behind answers to a key
-record Held (k : Key) (start gave : Cell → Value → Type 0) (n : Notes) : Type 0 where
+record Held (k : Key) (gave : Cell → Value → Type 0) (n : Notes) : Type 0 where
   key : n.key ≡ k
   told : AreGiven gave n.cells
-  kept : (d : Cell) (w : Value) → start d w → gave d w
 
 abbrev Recording : {S : Type 0} → (S → Notes) → (S → Cell → Value → Type 0) → Saying S
 Recording notes gave x a y = Records (notes x) (gave x) a (notes y) (gave y)
 
 recorded : {S : Type 0} (notes : S → Notes) (gave : S → Cell → Value → Type 0) (p : Policy) (budget switch : ℕ) (s t : S) (o : Outcome) → valid_key (notes s).key ≡ true
-    → answers_of (notes s) ≡ nothing → Leads (Recording notes gave) s (meaning (tree_of p.body) budget switch) t o → IsRecorded p budget switch (notes s).key (notes t) (gave s) (gave t) o
+    → answers_of (notes s) ≡ nothing → Leads (Recording notes gave) s (meaning (tree_of p.body) budget switch) t o → IsRecorded p budget switch (notes s).key (notes t) (gave t) o
 recorded notes gave p budget switch s t o valid empty l =
     let k = (notes s).key in
     let c = meaning (tree_of p.body) budget switch in
-    let q = leads_as (Recording notes gave) (IsNoted k) (λ u. answers_of (notes u)) (λ u. Held k (gave s) (gave u) (notes u)) s c t o
-    (λ u a v h w. (subst (λ x. IsNoted x (answers_of (notes u)) a (answers_of (notes v))) h.key w.notes, record { key = sym w.key ∙ h.key; told = w.told h.told; kept = λ d x g. w.kept d x (h.kept d x g) }))
-    (record { key = refl; told = subst (λ x. AreGiven (gave s) x.cells) (sym empty) tt; kept = λ d x g. g }) l in
-    record { trace = notes_trace c k (answers_of (notes t)) o valid (subst (λ x. Leads (IsNoted k) x c (answers_of (notes t)) o) empty q.0); given = q.1.told; kept = q.1.kept }
+    let q = leads_as (Recording notes gave) (IsNoted k) (λ u. answers_of (notes u)) (λ u. Held k (gave u) (notes u)) s c t o
+    (λ u a v h w. (subst (λ x. IsNoted x (answers_of (notes u)) a (answers_of (notes v))) h.key w.notes, record { key = sym w.key ∙ h.key; told = w.told h.told }))
+    (record { key = refl; told = subst (λ x. AreGiven (gave s) x.cells) (sym empty) tt }) l in
+    record { trace = notes_trace c k (answers_of (notes t)) o valid (subst (λ x. Leads (IsNoted k) x c (answers_of (notes t)) o) empty q.0); given = q.1.told }
 
 -- a walk's notes, where there were none ahead of it
 pub recorded_if : {S : Type 0} (notes : S → Notes) (gave : S → Cell → Value → Type 0) (p : Policy) (budget switch : ℕ) (s t : S) (r : Result Outcome Unanswered)
     → valid_key (notes s).key ≡ true → (notes s).items ≡ [] → (notes s).cells ≡ [] → IfOk r (λ o. Leads (Recording notes gave) s (meaning (tree_of p.body) budget switch) t o)
-    → IfOk r (IsRecorded p budget switch (notes s).key (notes t) (gave s) (gave t))
+    → IfOk r (IsRecorded p budget switch (notes s).key (notes t) (gave t))
 recorded_if notes gave p budget switch s t r valid items cells =
     IfOk-weaker r (λ o. Leads (Recording notes gave) s (meaning (tree_of p.body) budget switch) t o) _
     (λ o. recorded notes gave p budget switch s t o valid (ap (λ is. seen is (notes s).cells) items ∙ ap (seen []) cells))

@@ -18,15 +18,13 @@ use Rattle.trace_record.specs.declared.recorder.Notes.{Notes as Kept}
 abbrev pub answers_of : Kept → Seen
 answers_of n = seen n.items n.cells
 
--- an answer is noted, the key stays, each noted cell was given by the view, and what the view gave it still gives
+-- an answer is noted, the key stays, and each noted cell was given by the view
 pub record Records (old : Kept) (gave : Cell → Value → Type 0) (a : Answer) (new : Kept) (now : Cell → Value → Type 0) : Type 0 where
   pub key : old.key ≡ new.key
   pub notes : Notes old.key (answers_of old) a (answers_of new)
   pub told : AreGiven gave old.cells → AreGiven now new.cells
-  pub kept : (d : Cell) (w : Value) → gave d w → now d w
 
 -- behind a walk through a policy, where there were no notes ahead of it: the notes are the trace, and what the view gave
-pub record IsRecorded (p : Policy) (budget switch : ℕ) (k : Key) (n : Kept) (start gave : Cell → Value → Type 0) (o : Outcome) : Type 0 where
+pub record IsRecorded (p : Policy) (budget switch : ℕ) (k : Key) (n : Kept) (gave : Cell → Value → Type 0) (o : Outcome) : Type 0 where
   pub trace : IsTrace (meaning (tree_of p.body) budget switch) k n.items n.cells o
   pub given : AreGiven gave n.cells
-  pub kept : (d : Cell) (w : Value) → start d w → gave d w

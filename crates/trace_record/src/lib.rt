@@ -3,6 +3,7 @@
 
 mod asked_items;
 pub mod laws;
+mod lent_view;
 mod read_cells;
 mod recorder;
 pub mod recording;

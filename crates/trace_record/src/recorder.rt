@@ -1,14 +1,19 @@
 // The recorder: it answers a run's questions from a key and a view, and notes what was asked.
-ghost use Rattle.std.specs.Prelude.{◌≡◌, ◌∷◌, [], IfOk, IsTrue};
+ghost use Rattle.std.specs.Prelude.{◌≡◌, ◌≤◌, [], IfOk, IsTrue};
+ghost use Rattle.maple_base.specs.declared.cells.Cell.{Cell as CellData};
+ghost use Rattle.maple_base.specs.declared.cells.Value.{Value as ValueData};
 ghost use Rattle.maple_base.specs.Keys.{valid_key};
 ghost use Rattle.trace_record.specs.Recorded.{Records, IsRecorded};
+ghost use Rattle.trace_record.specs.Since.{IsSince};
 
 use crate::asked_items::AskedItems;
+use crate::lent_view::{Back, LentView, Start};
 use crate::read_cells::ReadCells;
 use maple_base::{Cell, EnvView, Field, Key, Outcome, Value};
 use policy_eval::{Asker, Unanswered, run};
 use policy_lang::Policy;
 use std::alloc::Global;
+use std::marker::Brand;
 
 // What was noted of the answers so far, and whether the view refused to tell a cell.
 #[derive(Drop)]
@@ -19,16 +24,16 @@ pub struct Notes {
     pub was_refused: bool,
 }
 
-// Answers a run's questions, or holds what was made of the answers.
-pub struct Recorder<'a, V: EnvView, N> {
-    view: &'a mut V,
-    notes: N,
+// Answers a run's questions.
+pub struct Recorder<'a, V: EnvView, J: Start> {
+    view: LentView<'a, V, J>,
+    notes: Notes,
 }
 
-impl<'a, V: EnvView> Asker for Recorder<'a, V, Notes> {
-    ghost holds = { λ s. s.view.ghost_name ∷ [] };
+impl<'a, V: EnvView, J: Start> Asker for Recorder<'a, V, J> {
+    ghost holds = { λ s. [] };
 
-    ghost said = { λ s a t. Records s.notes (V.gave s.view.now) a t.notes (V.gave t.view.now) };
+    ghost said = { λ s a t. Records s.notes (V.gave s.view) a t.notes (V.gave t.view) };
 
     fn field(&mut self, field: Field) -> Result<u64, Unanswered> {
         Ok(self.notes.items.ask_field(field, &self.notes.key)?)
@@ -51,28 +56,21 @@ impl<'a, V: EnvView> Asker for Recorder<'a, V, Notes> {
     }
 }
 
-impl<'a, V: EnvView, N> Recorder<'a, V, N> {
-    pub fn finish(self) -> N
-        ensures notes { result ≡ self.entry.notes }
-        ensures view { self.exit.0.now ≡ self.entry.view.now }
-    {
-        let Recorder { view: _view, notes } = self;
-        notes
-    }
-}
-
-// Runs a policy on a packet's key and a view; how it ended stands beside the notes.
-pub fn walk<'a, V: EnvView>(
+// Runs a policy on a packet's key and a view that is lent: how it ended, with the notes.
+fn walk<'a, V: EnvView, J: Start>(
     alloc: Global,
     policy: &Policy,
     budget: u32,
     switch: u64,
     key: &Key,
     view: &'a mut V,
-) -> Recorder<'a, V, (Result<Outcome, Unanswered>, Notes)>
+) -> Back<'a, V, (Result<Outcome, Unanswered>, Notes)>
     requires key { IsTrue (valid_key key.now) }
+    requires start { IsSince J.gave J.refused (V.gave view.now) (V.refused view.now) }
+    requires name { J.name ≡ view.ghost_name }
     ensures same_reference { result.view.ghost_name ≡ view.entry.ghost_name }
-    ensures recorded { IfOk result.notes.0 (IsRecorded policy.now budget switch key.now result.notes.1 (V.gave view.entry.now) (V.gave result.view.now)) }
+    ensures recorded { IfOk result.value.0 (IsRecorded policy.now budget switch key.now result.value.1 (V.gave result.view.now)) }
+    ensures since { IsSince J.gave J.refused (V.gave result.view.now) (V.refused result.view.now) }
 {
     let notes = Notes {
         key: *key,
@@ -80,8 +78,25 @@ pub fn walk<'a, V: EnvView>(
         cells: ReadCells::new(alloc),
         was_refused: false,
     };
+    let view = LentView::<'a, V, J>::new(view);
     let (outcome, recorder) = run(alloc, policy, budget, switch, Recorder { view, notes });
     let Recorder { view, notes } = recorder;
-    let notes = (outcome, notes);
-    Recorder { view, notes }
+    view.finish((outcome, notes))
+}
+
+// The same over a view that goes on to be used: at every end it gives what it gave, and its count is no less.
+pub fn walked<V: EnvView>(
+    alloc: Global,
+    policy: &Policy,
+    budget: u32,
+    switch: u64,
+    key: &Key,
+    view: &mut V,
+) -> (Result<Outcome, Unanswered>, Notes)
+    requires key { IsTrue (valid_key key.now) }
+    ensures recorded { IfOk result.0 (IsRecorded policy.now budget switch key.now result.1 (V.gave view.new)) }
+    ensures kept { (c : CellData) (v : ValueData) → V.gave view.old c v → V.gave view.new c v }
+    ensures count { V.refused view.old ≤ V.refused view.new }
+{
+    walk::<V, Brand>(alloc, policy, budget, switch, key, view).into_value()
 }

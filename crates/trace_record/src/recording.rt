@@ -1,5 +1,5 @@
 // Recording: what a policy asks of a packet and of its environment, and what it decides.
-ghost use Rattle.std.specs.Prelude.{◌≡◌, ◌<◌, Err, IfOk, IsTrue, OnOk};
+ghost use Rattle.std.specs.Prelude.{◌≡◌, ◌<◌, ◌≤◌, Err, IfOk, IsTrue};
 ghost use Rattle.maple_base.specs.declared.cells.Cell.{Cell as CellData};
 ghost use Rattle.maple_base.specs.declared.cells.Value.{Value as ValueData};
 ghost use Rattle.maple_base.specs.Counts.{HasRisen};
@@ -9,7 +9,7 @@ ghost use Rattle.policy_meaning.specs.Cells.{AreGiven};
 ghost use Rattle.trace_record.specs.Runs.{IsRun, IsOfCall};
 ghost use Rattle.trace_record.specs.declared.recording.RecordError.TheVariants.{Unread};
 
-use crate::recorder::walk;
+use crate::recorder::walked;
 use maple_base::{Cells, EnvView, Items, Key, Outcome, Witness};
 use policy_lang::Policy;
 use policy_meaning::policy_laws::meaning_laws;
@@ -134,14 +134,15 @@ pub fn record<V: EnvView>(
     requires budget { IsBudget budget }
     ensures call { IfOk result (λ run. IsOfCall policy.now number budget switch key.now run) }
     ensures given { IfOk result (λ run. AreGiven (V.gave view.new) run.cells) }
-    ensures kept { OnOk result ((c : CellData) (v : ValueData) → V.gave view.old c v → V.gave view.new c v) }
+    ensures kept { (c : CellData) (v : ValueData) → V.gave view.old c v → V.gave view.new c v }
+    ensures count { V.refused view.old ≤ V.refused view.new }
     ensures unread { V.refused view.old < V.refused view.new → result ≡ Err Unread }
     ensures refused { result ≡ Err Unread → HasRisen (V.refused view.old) (V.refused view.new) }
 {
     reading_laws();
     meaning_laws();
     let before = view.refusals();
-    let (outcome, notes) = walk(alloc, policy, budget, switch, key, view).finish();
+    let (outcome, notes) = walked(alloc, policy, budget, switch, key, view);
     let after = view.refusals();
     let outcome = match outcome {
         _ if before < after => return Err(RecordError::Unread),

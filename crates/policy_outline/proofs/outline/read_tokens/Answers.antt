@@ -1,4 +1,4 @@
-use Rattle.std.proofs.Common.{◌≡◌, ◌≤◌, length, true, sym, subst, ◌∙◌, arith}
+use Rattle.std.proofs.Common.{◌≡◌, ◌≤◌, length, Some, sym, subst, ◌∙◌, arith}
 use Rattle.std.proofs.lemmas.Bool.{false≢true}
 use Rattle.std.proofs.lemmas.List.{length-map}
 use Rattle.policy_grammar.specs.Reading.{plain, Runs}
@@ -12,12 +12,12 @@ pub loop-index-preserved : goal.loop-index-preserved
 loop-index-preserved c =
     let placed = c.index-tokens-index.result in
     let s = c.loop-index.reader in
-    let n = c.read.new.reader in
+    let n = c.in-Some.next in
     let es = c.loop-index.events.items in
     let us = c.read.new.events.items in
     let k = c.loop-index.counter in
     let d = c.read.new.counter in
-    let r : Advances true placed.token s n es us k d = subst (λ b. Advances b placed.token s n es us k d) c.if-not-branch.false c.in_ok-read.ensures.read in
+    let r : Advances (Some n) placed.token s es us k d = subst (λ o. Advances o placed.token s es us k d) c.in-Some.is c.in_ok-next.ensures.read in
     outlines_next c.args.tokens.now c.loop-index.index placed s n es us k d c.loop-index-test.true c.index-tokens-index.is r c.loop-index.invariant
 
 pub returns-clause-run : goal.returns-clause-run

@@ -6,6 +6,8 @@ use Rattle.sim_steps.proofs.Joining.{carried_none}
 use Rattle.machine_desk.specs.Hearing.{is_live}
 use Rattle.sim_driver.proofs.Calling.{obeyed_looked}
 use Rattle.sim_driver.proofs.Doing.{if_absent, obeyed_noted, of_ok, on_ok, others_closed, staged_there}
+use Rattle.std.proofs.lemmas.Result.{on_err_weaker}
+use Rattle.sim_steps.proofs.Broken.{broken_stretch}
 use Rattle.sim_driver.proofs.arriving.arrive.Goals as goal
 
 pub returns-then-branch-clause-obeyed : goal.returns-then-branch-clause-obeyed
@@ -45,3 +47,7 @@ returns-in_default-clause-obeyed g c =
     obeyed_noted c.resting_laws.ensures (Arrival place port frame) (notes.Absent place) d c.note.new.driver _
     (λ es just. if_absent place d.desk.now (JustLooks place port frame es) (staged.plugged ∙ others_closed _ c.in_default.not-Live) es just) h.fits
     (of_ok _ r u e c.note.ensures.told) (of_ok _ r u e c.note.ensures.kept) (of_ok _ r u e c.note.ensures.rest))
+
+pub returns-then-branch-clause-broken : goal.returns-then-branch-clause-broken
+returns-then-branch-clause-broken g c =
+    on_err_weaker c.attend.result (broken_stretch _ _ _ _ c.attend.new.driver.desk.past c.in_ok-look-in-Live.ensures.looked.stretch) c.attend.ensures.broken

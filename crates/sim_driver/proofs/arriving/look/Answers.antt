@@ -1,7 +1,12 @@
 use Rattle.std.proofs.Common.{Ok, ap}
 use Rattle.sim_channels.specs.Looking.{is_failed}
 use Rattle.sim_turns.proofs.Failing.{rest_left}
-use Rattle.sim_driver.proofs.Calling.{fits_left, looked_failed, looked_whole}
+use Rattle.sim_driver.proofs.Calling.{called_broken, fits_left, looked_failed, looked_whole}
+use Rattle.sim_channels.proofs.Staged.{on_err}
+use Rattle.sim_channels.specs.Channels.{bench}
+use Rattle.std.proofs.Common.{map, subst}
+use Rattle.sim_steps.specs.Stretches.{BreaksOff}
+use Rattle.sim_channels.proofs.Broken.{worn_past}
 use Rattle.sim_driver.proofs.arriving.look.Goals as goal
 
 -- ---- it failed
@@ -46,3 +51,15 @@ returns-in-Silent-clause-looked g c =
 
 pub returns-in-Silent-clause-silent : goal.returns-in-Silent-clause-silent
 returns-in-Silent-clause-silent g c = λ is. c.in_ok-call.ensures.silent (ap Ok c.in-Silent.is)
+
+-- ---- it stops
+
+pub returns-in_err-leave-in-Failed-clause-broken : goal.returns-in_err-leave-in-Failed-clause-broken
+returns-in_err-leave-in-Failed-clause-broken g c =
+    let h = c.requires in
+    let f = g.D.Device.meaning in
+    let called =
+    called_broken c.driving_laws.ensures c.resting_laws.ensures c.args.driver.now (map f c.args.devices.now) c.call.new.self (map f c.call.new.devices) c.args.at c.args.port c.args.frame h.fits h.rest
+    (is_failed c.in_ok-call.field-0) c.in_ok-call.ensures.called in
+    on_err c.from_residual-in_err-leave-in-Failed.result
+    (subst (BreaksOff (bench c.args.driver.now (map f c.args.devices.now))) (worn_past c.call.new.self.desk c.leave.new.self.desk c.in_err-leave-in-Failed.ensures.worn) called)

@@ -1,7 +1,9 @@
-use Rattle.std.proofs.Common.{Ok, ap}
+use Rattle.std.proofs.Common.{map, Ok, ap}
 use Rattle.machine_steps.specs.declared.entry.Entry.TheVariants as entries
 use Rattle.script_text.specs.Orders.Order.{Change}
 use Rattle.sim_driver.proofs.Doing.{obeyed_asked, obeyed_done, of_ok, on_ok}
+use Rattle.std.proofs.lemmas.Result.{on_err_weaker}
+use Rattle.sim_steps.proofs.Broken.{broken_stretch}
 use Rattle.sim_driver.proofs.changing.change.Goals as goal
 
 pub returns-then-branch-clause-obeyed : goal.returns-then-branch-clause-obeyed
@@ -21,3 +23,8 @@ returns-else-branch-clause-obeyed g c =
     obeyed_asked c.resting_laws.ensures (Change update) (entries.Change update) c.args.driver.now c.update_network.new.driver _ (λ es just. just) c.requires.fits done.asked
     (done.fits _ c.requires.fits).kept
     (done.rest (ap Ok c.if-branch.false))
+
+pub returns-then-branch-clause-broken : goal.returns-then-branch-clause-broken
+returns-then-branch-clause-broken g c =
+    let asked = c.in_ok-update_network.ensures.asked (map g.D.Device.meaning c.args.devices.now) c.requires.fits in
+    on_err_weaker c.deliver_all.result (broken_stretch _ _ _ _ c.deliver_all.new.self.desk.past asked.1.stretch) c.deliver_all.ensures.broken

@@ -1,14 +1,13 @@
 use Rattle.std.proofs.Common.{◌≡◌, ℕ, true, List, [], length, map, arith, refl, sym, ap, ◌∙◌, subst, rules}
 use Rattle.std.proofs.lemmas.List.{length-map, nil_from_length}
-use Rattle.machine_desk.proofs.Crewed.{crew_then, same_crew}
+use Rattle.sim_channels.proofs.Others.{same_driver, same_then}
 use Rattle.script_text.specs.Lines.{ended_lines}
 use Rattle.script_text.specs.Orders.{orders_of}
 use Rattle.script_text.specs.Steps.{order_with}
-use Rattle.sim_steps.specs.Benches.{Bench}
 use Rattle.sim_driver.specs.declared.drive.SimEnd.{SimEnd}
 use Rattle.sim_driver.specs.Passes.{EndsAt, given_by}
 use Rattle.sim_driver.specs.Runs.{is_whole}
-use Rattle.sim_driver.proofs.Going.{Known, broken_off, followed, marked_hall, stopped_behind, stopped_in, went_further, went_none}
+use Rattle.sim_driver.proofs.Going.{Known, broken_off, followed, stopped_behind, stopped_in, went_further, went_none}
 use Rattle.sim_driver.proofs.lines.run_lines.Goals.{then-is_empty, else-is_empty+in-Err-End, else-is_empty+in-Err-Refused}
 use Rattle.sim_driver.proofs.lines.run_lines.Goals as goal
 
@@ -23,8 +22,7 @@ loop-rest-init g c =
     let known : Known given = record { laws = c.deed_laws.ensures; ranges = c.requires.opened.ranges; idle = c.requires.opened.idle } in
     record {
       ready = c.requires.opened.ready;
-      crew = same_crew c.args.driver.now.crew;
-      same = record { place = refl; name = refl; start = refl; parts = refl };
+      same = same_driver c.args.driver.now;
       went =
           went_none given (length c.args.devices.now) (g.O.Sink.tells c.args.to.now) c.args.driver.now devices known
           (length-map c.args.devices.now g.D.Device.meaning) c.requires.opened.opening;
@@ -48,14 +46,10 @@ loop-rest-preserved g c = record {
       went_further (g.O.Sink.tells c.follow.new.to) c.follow.new.driver (map g.D.Device.meaning c.follow.new.all)
       (order_with c.in-Ok.next.step c.in-Ok.next.text.now) c.in-Ok.next.passed
       (ended_lines c.in-Ok.next.rest.now) c.loop-rest.invariant.went c.in-Ok.ensures.order c.in-Ok-follow.ensures.follows c.in-Ok-follow.ensures.ready;
-  crew = crew_then c.args.driver.now.crew c.loop-rest.driver.crew c.follow.new.driver.crew c.loop-rest.invariant.crew c.follow.ensures.crew;
-  same = marked_hall c.args.driver.now.desk.footing c.loop-rest.driver.desk c.follow.new.driver.desk c.loop-rest.invariant.same c.follow.ensures.marked;
+  same = same_then c.args.driver.now c.loop-rest.driver c.follow.new.driver c.loop-rest.invariant.same c.follow.ensures.same;
   spared = c.in-Ok-follow.ensures.spared (λ e. cc) ∙ c.loop-rest.invariant.spared;
   numbers = omega (arith, c.loop-rest.invariant.numbers, c.in-Ok.ensures.within);
 }
-
-pub returns-in-Err-NoMemory-clause-crew : goal.returns-in-Err-NoMemory-clause-crew
-returns-in-Err-NoMemory-clause-crew g c = c.loop-rest.invariant.crew
 
 pub returns-in-Err-NoMemory-clause-ends : goal.returns-in-Err-NoMemory-clause-ends
 returns-in-Err-NoMemory-clause-ends g c = broken_off c.loop-rest.invariant.went
@@ -63,24 +57,21 @@ returns-in-Err-NoMemory-clause-ends g c = broken_off c.loop-rest.invariant.went
 pub returns-in-Err-NoMemory-clause-spared : goal.returns-in-Err-NoMemory-clause-spared
 returns-in-Err-NoMemory-clause-spared g c = λ n. c.loop-rest.invariant.spared
 
-pub returns-in-Err-clause-crew : goal.returns-in-Err-clause-crew
-returns-in-Err-clause-crew g c =
-    crew_then c.args.driver.now.crew c.loop-rest.driver.crew c.follow.new.driver.crew c.loop-rest.invariant.crew c.follow.ensures.crew
+pub returns-in-Err-clause-same : goal.returns-in-Err-clause-same
+returns-in-Err-clause-same g c = same_then c.args.driver.now c.loop-rest.driver c.follow.new.driver c.loop-rest.invariant.same c.follow.ensures.same
 
 pub returns-in-Err-clause-ends : goal.returns-in-Err-clause-ends
 returns-in-Err-clause-ends g c =
     let given = given_by c.args.driver.now.desk.now (map g.D.Device.meaning c.args.devices.now) c.args.script.now c.args.first in
     let after = map g.D.Device.meaning c.follow.new.all in
     let to = g.O.Sink.tells c.follow.new.to in
-    let start = c.loop-rest.invariant.same.start ∙ c.requires.opened.start ∙ ap (λ (b : Bench). b.machine) c.requires.opened.opening in
     subst (λ (end : SimEnd). EndsAt end given c.follow.new.driver.desk after (g.O.Sink.tells c.args.to.now) to) (sym c.end_of.ensures) (
-    stopped_in c.loop-rest.invariant.went c.follow.new.driver c.law.ensures c.follow.ensures.marked start to after c.in-Ok.next.step c.in-Ok.next.text.now
+    stopped_in c.loop-rest.invariant.went c.follow.new.driver c.law.ensures to after c.in-Ok.next.step c.in-Ok.next.text.now
     c.in-Ok.next.passed
     (ended_lines c.in-Ok.next.rest.now) c.in-Err.stop (rw c.in-Err.is at c.follow.ensures.follows) c.in-Ok.ensures.order)
 
-pub returns-in-Ok-finish-clause-crew : goal.returns-in-Ok-finish-clause-crew
-returns-in-Ok-finish-clause-crew g c =
-    crew_then c.args.driver.now.crew c.loop-rest.driver.crew c.finish.new.driver.crew c.loop-rest.invariant.crew c.finish.ensures.crew
+pub returns-in-Ok-finish-clause-same : goal.returns-in-Ok-finish-clause-same
+returns-in-Ok-finish-clause-same g c = same_then c.args.driver.now c.loop-rest.driver c.finish.new.driver c.loop-rest.invariant.same c.finish.ensures.same
 
 pub returns-in-Ok-finish-clause-ends : goal.returns-in-Ok-finish-clause-ends
 returns-in-Ok-finish-clause-ends g c =
@@ -102,9 +93,8 @@ returns-in-Ok-finish-clause-ends g c =
     c.in-Ok-finish.ensures.finished
     none c.if-is_empty.end is
 
-pub returns-in-Err-finish-clause-crew : goal.returns-in-Err-finish-clause-crew
-returns-in-Err-finish-clause-crew g c =
-    crew_then c.args.driver.now.crew c.loop-rest.driver.crew c.finish.new.driver.crew c.loop-rest.invariant.crew c.finish.ensures.crew
+pub returns-in-Err-finish-clause-same : goal.returns-in-Err-finish-clause-same
+returns-in-Err-finish-clause-same g c = same_then c.args.driver.now c.loop-rest.driver c.finish.new.driver c.loop-rest.invariant.same c.finish.ensures.same
 
 pub returns-in-Err-finish-clause-ends : goal.returns-in-Err-finish-clause-ends
 returns-in-Err-finish-clause-ends g c =
@@ -119,7 +109,6 @@ returns-in-Err-finish-clause-ends g c =
     let given = given_by c.args.driver.now.desk.now (map g.D.Device.meaning c.args.devices.now) c.args.script.now c.args.first in
     let after = map g.D.Device.meaning c.finish.new.all in
     let to = g.O.Sink.tells c.finish.new.to in
-    let start = c.loop-rest.invariant.same.start ∙ c.requires.opened.start ∙ ap (λ (b : Bench). b.machine) c.requires.opened.opening in
     subst (λ (end : SimEnd). EndsAt end given c.finish.new.driver.desk after (g.O.Sink.tells c.args.to.now) to) (sym c.end_of-in-Err-finish.ensures) (
-    stopped_behind c.loop-rest.invariant.went c.finish.new.driver c.law-in-Err-finish.ensures c.finish.ensures.marked start to after c.in-Err-finish.stop none
+    stopped_behind c.loop-rest.invariant.went c.finish.new.driver c.law-in-Err-finish.ensures to after c.in-Err-finish.stop none
     (rw c.in-Err-finish.is at c.finish.ensures.finished))

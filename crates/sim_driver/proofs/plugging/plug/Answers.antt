@@ -1,4 +1,4 @@
-use Rattle.std.proofs.Common.{sym, ap, ◌∙◌, subst, inr}
+use Rattle.std.proofs.Common.{map, sym, ap, ◌∙◌, subst, inr}
 use Rattle.script_text.specs.Orders.Order.{Plug}
 use Rattle.machine_steps.specs.declared.entry.Entry.TheVariants as entries
 use Rattle.machine_steps.specs.declared.note.Note.TheVariants as notes
@@ -10,6 +10,8 @@ use Rattle.sim_channels.proofs.Others.{same_then}
 use Rattle.sim_channels.proofs.Places.{fits_but}
 use Rattle.sim_driver.specs.Commands.{AsksFor}
 use Rattle.sim_driver.proofs.Doing.{obeyed_done, obeyed_noted, of_ok, on_ok, plugs_gone, plugs_now, plugs_present, staged_there, stays_then}
+use Rattle.std.proofs.lemmas.Result.{on_err_weaker}
+use Rattle.sim_steps.proofs.Broken.{broken_stretch}
 use Rattle.sim_driver.proofs.plugging.plug.Goals as goal
 
 pub deliver-requires-clause-fits : goal.deliver-requires-clause-fits
@@ -75,3 +77,8 @@ returns-in_ok-open-in-Unopened-clause-obeyed g c =
     (plugs_now place d.desk.now (staged.plugged ∙ ap is_live c.in-Unopened.is) (staged.opened ∙ ap was_begun c.in-Unopened.is)) h.fits
     (subst (λ n. AsksFor (entries.Open n) d c.open.new.driver) (sym c.index_of-at.ensures) c.in_ok-open-in-Unopened.ensures.asked) (of_ok _ r u e done.carried)
     (of_ok _ r u e done.fits).kept (of_ok _ r u e (returns-in_ok-open-in-Unopened-clause-rest g c)))
+
+pub returns-in_ok-open-in-Unopened-clause-broken : goal.returns-in_ok-open-in-Unopened-clause-broken
+returns-in_ok-open-in-Unopened-clause-broken g c =
+    let asked = c.in_ok-open-in-Unopened.ensures.asked (map g.D.Device.meaning c.args.devices.now) c.requires.fits in
+    on_err_weaker c.deliver.result (broken_stretch _ _ _ _ c.deliver.new.self.desk.past asked.1.stretch) c.deliver.ensures.broken

@@ -1,9 +1,10 @@
 use Rattle.std.proofs.Common.{map, sym, ap}
 use Rattle.std.specs.Prelude.{Ok}
-use Rattle.std.proofs.lemmas.Result.{on_ok_weaker}
 use Rattle.sim_steps.proofs.Joining.{carried_then}
 use Rattle.sim_channels.proofs.Places.{fits_but}
 use Rattle.sim_turns.proofs.Attending.{at_rest, heard_through, on_six, rests_still}
+use Rattle.std.proofs.lemmas.Result.{on_err_weaker, on_ok_weaker}
+use Rattle.sim_steps.proofs.Broken.{broken_carried}
 use Rattle.sim_turns.proofs.attend.attend.Goals as goal
 
 -- ---- nothing could be heard
@@ -61,3 +62,17 @@ pub returns-in-Anybody-clause-carried : goal.returns-in-Anybody-clause-carried
 returns-in-Anybody-clause-carried g c =
     on_ok_weaker _ (carried_then _ _ _ (c.in_ok-hear_all.ensures.carried (map g.D.Device.meaning c.args.devices.now) (sym c.requires.fits.places)))
     c.deliver_all.ensures.carried
+
+-- ---- it stops
+
+pub returns-in-Itself-clause-broken : goal.returns-in-Itself-clause-broken
+returns-in-Itself-clause-broken g c =
+    on_err_weaker c.deliver.result
+    (broken_carried _ _ c.deliver.new.self.desk.past (c.in_ok-hear_all.ensures.carried (map g.D.Device.meaning c.args.devices.now) (sym c.requires.fits.places)))
+    c.deliver.ensures.broken
+
+pub returns-in-Anybody-clause-broken : goal.returns-in-Anybody-clause-broken
+returns-in-Anybody-clause-broken g c =
+    on_err_weaker c.deliver_all.result
+    (broken_carried _ _ c.deliver_all.new.self.desk.past (c.in_ok-hear_all.ensures.carried (map g.D.Device.meaning c.args.devices.now) (sym c.requires.fits.places)))
+    c.deliver_all.ensures.broken

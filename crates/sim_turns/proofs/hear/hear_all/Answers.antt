@@ -2,6 +2,8 @@ use Rattle.std.proofs.Common.{refl, sym, subst, ◌∙◌}
 use Rattle.sim_channels.specs.Passes.{Passed}
 use Rattle.machine_desk.specs.declared.hearing.Came.TheVariants.{Ended, Message}
 use Rattle.sim_turns.proofs.Onward.{hears_none, hears_nothing, hears_on, hears_state, others_stay}
+use Rattle.sim_channels.proofs.Staged.{on_err}
+use Rattle.sim_channels.proofs.Broken.{broken_over}
 use Rattle.sim_turns.proofs.hear.hear_all.Goals as goal
 
 pub loop-reach-init : goal.loop-reach-init
@@ -25,6 +27,7 @@ returns-in-Nothing g c =
       channels = h.heard.channels;
       nobody = λ e. h.nobody (cc);
       itself = λ e. others_stay here reach old new h (cc);
+      broken = tt;
       same = h.heard.same;
     }
 
@@ -49,6 +52,7 @@ returns-in-Ended g c =
       channels = h.heard.channels;
       nobody = λ e. absurd (c.further.ensures.some (cc));
       itself = λ e. others_stay here next old new h (cc);
+      broken = tt;
       same = h.heard.same;
     }
 
@@ -66,3 +70,9 @@ loop-reach-preserved g c =
     let new = c.hear_next.new.self in
     hears_state c.args.at c.loop-reach.reach c.args.driver.now mid new c.loop-reach.invariant
     (subst (Passed c.args.at mid new) c.in-State.is c.in_ok-hear_next.ensures.passed)
+
+pub returns-in_err-hear_next-clause-broken : goal.returns-in_err-hear_next-clause-broken
+returns-in_err-hear_next-clause-broken g c =
+    let was = c.loop-reach.invariant.heard in
+    on_err c.from_residual.result
+    (broken_over c.args.driver.now c.loop-reach.driver c.hear_next.new.self was.channels.count was.carried c.in_err-hear_next.ensures.broken)

@@ -10,6 +10,9 @@ use Rattle.sim_turns.specs.Taking.{TakesSome}
 use Rattle.sim_turns.proofs.Counted.{carried_count}
 use Rattle.sim_turns.proofs.Obeyed.{lowest_turn, settle_obeyed, takes_more, takes_on, told_last}
 use Rattle.sim_turns.proofs.Pending.{none_lower, none_pends, pends}
+use Rattle.sim_channels.proofs.Staged.{on_err}
+use Rattle.std.proofs.lemmas.Result.{on_err_weaker}
+use Rattle.sim_steps.proofs.Broken.{broken_stretch}
 use Rattle.sim_turns.proofs.settling.settle.Goals as goal
 
 -- each turn uses up one of the turns, or an open session
@@ -89,3 +92,29 @@ returns-clause-obeyed g c =
     told_last c.resting_laws.ensures c.loop-at.driver c.note-2.new.driver ds h.fits said (Obeyed Settle a d)
     (λ asked calm still. settle_obeyed a b d taken said calm still h.some h.most ends asked)
     c.note-2.result c.note-2.ensures.fits c.note-2.ensures.rest c.note-2.ensures.told
+
+-- ---- it stops
+
+pub returns-then-taken-eq-MOST_TURNS-clause-broken : goal.returns-then-taken-eq-MOST_TURNS-clause-broken
+returns-then-taken-eq-MOST_TURNS-clause-broken g c =
+    let h = c.loop-at.invariant in
+    on_err_weaker c.note.result
+    (λ stops. broken_stretch _ _ _ _ c.note.new.driver.desk.past h.some.stretch (stops (map g.D.Device.meaning c.loop-at.devices) (sym h.fits.places))) c.note.ensures.broken
+
+pub returns-in_err-take_turn-clause-broken : goal.returns-in_err-take_turn-clause-broken
+returns-in_err-take_turn-clause-broken g c =
+    on_err c.from_residual-in_err-take_turn.result
+    (broken_stretch _ _ _ _ c.take_turn.new.driver.desk.past c.loop-at.invariant.some.stretch c.in_err-take_turn.ensures.broken)
+
+pub returns-in_err-catch_up-2-clause-broken : goal.returns-in_err-catch_up-2-clause-broken
+returns-in_err-catch_up-2-clause-broken g c =
+    let past = c.catch_up-in-Some.new.self.desk.past in
+    on_err c.from_residual-in_err-catch_up-2.result
+    (broken_stretch _ _ _ _ past c.loop-at.invariant.some.stretch
+    (broken_stretch _ _ _ _ past c.in_ok-take_turn.ensures.taken.stretch c.in_err-catch_up-2.ensures.broken))
+
+pub returns-clause-broken : goal.returns-clause-broken
+returns-clause-broken g c =
+    let h = c.loop-at.invariant in
+    on_err_weaker c.note-2.result
+    (λ stops. broken_stretch _ _ _ _ c.note-2.new.driver.desk.past h.some.stretch (stops (map g.D.Device.meaning c.loop-at.devices) (sym h.fits.places))) c.note-2.ensures.broken

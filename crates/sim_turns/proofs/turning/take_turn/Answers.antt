@@ -3,6 +3,8 @@ use Rattle.std.proofs.lemmas.List.{length-map}
 use Rattle.sim_channels.proofs.Waits.{waits_within}
 use Rattle.sim_turns.proofs.Counted.{carried_count}
 use Rattle.sim_turns.proofs.Obeyed.{takes_behind}
+use Rattle.sim_channels.proofs.Staged.{on_err}
+use Rattle.sim_steps.proofs.Broken.{broken_stretch}
 use Rattle.sim_turns.proofs.turning.take_turn.Goals as goal
 
 pub attend-requires-clause-within : goal.attend-requires-clause-within
@@ -24,3 +26,8 @@ returns-clause-tires g c =
     c.in_ok-attend.ensures.fits
     long c.in_ok-attend.ensures.carried in
     omega (arith, c.in_ok-turned.ensures.tires)
+
+pub returns-in_err-attend-clause-broken : goal.returns-in_err-attend-clause-broken
+returns-in_err-attend-clause-broken g c =
+    let one = c.in_ok-turned.ensures.told.one in
+    on_err c.from_residual-in_err-attend.result (broken_stretch _ _ _ _ c.attend.new.driver.desk.past one.stretch c.in_err-attend.ensures.broken)

@@ -4,6 +4,8 @@ use Rattle.sim_channels.specs.Channels.{bench}
 use Rattle.sim_channels.proofs.Others.{same_then}
 use Rattle.sim_turns.specs.Taking.{TakesSome}
 use Rattle.sim_turns.proofs.Obeyed.{takes_more, turn_at_place}
+use Rattle.sim_channels.proofs.Staged.{on_err}
+use Rattle.sim_steps.proofs.Broken.{broken_stretch}
 use Rattle.sim_turns.proofs.turning.take_turns.Goals as goal
 
 pub loop-taken-preserved : goal.loop-taken-preserved
@@ -23,3 +25,8 @@ loop-taken-preserved g c =
           (takes_more (IsTurnAt place) c.loop-taken.taken a b d place turned c.loop-taken.invariant.some h.taken (turn_at_place place turned b d h.taken));
       most = omega arith;
     }
+
+pub returns-in_err-take_turn-clause-broken : goal.returns-in_err-take_turn-clause-broken
+returns-in_err-take_turn-clause-broken g c =
+    let some = c.loop-taken.invariant.some in
+    on_err c.from_residual.result (broken_stretch _ _ _ _ c.take_turn.new.driver.desk.past some.stretch c.in_err-take_turn.ensures.broken)

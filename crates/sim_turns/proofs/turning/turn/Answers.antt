@@ -8,6 +8,8 @@ use Rattle.sim_channels.specs.Channels.{bench}
 use Rattle.sim_turns.specs.Taking.{TakesSome}
 use Rattle.sim_turns.proofs.Obeyed.{absent_obeyed, told_last, turn_obeyed}
 use Rattle.sim_turns.proofs.Pending.{exhausted}
+use Rattle.std.proofs.lemmas.Result.{on_err_weaker}
+use Rattle.sim_steps.proofs.Broken.{broken_stretch}
 use Rattle.sim_turns.proofs.turning.turn.Goals as goal
 
 pub returns-then-not-is_plugged_at-clause-obeyed : goal.returns-then-not-is_plugged_at-clause-obeyed
@@ -41,3 +43,12 @@ returns-clause-obeyed g c =
     told_last c.resting_laws.ensures mid new ds h.fits (notes.TurnedAll place taken) (Obeyed (Turn place c.args.count) a d)
     (λ asked calm still. turn_obeyed place c.args.count a b d calm still taken some plugged h.most fewer asked) c.note-2.result c.note-2.ensures.fits
     c.note-2.ensures.rest c.note-2.ensures.told
+
+-- ---- it stops
+
+pub returns-clause-broken : goal.returns-clause-broken
+returns-clause-broken g c =
+    let h = c.in_ok-turns.ensures in
+    let ds = map g.D.Device.meaning c.take_turns.new.devices in
+    on_err_weaker c.note-2.result
+    (λ stops. broken_stretch _ _ _ _ c.note-2.new.driver.desk.past h.taken.stretch (stops ds (sym h.fits.places))) c.note-2.ensures.broken

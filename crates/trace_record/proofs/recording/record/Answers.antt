@@ -1,4 +1,3 @@
-use Rattle.std.proofs.Common.{rules, subst}
 use Rattle.std.proofs.lemmas.Result.{IfOk-at_ok}
 use Rattle.trace_record.proofs.Runs.{is_run}
 use Rattle.trace_record.proofs.recording.record.Goals as goal
@@ -7,11 +6,6 @@ pub invariant_of-result : goal.invariant_of-result
 invariant_of-result g c =
     let reading = c.reading_laws.ensures in
     let means = c.meaning_laws.ensures in
-    let recorded = IfOk-at_ok _ c.in-Ok.is (rw (← c.finish-outcome.ensures.notes) at c.walk.ensures.recorded) in
+    let recorded = IfOk-at_ok _ c.in-Ok.is c.walked-outcome.ensures.recorded in
     rw (c.into_items.ensures, c.of.ensures)
     (is_run reading.few reading.ends means.begins means.ports means.few _ c.requires.budget (rw c.into_cells.ensures.cells recorded.trace) c.into_cells.ensures.kinds)
-
-pub returns-clause-kept : goal.returns-clause-kept
-returns-clause-kept g c =
-    let recorded = IfOk-at_ok _ c.in-Ok.is (rw (← c.finish-outcome.ensures.notes) at c.walk.ensures.recorded) in
-    λ d v h. subst (λ w. g.V.EnvView.gave w d v) (search rules) (recorded.kept d v h)

@@ -1,7 +1,7 @@
-use Rattle.std.proofs.Common.{◌≡◌, drop}
-use Rattle.board_lines.specs.Laws.{given_by, held_behind}
+use Rattle.std.proofs.Common.{drop}
+use Rattle.board_lines.specs.Laws.{given_by}
 use Rattle.serve_steps.specs.Texts.{asks_of, quits}
-use Rattle.serve_channels.proofs.Texts.{Followed}
+use Rattle.serve_channels.proofs.Texts.{Followed, ReadsFirst}
 use Rattle.serve_channels.proofs.server.Server.control.Given as goal
 
 -- the bytes so far were read, and what they gave was done
@@ -10,5 +10,5 @@ invariant-loop-byte g l =
     let left = given_by l.reader (drop l.byte-index l.bytes) in
     record {
       followed : Followed asks_of quits (given_by l.fn.reader l.bytes) (asks_of left) (quits left) l.fn.self l.self;
-      held : held_behind l.fn.reader l.bytes ≡ held_behind l.reader (drop l.byte-index l.bytes);
+      read : ReadsFirst l.byte-index l.bytes l.fn.reader l.reader;
     }

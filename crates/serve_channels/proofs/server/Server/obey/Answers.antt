@@ -1,4 +1,5 @@
-use Rattle.std.proofs.Common.{[], ◌∷◌, subst}
+use Rattle.std.proofs.Common.{[], ◌∷◌, subst, sym}
+use Rattle.core_machine.proofs.Hearing.{on_err}
 use Rattle.serve_steps.specs.Texts.{ahead_of_refused, asked_by}
 use Rattle.serve_steps.specs.Texts.Ask.{Refuses}
 use Rattle.serve_channels.specs.declared.scripting.ScriptEnd.TheVariants.{Quit, Refused, Whole}
@@ -37,3 +38,8 @@ returns-in_ok-refuse-in-Refused-clause-goes g c =
 pub returns-in_ok-refuse-in-Refused-clause-quit : goal.returns-in_ok-refuse-in-Refused-clause-quit
 returns-in_ok-refuse-in-Refused-clause-quit g c =
     (ends_so c.args.item.now _ (Refused c.in-Refused.line c.in-Refused.kind) c.in_ok-carry_out.ensures.end c.in-Refused.is).1
+
+pub returns-in_err-refuse-in-Refused-clause-stopped : goal.returns-in_err-refuse-in-Refused-clause-stopped
+returns-in_err-refuse-in-Refused-clause-stopped g c =
+    on_err c.from_residual-in_err-refuse-in-Refused.result _
+    (sym (ends_so c.args.item.now _ (Refused c.in-Refused.line c.in-Refused.kind) c.in_ok-carry_out.ensures.end c.in-Refused.is).1)

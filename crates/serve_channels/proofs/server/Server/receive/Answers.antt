@@ -2,6 +2,7 @@ use Rattle.std.proofs.Common.{take, refl}
 use Rattle.maple_io.specs.declared.board.Turn.TheVariants as turn
 use Rattle.machine_desk.proofs.Tended.{same_self}
 use Rattle.serve_channels.specs.Delivering.{bytes_in}
+use Rattle.serve_channels.proofs.Numbered.{numbers_same}
 use Rattle.serve_channels.proofs.Taking.{fails_by, given_so, gives_bytes, not_fed, receives}
 use Rattle.serve_channels.proofs.server.Server.receive.Goals as goal
 use Rattle.serve_channels.specs.Servers.{home}
@@ -21,6 +22,7 @@ returns-in_default g c =
       within = c.next-turn.ensures.room;
       faults = fails_by t (g.B.Board.tells c.args.board.now) (g.B.Board.tells c.next-turn.new.self) c.next-turn.ensures.cause c.next-turn.ensures.spared;
       stopped = tt;
+      numbers = numbers_same old;
       desk = refl;
       same = same_self home old;
     }

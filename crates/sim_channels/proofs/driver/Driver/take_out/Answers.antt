@@ -1,4 +1,4 @@
-use Rattle.std.proofs.Common.{◌+◌, ◌<◌, refl, sym, subst}
+use Rattle.std.proofs.Common.{◌+◌, ◌<◌, List, refl, sym, ap, ◌∙◌, subst}
 use Rattle.std.specs.Vec.{with_item}
 use Rattle.std.proofs.lemmas.Option.{slice_get_within}
 use Rattle.machine_desk.specs.declared.inbound.Stage.TheVariants.{Live}
@@ -6,7 +6,13 @@ use Rattle.sim_channels.specs.declared.driver.Driver.{Driver}
 use Rattle.sim_channels.specs.Delivering.{TakesMessages}
 use Rattle.sim_channels.proofs.Emptied.{taken_out, taken_spelled}
 use Rattle.sim_channels.proofs.Others.{same_but}
-use Rattle.sim_channels.proofs.Staged.{stands}
+use Rattle.sim_channels.proofs.Staged.{on_err, stands}
+use Rattle.std.specs.List.{slice_get}
+use Rattle.machine_steps.specs.declared.entry.Entry.TheVariants as entries
+use Rattle.machine_desk.specs.Orders.{Stops}
+use Rattle.sim_channels.specs.declared.channel.Channel.{Channel}
+use Rattle.sim_channels.proofs.Broken.{broken_stop}
+use Rattle.sim_channels.proofs.Kept.{plugged_at}
 use Rattle.sim_channels.proofs.driver.Driver.take_out.Goals as goal
 
 pub new-requires-clause-spelled : goal.new-requires-clause-spelled
@@ -30,3 +36,14 @@ returns-clause-takes g c =
     (record { there = s.there; channels = refl; same = same_but old new refl c.take_messages.ensures.footing })
     (subst (λ xs. TakesMessages (c.args.at + 1) c.in_ok-bytes.bytes xs old.desk new.desk) (sym c.new.ensures)
     (subst (λ n. TakesMessages n c.in_ok-bytes.bytes c.in_ok-bytes.messages.value old.desk new.desk) c.connection_of.ensures c.in_ok-bytes.ensures.takes))
+
+pub returns-in_err-bytes-clause-broken : goal.returns-in_err-bytes-clause-broken
+returns-in_err-bytes-clause-broken g c =
+    let old = c.args.self.now in
+    let at = c.args.at in
+    let live = c.requires.plugged in
+    let stop = c.in_err-bytes.field-0.0 in
+    let stops = subst (λ n. Stops stop (entries.TakeOut n) old.desk c.take_messages.new.desk) c.connection_of.ensures c.in_err-bytes.ensures.stops in
+    on_err c.from_residual.result
+    (λ ds long. broken_stop c.driving_laws.ensures old c.requires.kept ds (entries.TakeOut (at + 1)) c.take_messages.new.desk stop stops
+    (λ next did kept same. plugged_at next at live.channel kept (ap (λ (ks : List Channel). slice_get ks at) same ∙ live.there) live.is))
