@@ -9,7 +9,6 @@ use Rattle.of10_codec.specs.declared.message.Message.{Message}
 use Rattle.of10_codec.specs.declared.fault.Bad.{Bad as Fault}
 use Rattle.of10_codec.specs.Messages.{Spelled}
 use Rattle.of10_stream.specs.declared.reassembly.Next.{Next}
-use Rattle.of10_stream.specs.declared.reassembly.Next.TheVariants as next
 use Rattle.of10_stream.specs.Cut.{IsBad}
 use Rattle.of10_stream.specs.Steps.{Answers, AnswersBehind, Stream, Takes, Tells}
 use Rattle.machine_steps.specs.declared.entry.Entry.TheVariants as entries

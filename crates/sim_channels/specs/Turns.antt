@@ -40,7 +40,7 @@ pub record Appends (bytes : List ℕ) (k l : Channel) : Type 0 where
   pub waiting : k.waiting ≡ l.waiting + 1
 
 -- of a channel only where its bytes are stored changes
-pub record Stands (k l : Channel) : Type 0 where
+pub record IsUnmoved (k l : Channel) : Type 0 where
   pub stream : l.inbound.from.stream ≡ k.inbound.from.stream
   pub session : IsSameSession k.inbound l.inbound
   pub to : l.to ≡ k.to

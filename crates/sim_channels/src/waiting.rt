@@ -3,7 +3,7 @@ ghost use Rattle.std.specs.Prelude.{◌≡◌, ℕ, ◌+◌, ◌<◌, true, fals
 ghost use Rattle.sim_steps.specs.Benches.{is_plugged as is_plugged_place};
 ghost use Rattle.machine_desk.specs.Hearing.{is_live};
 ghost use Rattle.sim_channels.specs.Channels.{IsKept, IsSame};
-ghost use Rattle.sim_channels.specs.Turns.{Appends, ChannelMoves, IsLowest, Stands, Waits, waits_in};
+ghost use Rattle.sim_channels.specs.Turns.{Appends, ChannelMoves, IsLowest, IsUnmoved, Waits, waits_in};
 
 use crate::{Channel, Driver};
 use machine_desk::Stage;
@@ -50,7 +50,7 @@ impl<'h> Driver<'h> {
         requires { Waits at self.old }
         ensures desk { self.new.desk ≡ self.old.desk }
         ensures moves { OnOk result (ChannelMoves at (Appends bytes.now) self.old self.new) }
-        ensures kept { OnErr result (ChannelMoves at Stands self.old self.new) }
+        ensures kept { OnErr result (ChannelMoves at IsUnmoved self.old self.new) }
         ensures same { IsSame self.old self.new }
     {
         let channel = &mut self.channels[at];

@@ -158,8 +158,8 @@ pub record IsUnreported (o : Order) (a b : Bench) (after : List Meaning) (old ne
   pub is_front : IsFront front (taken_report events)
   pub wrote : Wrote old new front
 
--- the order was begun, and nothing was written
-pub record IsBegun (a : Bench) (driver : Driver) (old new : SinkView) : Type 0 where
+-- the machine's history is that of deeds that lead on from this bench, and nothing was written
+pub record IsCutShort (a : Bench) (driver : Driver) (old new : SinkView) : Type 0 where
   pub broken : BreaksOff a driver.desk.past
   pub unwritten : new ≡ old
 
@@ -167,8 +167,8 @@ pub record IsBegun (a : Bench) (driver : Driver) (old new : SinkView) : Type 0 w
 -- may run out for the writing too
 abbrev pub Breaks : ReportStop → Order → Bench → Driver → List Meaning → SinkView → SinkView → Type 0
 Breaks Failed o a driver after old new = IsUnreported o a (bench driver after) after old new
-Breaks NoMemory o a driver after old new = IsBegun a driver old new ⊎ IsUnreported o a (bench driver after) after old new
-Breaks Worn o a driver after old new = IsBegun a driver old new × (driver.desk.worn ≡ true)
+Breaks NoMemory o a driver after old new = IsCutShort a driver old new ⊎ IsUnreported o a (bench driver after) after old new
+Breaks Worn o a driver after old new = IsCutShort a driver old new × (driver.desk.worn ≡ true)
 
 -- how it ends that a step is followed, with this text behind its line
 abbrev pub Passed : Result (Unit {0}) ReportStop → Step → List ℕ → Driver → List Meaning → Driver → List Meaning → SinkView → SinkView → Type 0

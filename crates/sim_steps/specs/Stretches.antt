@@ -48,7 +48,7 @@ pub record Beside (a b : Bench) : Type 0 where
 
 -- ---- what was broken off
 
--- deeds were done from this bench on, and the machine's history behind them is this. They are neither a whole part, nor had all of them memory
+-- deeds lead on from this bench, any that may be done, and the machine's history behind them is this. They need not be a whole part, and memory may have run out
 pub record BreaksOff (a : Bench) (past : List Turn) : Type 0 where
   pub events : List Event
   pub last : Bench
