@@ -1,5 +1,5 @@
 // Plain evaluation: the answers are a key's and an environment's.
-ghost use Rattle.std.specs.Prelude.{◌≡◌, [], IfOk, IsTrue};
+ghost use Rattle.std.specs.Prelude.{◌≡◌, IfOk, IsTrue};
 ghost use Rattle.maple_base.specs.declared.cells.Cell.{Cell};
 ghost use Rattle.maple_base.specs.declared.cells.Value.{Value};
 ghost use Rattle.maple_base.specs.Keys.{valid_key};
@@ -22,7 +22,7 @@ struct Evaluator<'a, E: EnvNow> {
 }
 
 impl<'a, E: EnvNow> Asker for Evaluator<'a, E> {
-    ghost holds = { λ s. [] };
+    ghost key = { λ s. s.key.now };
 
     ghost said = { λ s a t. Evaluates s.key.now s.env.now t.key.now t.env.now E.has a };
 

@@ -46,7 +46,7 @@ impl<A: Asker> Walk<A> {
     // What an expression without parts gives.
     fn atom(&mut self, atom: Atom<'_>, at: &Local) -> Result<Datum, Unanswered>
         ensures given { GivesDatum A.said self.old.asker (atom_of (plain_atom atom.entry) at.now.switch at.now.scope) self.new.asker result }
-        ensures held { A.holds self.new.asker ≡ A.holds self.old.asker }
+        ensures key { A.key self.new.asker ≡ A.key self.old.asker }
         ensures steps { self.new.steps ≡ self.old.steps }
     {
         match atom {
@@ -62,7 +62,7 @@ impl<A: Asker> Walk<A> {
     // What a call gives of two data. Whether a port is up is asked of the environment.
     fn called(&mut self, callee: Callee, left: Datum, right: Datum) -> Result<Datum, Unanswered>
         ensures given { GivesDatum A.said self.old.asker (called (callee_of callee) (datum_of left) (datum_of right)) self.new.asker result }
-        ensures held { A.holds self.new.asker ≡ A.holds self.old.asker }
+        ensures key { A.key self.new.asker ≡ A.key self.old.asker }
         ensures steps { self.new.steps ≡ self.old.steps }
     {
         let switch = left.number();
@@ -81,7 +81,7 @@ impl<A: Asker> Walk<A> {
     #[tactic(auto, using(crate::proofs::Values::value_spent))]
     pub fn value(&mut self, expr: &Expr, at: &Local) -> Result<Datum, Stop>
         ensures given { GivesValue A.said self.old at.now (value_of (term_of expr.now)) result self.new }
-        ensures held { A.holds self.new.asker ≡ A.holds self.old.asker }
+        ensures key { A.key self.new.asker ≡ A.key self.old.asker }
         ensures fewer { OnOk result (self.new.steps < self.old.steps) }
     {
         count(&mut self.steps)?;
@@ -99,7 +99,7 @@ impl<A: Asker> Walk<A> {
     #[tactic(auto, using(policy_meaning::proofs::Walks::leads_end, policy_meaning::proofs::Walks::leads_next))]
     fn call(&mut self, callee: Callee, left: &Expr, right: &Expr, at: &Local) -> Result<Datum, Stop>
         ensures given { GivesValue A.said self.old at.now (call_of (callee_of callee) left.now right.now) result self.new }
-        ensures held { A.holds self.new.asker ≡ A.holds self.old.asker }
+        ensures key { A.key self.new.asker ≡ A.key self.old.asker }
         ensures fewer { OnOk result (self.new.steps < self.old.steps) }
     {
         let left = self.value(left, at)?;
@@ -112,7 +112,7 @@ impl<A: Asker> Walk<A> {
     #[tactic(auto, using(policy_meaning::proofs::Walks::leads_end, policy_meaning::proofs::Walks::leads_next, policy_meaning::proofs::Walks::leads_test))]
     fn has_number(&mut self, field: Field, part: &Expr, at: &Local) -> Result<Datum, Stop>
         ensures given { GivesValue A.said self.old at.now (is_of field part.now) result self.new }
-        ensures held { A.holds self.new.asker ≡ A.holds self.old.asker }
+        ensures key { A.key self.new.asker ≡ A.key self.old.asker }
         ensures fewer { OnOk result (self.new.steps < self.old.steps) }
     {
         let number = self.value(part, at)?.number();
@@ -124,7 +124,7 @@ impl<A: Asker> Walk<A> {
     #[tactic(auto, using(policy_meaning::proofs::Walks::leads_end, policy_meaning::proofs::Walks::leads_next))]
     fn opposite(&mut self, part: &Expr, at: &Local) -> Result<Datum, Stop>
         ensures given { GivesValue A.said self.old at.now (not_of part.now) result self.new }
-        ensures held { A.holds self.new.asker ≡ A.holds self.old.asker }
+        ensures key { A.key self.new.asker ≡ A.key self.old.asker }
         ensures fewer { OnOk result (self.new.steps < self.old.steps) }
     {
         let truth = self.value(part, at)?.truth();
@@ -137,7 +137,7 @@ impl<A: Asker> Walk<A> {
     #[tactic(auto, using(policy_meaning::proofs::Walks::leads_end, policy_meaning::proofs::Walks::leads_next, crate::proofs::Values::settled, crate::proofs::Values::unsettled_ends, crate::proofs::Values::unsettled_gives))]
     fn pair(&mut self, op: Operator, left: &Expr, right: &Expr, at: &Local) -> Result<Datum, Stop>
         ensures given { GivesValue A.said self.old at.now (pair_of op left.now right.now) result self.new }
-        ensures held { A.holds self.new.asker ≡ A.holds self.old.asker }
+        ensures key { A.key self.new.asker ≡ A.key self.old.asker }
         ensures fewer { OnOk result (self.new.steps < self.old.steps) }
     {
         let left = self.value(left, at)?;
@@ -152,7 +152,7 @@ impl<A: Asker> Walk<A> {
     #[tactic(auto, using(crate::proofs::Numbers::none_left, crate::proofs::Numbers::first_ends, crate::proofs::Numbers::rest_ends, crate::proofs::Numbers::rest_goes))]
     pub fn numbers(&mut self, exprs: &[Expr], at: &Local) -> Result<Vec<u64>, Stop>
         ensures given { GivesNumbers A.said self.old at.now (numbers_of (terms_of exprs.now)) result self.new }
-        ensures held { A.holds self.new.asker ≡ A.holds self.old.asker }
+        ensures key { A.key self.new.asker ≡ A.key self.old.asker }
         ensures each { IfOk result (λ v. length v.items ≡ length exprs.now) }
         ensures fewer { OnOk result (self.new.steps ≤ self.old.steps) }
     {

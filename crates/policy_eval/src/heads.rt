@@ -55,7 +55,7 @@ impl<A: Asker> Runner<A> {
         ensures given { GivesHead A.said self.old (binds_of source expr.now name.now) result self.new }
         ensures kept { IfOk result (λ held. held ≡ false → self.new.local.scope ≡ self.old.local.scope) }
         ensures place { self.new.local.switch ≡ self.old.local.switch }
-        ensures held { A.holds self.new.walk.asker ≡ A.holds self.old.walk.asker }
+        ensures key { A.key self.new.walk.asker ≡ A.key self.old.walk.asker }
         ensures fewer { OnOk result (self.new.walk.steps < self.old.walk.steps) }
     {
         count(&mut self.walk.steps)?;
@@ -77,7 +77,7 @@ impl<A: Asker> Runner<A> {
         ensures given { GivesHead A.said self.old (head_of (ask_of head.now)) result self.new }
         ensures kept { IfOk result (λ held. held ≡ false → self.new.local.scope ≡ self.old.local.scope) }
         ensures place { self.new.local.switch ≡ self.old.local.switch }
-        ensures held { A.holds self.new.walk.asker ≡ A.holds self.old.walk.asker }
+        ensures key { A.key self.new.walk.asker ≡ A.key self.old.walk.asker }
         ensures fewer { OnOk result (self.new.walk.steps < self.old.walk.steps) }
     {
         match head {

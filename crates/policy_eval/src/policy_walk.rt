@@ -23,7 +23,7 @@ pub fn run<A: Asker>(
     asker: A,
 ) -> (Result<Outcome, Unanswered>, A)
     ensures outcome { IfOk result.0 (λ o. Leads A.said asker (meaning (tree_of policy.now.body) budget switch) result.1 o) }
-    ensures held { A.holds result.1 ≡ A.holds asker }
+    ensures key { A.key result.1 ≡ A.key asker }
 {
     let scope = Scope::new(alloc);
     let mut runner = Runner {

@@ -24,7 +24,7 @@ impl<A: Asker> Runner<A> {
         requires few { length exprs.now ≤ 16 }
         ensures given { GoesOn A.said self.old (out_of (terms_of exprs.now)) result self.new }
         ensures place { self.new.local.switch ≡ self.old.local.switch }
-        ensures held { A.holds self.new.walk.asker ≡ A.holds self.old.walk.asker }
+        ensures key { A.key self.new.walk.asker ≡ A.key self.old.walk.asker }
         ensures fewer { OnOk result (self.new.walk.steps ≤ self.old.walk.steps) }
     {
         let numbers = self.walk.numbers(exprs, &self.local)?;
@@ -37,7 +37,7 @@ impl<A: Asker> Runner<A> {
     fn route(&mut self, expr: &Expr) -> Result<(), Stop>
         ensures given { GoesOn A.said self.old (route_of (term_of expr.now)) result self.new }
         ensures place { self.new.local.switch ≡ self.old.local.switch }
-        ensures held { A.holds self.new.walk.asker ≡ A.holds self.old.walk.asker }
+        ensures key { A.key self.new.walk.asker ≡ A.key self.old.walk.asker }
         ensures fewer { OnOk result (self.new.walk.steps ≤ self.old.walk.steps) }
     {
         let to = self.walk.value(expr, &self.local)?.place();
@@ -50,7 +50,7 @@ impl<A: Asker> Runner<A> {
     fn declare(&mut self, name: &Name, expr: &Expr) -> Result<(), Stop>
         ensures given { GoesOn A.said self.old (let_of name.now (term_of expr.now)) result self.new }
         ensures place { self.new.local.switch ≡ self.old.local.switch }
-        ensures held { A.holds self.new.walk.asker ≡ A.holds self.old.walk.asker }
+        ensures key { A.key self.new.walk.asker ≡ A.key self.old.walk.asker }
         ensures fewer { OnOk result (self.new.walk.steps ≤ self.old.walk.steps) }
     {
         let datum = self.walk.value(expr, &self.local)?;
@@ -63,7 +63,7 @@ impl<A: Asker> Runner<A> {
     fn assign(&mut self, name: &Name, expr: &Expr) -> Result<(), Stop>
         ensures given { GoesOn A.said self.old (assign_of name.now (term_of expr.now)) result self.new }
         ensures place { self.new.local.switch ≡ self.old.local.switch }
-        ensures held { A.holds self.new.walk.asker ≡ A.holds self.old.walk.asker }
+        ensures key { A.key self.new.walk.asker ≡ A.key self.old.walk.asker }
         ensures fewer { OnOk result (self.new.walk.steps ≤ self.old.walk.steps) }
     {
         let datum = self.walk.value(expr, &self.local)?;
@@ -77,7 +77,7 @@ impl<A: Asker> Runner<A> {
     fn statement(&mut self, statement: &Statement) -> Result<(), Stop>
         ensures given { GoesOn A.said self.old (statement_runs statement.now) result self.new }
         ensures place { self.new.local.switch ≡ self.old.local.switch }
-        ensures held { A.holds self.new.walk.asker ≡ A.holds self.old.walk.asker }
+        ensures key { A.key self.new.walk.asker ≡ A.key self.old.walk.asker }
         ensures fewer { OnOk result (self.new.walk.steps ≤ self.old.walk.steps) }
     {
         match statement {
@@ -98,7 +98,7 @@ impl<A: Asker> Runner<A> {
     fn branch(&mut self, head: &Head, first: &Block, second: &Option<Block>) -> Result<(), Stop>
         ensures given { GoesOn A.said self.old (branch_runs head.now first.now second.now) result self.new }
         ensures place { self.new.local.switch ≡ self.old.local.switch }
-        ensures held { A.holds self.new.walk.asker ≡ A.holds self.old.walk.asker }
+        ensures key { A.key self.new.walk.asker ≡ A.key self.old.walk.asker }
         ensures fewer { OnOk result (self.new.walk.steps ≤ self.old.walk.steps) }
     {
         let outer = self.local.scope.len();
@@ -115,7 +115,7 @@ impl<A: Asker> Runner<A> {
     fn otherwise(&mut self, block: &Option<Block>) -> Result<(), Stop>
         ensures given { GoesOn A.said self.old (second_runs block.now) result self.new }
         ensures place { self.new.local.switch ≡ self.old.local.switch }
-        ensures held { A.holds self.new.walk.asker ≡ A.holds self.old.walk.asker }
+        ensures key { A.key self.new.walk.asker ≡ A.key self.old.walk.asker }
         ensures fewer { OnOk result (self.new.walk.steps ≤ self.old.walk.steps) }
     {
         match block {
@@ -130,7 +130,7 @@ impl<A: Asker> Runner<A> {
     fn repeat(&mut self, test: &Expr, body: &Block) -> Result<(), Stop>
         ensures given { GoesOn A.said self.old (repeat_runs test.now body.now) result self.new }
         ensures place { self.new.local.switch ≡ self.old.local.switch }
-        ensures held { A.holds self.new.walk.asker ≡ A.holds self.old.walk.asker }
+        ensures key { A.key self.new.walk.asker ≡ A.key self.old.walk.asker }
         ensures fewer { OnOk result (self.new.walk.steps ≤ self.old.walk.steps) }
     {
         while self.walk.value(test, &self.local)?.truth() {
@@ -145,7 +145,7 @@ impl<A: Asker> Runner<A> {
     pub fn block(&mut self, block: &Block) -> Result<(), Stop>
         ensures given { GoesOn A.said self.old (block_runs block.now) result self.new }
         ensures place { self.new.local.switch ≡ self.old.local.switch }
-        ensures held { A.holds self.new.walk.asker ≡ A.holds self.old.walk.asker }
+        ensures key { A.key self.new.walk.asker ≡ A.key self.old.walk.asker }
         ensures fewer { OnOk result (self.new.walk.steps ≤ self.old.walk.steps) }
     {
         let outer = self.local.scope.len();
@@ -160,7 +160,7 @@ impl<A: Asker> Runner<A> {
     fn statements(&mut self, items: &[Statement]) -> Result<(), Stop>
         ensures given { GoesOn A.said self.old (runs_of items.now) result self.new }
         ensures place { self.new.local.switch ≡ self.old.local.switch }
-        ensures held { A.holds self.new.walk.asker ≡ A.holds self.old.walk.asker }
+        ensures key { A.key self.new.walk.asker ≡ A.key self.old.walk.asker }
         ensures fewer { OnOk result (self.new.walk.steps ≤ self.old.walk.steps) }
     {
         for item in items {

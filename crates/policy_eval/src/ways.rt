@@ -31,7 +31,7 @@ fn way<A: Asker>(more: u32, from: u64, to: Place, walk: &mut Walk<A>) -> Result<
     ensures some { IfOk result (λ v. 1 ≤ length v.items) }
     ensures few { IfOk result (λ v. length v.items ≤ more + 1) }
     ensures ports { IfOk result (λ v. IsTrue (list_all is_hop v.items)) }
-    ensures held { A.holds walk.new.asker ≡ A.holds walk.old.asker }
+    ensures key { A.key walk.new.asker ≡ A.key walk.old.asker }
 {
     if from == to.switch {
         let mut places = Vec::new(walk.alloc);
@@ -58,7 +58,7 @@ fn way<A: Asker>(more: u32, from: u64, to: Place, walk: &mut Walk<A>) -> Result<
 /// The way from a switch to a place; the run ends with a drop where there is none.
 pub fn way_to<A: Asker>(from: u64, to: Place, walk: &mut Walk<A>) -> Result<Path, Stop>
     ensures given { GivesPath A.said walk.old (way_to from to walk.old.steps) result walk.new }
-    ensures held { A.holds walk.new.asker ≡ A.holds walk.old.asker }
+    ensures key { A.key walk.new.asker ≡ A.key walk.old.asker }
 {
     if !is_port(to.port) {
         return Err(lost());

@@ -31,7 +31,7 @@ pub struct Recorder<'a, V: EnvView, J: Start> {
 }
 
 impl<'a, V: EnvView, J: Start> Asker for Recorder<'a, V, J> {
-    ghost holds = { λ s. [] };
+    ghost key = { λ s. s.notes.key };
 
     ghost said = { λ s a t. Records s.notes (V.gave s.view) a t.notes (V.gave t.view) };
 

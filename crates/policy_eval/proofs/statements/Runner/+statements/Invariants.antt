@@ -29,7 +29,7 @@ abbrev pub invariant-statements-loop-item : goal.invariant-statements-loop-item
 invariant-statements-loop-item g l = record {
   place : l.self.local.switch ≡ l.initial.self.local.switch;
   fewer : l.self.walk.steps ≤ l.initial.self.walk.steps;
-  held : g.A.Asker.holds l.self.walk.asker ≡ g.A.Asker.holds l.initial.self.walk.asker;
+  key : g.A.Asker.key l.self.walk.asker ≡ g.A.Asker.key l.initial.self.walk.asker;
   rest : LeadsOn g.A.Asker.said l.self.walk.asker (runs_of (drop l.item-index l.items) l.initial.self.local.switch l.self.local.scope l.self.walk.steps) l.initial.self.walk.asker (runs_of l.items l.initial.self.local.switch l.initial.self.local.scope l.initial.self.walk.steps);
 }
 
@@ -38,7 +38,7 @@ abbrev pub invariant-repeat-loop-self : goal.invariant-repeat-loop-self
 invariant-repeat-loop-self g l = record {
   place : l.self.local.switch ≡ l.initial.self.local.switch;
   fewer : l.self.walk.steps ≤ l.initial.self.walk.steps;
-  held : g.A.Asker.holds l.self.walk.asker ≡ g.A.Asker.holds l.initial.self.walk.asker;
+  key : g.A.Asker.key l.self.walk.asker ≡ g.A.Asker.key l.initial.self.walk.asker;
   rest : RoundsLeft g.A.Asker.said (term_of l.test) (block_runs l.body l.initial.self.local.switch) l.initial.self.local.switch l.self.walk.asker l.self.local.scope l.self.walk.steps l.initial.self.walk.asker (repeat_runs l.test l.body l.initial.self.local.switch l.initial.self.local.scope l.initial.self.walk.steps);
 }
 
